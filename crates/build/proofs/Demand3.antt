@@ -7,10 +7,10 @@ use Rattle.table.specs.Table.{table_of}
 use Rattle.definition.specs.Around.{Rule, language}
 use Rattle.definition.specs.Build.{built}
 use Rattle.definition.specs.Build as definition
-use Rattle.definition.specs.Plain.{paper-01, with-switch, Plain}
+use Rattle.definition.specs.Plain.{paper_01, with_switch, Plain}
 use Rattle.definition.specs.Reading.{OneTree}
 use Rattle.definition.specs.RunLaw.{RunLaw, SwitchLaw}
-use Rattle.definition.proofs.Law.{one-tree, run-law, switch-law}
+use Rattle.definition.proofs.Law.{one_tree, run_law, switch_law}
 use Rattle.walk.specs.declared.Outcome.{Outcome}
 use Rattle.build.specs.Entry.{outcome}
 
@@ -20,15 +20,15 @@ module _ (rule : Rule) (words buffer index buffer' index' : List ℕ) (r : Outco
   accepts = sym (ap (λ (o : definition.Outcome). o.code) ensured) ∙ accepted
 
   -- of any accepted table, plain or not
-  pub entry-tree : OneTree (outcome r buffer' index')
-  entry-tree = subst OneTree (sym ensured) (one-tree rule words (length buffer) (length index) accepts)
+  pub entry_tree : OneTree (outcome r buffer' index')
+  entry_tree = subst OneTree (sym ensured) (one_tree rule words (length buffer) (length index) accepts)
 
-  pub entry-law : Plain paper-01 (table_of words) → RunLaw words (outcome r buffer' index')
-  entry-law plain = subst (λ (o : definition.Outcome). RunLaw words o) (sym ensured) (run-law rule words (length buffer) (length index) accepts plain)
+  pub entry_law : Plain paper_01 (table_of words) → RunLaw words (outcome r buffer' index')
+  entry_law plain = subst (λ (o : definition.Outcome). RunLaw words o) (sym ensured) (run_law rule words (length buffer) (length index) accepts plain)
 
 -- M-113: plain tables with switches, for build_language
 module _ (words buffer index buffer' index' : List ℕ) (r : Outcome) (ensured : outcome r buffer' index' ≡ built language words (length buffer) (length index)) (accepted : r.code ≡ 0) where
-  pub language-law : Plain with-switch (table_of words) → SwitchLaw words (outcome r buffer' index')
-  language-law plain =
+  pub language_law : Plain with_switch (table_of words) → SwitchLaw words (outcome r buffer' index')
+  language_law plain =
       subst (λ (o : definition.Outcome). SwitchLaw words o) (sym ensured)
-      (switch-law words (length buffer) (length index) (accepts language words buffer index buffer' index' r ensured accepted) plain)
+      (switch_law words (length buffer) (length index) (accepts language words buffer index buffer' index' r ensured accepted) plain)

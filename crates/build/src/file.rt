@@ -3,8 +3,8 @@ ghost use Rattle.std.specs.Prelude.{◌≡◌, ◌+◌, ◌*◌, ◌/◌, ◌≤
 ghost use Rattle.text.specs.Printed.{printed};
 ghost use Rattle.text.specs.Prints.{printing, WrittenText};
 ghost use Rattle.text.specs.declared.write.Written.TheVariants.{Bytes};
-ghost use Rattle.control.specs.AroundAbstraction.{ruleOf};
-ghost use Rattle.build.specs.Prints.{treeText, builtText};
+ghost use Rattle.control.specs.AroundAbstraction.{rule_of};
+ghost use Rattle.build.specs.Prints.{tree_text, built_text};
 
 use crate::build;
 use control::rule::Rule;
@@ -37,7 +37,7 @@ fn write_result(out: &mut [u8], code: u32, at: u32, rows: u32, visits: u32, tree
 
 // Builds the table's tree, with 2,048 rows and lines lent, and writes the result.
 fn build_words(rule: Rule, words: &[u32], out: &mut [u8]) -> Written
-    ensures { WrittenText 135245 (treeText (ruleOf rule) words.now) (length out.old) result out.new }
+    ensures { WrittenText 135245 (tree_text (rule_of rule) words.now) (length out.old) result out.new }
 {
     let mut tree = lent_rows();
     let mut index = lent_lines();
@@ -58,8 +58,8 @@ fn build_words(rule: Rule, words: &[u32], out: &mut [u8]) -> Written
 
 // Reads a file, builds its table's tree and writes the result; or writes why the file is refused. 135,245 bytes are enough.
 pub fn build_file(rule: Rule, file: &[u8], out: &mut [u8]) -> Written
-    ensures out_after { record { answer = result; bytes = out.new } ≡ printing (length out.old) (builtText (ruleOf rule) file.now) }
-    ensures value { 135245 ≤ length out.old → result ≡ Bytes (length (builtText (ruleOf rule) file.now)) }
+    ensures out_after { record { answer = result; bytes = out.new } ≡ printing (length out.old) (built_text (rule_of rule) file.now) }
+    ensures value { 135245 ≤ length out.old → result ≡ Bytes (length (built_text (rule_of rule) file.now)) }
 {
     let mut words = lent_words();
     let answer = read(file, &mut words);

@@ -3,8 +3,8 @@ pub mod file;
 
 ghost use Rattle.std.specs.Prelude.{◌≡◌, length};
 ghost use Rattle.definition.specs.Around.{rust, language};
-ghost use Rattle.definition.specs.Build.{Report, refusal, outcomeOf, built};
-ghost use Rattle.control.specs.AroundAbstraction.{ruleOf};
+ghost use Rattle.definition.specs.Build.{Report, refusal, outcome_of, built};
+ghost use Rattle.control.specs.AroundAbstraction.{rule_of};
 ghost use Rattle.walk.specs.Driver.{Reported};
 ghost use Rattle.build.specs.Entry.{outcome};
 
@@ -37,7 +37,7 @@ fn refuse(
 
 // If the table is accepted, the buffers hold the rows and the lines, then zeros. The code is 40 if the rows do not fit, else 41 if the lines do not.
 fn finish(tree: &mut [u32], index: &mut [u32], walked: Outcome) -> Outcome
-    ensures { (report : Report) → Reported report walked tree.old index.old → outcome result tree.new index.new ≡ outcomeOf (length tree.old) (length index.old) report }
+    ensures { (report : Report) → Reported report walked tree.old index.old → outcome result tree.new index.new ≡ outcome_of (length tree.old) (length index.old) report }
 {
     if walked.code != 0 {
         return refuse(tree, index, walked.code, walked.at, 0, walked.visits);
@@ -63,7 +63,7 @@ fn finish(tree: &mut [u32], index: &mut [u32], walked: Outcome) -> Outcome
 
 // The build by the rule of either entry.
 pub fn build(rule: Rule, words: &[u32], tree: &mut [u32], index: &mut [u32]) -> Outcome
-    ensures { outcome result tree.new index.new ≡ built (ruleOf rule) words.now (length tree.old) (length index.old) }
+    ensures { outcome result tree.new index.new ≡ built (rule_of rule) words.now (length tree.old) (length index.old) }
 {
     let checked = check(words);
     if checked.is_accepted() {

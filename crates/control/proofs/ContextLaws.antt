@@ -11,26 +11,26 @@ use lib.ListN.{get_or, set, length, replicate}
 use lib.Seq.{get_or-set_same, get_or-set_other}
 use lib.Dec.{eqb}
 use borrow.Author.Tests.{eq-eqb, ne_eqb}
-use Rattle.definition.specs.Result.{ok, refused, ◌>>=◌, refuseIf}
+use Rattle.definition.specs.Result.{ok, refused, ◌>>=◌, refuse_if}
 use Rattle.definition.specs.Context as definition
-use Rattle.definition.specs.Context.{Flags, has, add, noFlags, start, isScheduled, emit, markScopeFallthrough, scheduleCatchHandler, targetBlock, target-if}
-use Rattle.definition.specs.Context.{target-switch, target-case, target-loop, isBlocked, blockAsked, blockedCode, pushed, popped, schedule, scheduledBy, owns, unscheduledBy}
-use Rattle.definition.specs.Context.{unschedule, unscheduleTop}
+use Rattle.definition.specs.Context.{Flags, has, add, no_flags, start, is_scheduled, emit, mark_scope_fallthrough, schedule_catch_handler, target_block, target_if}
+use Rattle.definition.specs.Context.{target_switch, target_case, target_loop, is_blocked, block_asked, blocked_code, pushed, popped, schedule, scheduled_by, owns, unscheduled_by}
+use Rattle.definition.specs.Context.{unschedule, unschedule_top}
 use Rattle.machine.specs.Machine as machine
 use Rattle.control.specs.declared.ControlFlowTarget.{ControlFlowTarget}
 use Rattle.control.specs.declared.ControlFlowTarget.TheVariants.{If, Switch, Case, Loop}
 use Rattle.control.specs.declared.Entry.{Entry}
 use Rattle.control.specs.declared.Context.{Context}
-use Rattle.control.specs.Abstraction.{target_of, entry_of, noEntry, stack_of, context_of, entered_of, stored}
-use Rattle.control.specs.Contract.{refusalIf, Named, Bounded, Room, Last, withEntry, withoutLast, Created, Scheduled, Unscheduled}
+use Rattle.control.specs.Abstraction.{target_of, entry_of, no_entry, stack_of, context_of, entered_of, stored}
+use Rattle.control.specs.Contract.{refusal_if, Named, Bounded, Room, Last, with_entry, without_last, Created, Scheduled, Unscheduled}
 
 -- ---- targets
 
-pub named-block : (target : ControlFlowTarget) → Named target → targetBlock (target_of target) < 1024
-named-block (If block) h = h
-named-block (Switch block) h = h
-named-block (Case block) h = h
-named-block (Loop block continueBlock loopBlock) h = h.0
+pub named_block : (target : ControlFlowTarget) → Named target → target_block (target_of target) < 1024
+named_block (If block) h = h
+named_block (Switch block) h = h
+named_block (Case block) h = h
+named_block (Loop block continue_block loop_block) h = h.0
 
 -- ---- the stack
 
@@ -38,22 +38,22 @@ named-block (Loop block continueBlock loopBlock) h = h.0
 pub stack_above : (entries : List Entry) (n k : ℕ) (entry : Entry) → n ≤ k → stack_of (set entries k entry) n ≡ stack_of entries n
 unfolding stack_of
 stack_above entries zero k entry h = refl
-stack_above entries (suc n) k entry h = rw (get_or-set_other entries k n entry noEntry (omega arith), stack_above entries n k entry (omega arith))
+stack_above entries (suc n) k entry h = rw (get_or-set_other entries k n entry no_entry (omega arith), stack_above entries n k entry (omega arith))
 
-stack-stored : (entries : List Entry) (n : ℕ) (entry : Entry) → n < length entries → stack_of (set entries n entry) (suc n) ≡ entry_of entry ∷ stack_of entries n
+stack_stored : (entries : List Entry) (n : ℕ) (entry : Entry) → n < length entries → stack_of (set entries n entry) (suc n) ≡ entry_of entry ∷ stack_of entries n
 unfolding stack_of
-stack-stored entries n entry h = rw (get_or-set_same entries n entry noEntry h, stack_above entries n n entry (omega arith))
+stack_stored entries n entry h = rw (get_or-set_same entries n entry no_entry h, stack_above entries n n entry (omega arith))
 
-pub stack-last : (entries : List Entry) (n : ℕ) (last : Entry) → 0 < n → last ≡ get_or entries (n - 1) noEntry → stack_of entries n ≡ entry_of last ∷ stack_of entries (n - 1)
+pub stack_last : (entries : List Entry) (n : ℕ) (last : Entry) → 0 < n → last ≡ get_or entries (n - 1) no_entry → stack_of entries n ≡ entry_of last ∷ stack_of entries (n - 1)
 unfolding stack_of
-stack-last entries (suc n) last h at =
+stack_last entries (suc n) last h at =
     let e : suc n - 1 ≡ n = omega arith in
     rw e (ap {B = List definition.Entry} (λ (entry : Entry). entry_of entry ∷ stack_of entries n) (sym (rw e at at)))
 
-pub stack-length : (entries : List Entry) (n : ℕ) → length (stack_of entries n) ≡ n
+pub stack_length : (entries : List Entry) (n : ℕ) → length (stack_of entries n) ≡ n
 unfolding stack_of
-stack-length entries zero = refl
-stack-length entries (suc n) = ap suc (stack-length entries n)
+stack_length entries zero = refl
+stack_length entries (suc n) = ap suc (stack_length entries n)
 
 -- ---- what the sets' own functions do to a Context
 
@@ -72,7 +72,7 @@ module _ (visits block : ℕ) (cx : Context) where
   unfolding context_of emit
   emits = refl
 
-  pub marks-scope-fallthrough : context_of visits
+  pub marks_scope_fallthrough : context_of visits
       (record {
         emitted = cx.emitted;
         catch_handlers = cx.catch_handlers;
@@ -84,11 +84,11 @@ module _ (visits block : ℕ) (cx : Context) where
         next_schedule_id = cx.next_schedule_id;
         stack =
             cx.stack;
-      }) ≡ markScopeFallthrough block (context_of visits cx)
-  unfolding context_of markScopeFallthrough
-  marks-scope-fallthrough = refl
+      }) ≡ mark_scope_fallthrough block (context_of visits cx)
+  unfolding context_of mark_scope_fallthrough
+  marks_scope_fallthrough = refl
 
-  pub schedules-catch-handler : context_of visits
+  pub schedules_catch_handler : context_of visits
       (record {
         emitted = cx.emitted;
         catch_handlers = add cx.catch_handlers block;
@@ -100,13 +100,13 @@ module _ (visits block : ℕ) (cx : Context) where
         next_schedule_id = cx.next_schedule_id;
         stack =
             cx.stack;
-      }) ≡ scheduleCatchHandler block (context_of visits cx)
-  unfolding context_of scheduleCatchHandler
-  schedules-catch-handler = refl
+      }) ≡ schedule_catch_handler block (context_of visits cx)
+  unfolding context_of schedule_catch_handler
+  schedules_catch_handler = refl
 
-  pub is-scheduled : isScheduled (context_of visits cx) block ≡ has cx.scheduled block || has cx.catch_handlers block
-  unfolding context_of isScheduled
-  is-scheduled = refl
+  pub is_scheduled_lem : is_scheduled (context_of visits cx) block ≡ has cx.scheduled block || has cx.catch_handlers block
+  unfolding context_of is_scheduled
+  is_scheduled_lem = refl
 
 -- ---- the steps
 
@@ -116,19 +116,19 @@ pub created : Created (record {
   scope_fallthroughs = replicate 1024 false;
   len = 0;
   scheduled = replicate 1024 false;
-  pushed = noEntry;
+  pushed = no_entry;
   refused = 0;
   next_schedule_id = 0;
-  stack = replicate 1152 noEntry;
+  stack = replicate 1152 no_entry;
 })
-unfolding context_of start noFlags stack_of
+unfolding context_of start no_flags stack_of
 created =
     record {
       context = refl;
       len = refl;
       id = refl;
       stack = refl;
-      bounded = record { most = omega arith; named = λ k below. let absurd-below : ⊥ = omega arith in absurd absurd-below };
+      bounded = record { most = omega arith; named = λ k below. let absurd_below : ⊥ = omega arith in absurd absurd_below };
     }
 
 -- once its entry is stored, a Context that `schedule` handed back is like any other
@@ -138,66 +138,66 @@ stores visits cx h k =
     let n : ℕ = cx.len - 1 in
     let l : cx.len ≡ suc n = omega arith in
     let s : stack_of (set cx.stack n cx.pushed) cx.len ≡ entry_of cx.pushed ∷ stack_of cx.stack n =
-    ap (stack_of (set cx.stack n cx.pushed)) l ∙ stack-stored cx.stack n cx.pushed (omega arith) in
+    ap (stack_of (set cx.stack n cx.pushed)) l ∙ stack_stored cx.stack n cx.pushed (omega arith) in
     rw s
 
 -- a refusal, or the next Context
 asked : (blocked : Bool) (code at visits : ℕ) (next : definition.Context) → (code ≡ 0 → ⊥)
-    → (refuseIf blocked code at visits >>= λ _. ok next) ≡ elim (eqb (refusalIf blocked code) 0) [ true ↦ ok next | false ↦ refused (refusalIf blocked code) at visits ]
-unfolding refuseIf ◌>>=◌
+    → (refuse_if blocked code at visits >>= λ _. ok next) ≡ elim (eqb (refusal_if blocked code) 0) [ true ↦ ok next | false ↦ refused (refusal_if blocked code) at visits ]
+unfolding refuse_if ◌>>=◌
 asked true code at visits next h = rw (ne_eqb code 0 h) refl
 asked false code at visits next h = refl
 
-pub refuses : (target : definition.ControlFlowTarget) → blockedCode target ≡ 0 → ⊥
-refuses (target-if b) e = omega (arith, e)
-refuses (target-switch b) e = omega (arith, e)
-refuses (target-case b) e = omega (arith, e)
-refuses (target-loop b c l) e = omega (arith, e)
+pub refuses : (target : definition.ControlFlowTarget) → blocked_code target ≡ 0 → ⊥
+refuses (target_if b) e = omega (arith, e)
+refuses (target_switch b) e = omega (arith, e)
+refuses (target_case b) e = omega (arith, e)
+refuses (target_loop b c l) e = omega (arith, e)
 
-pushes : (visits : ℕ) (target : ControlFlowTarget) (cx : Context) → entered_of visits (withEntry target cx) ≡ pushed (target_of target) (context_of visits cx)
+pushes : (visits : ℕ) (target : ControlFlowTarget) (cx : Context) → entered_of visits (with_entry target cx) ≡ pushed (target_of target) (context_of visits cx)
 unfolding context_of entered_of pushed
 pushes visits target cx =
     let l : cx.len + 1 - 1 ≡ cx.len = omega arith in
     rw (l, add-one)
 
-named-stored : (entries : List Entry) (n k : ℕ) (entry : Entry) → Named entry.target → n < length entries → k ≤ n
-    → ((j : ℕ) → j < n → Named (get_or entries j noEntry).target) → Named (get_or (set entries n entry) k noEntry).target
-named-stored entries n k entry named h below all =
+named_stored : (entries : List Entry) (n k : ℕ) (entry : Entry) → Named entry.target → n < length entries → k ≤ n
+    → ((j : ℕ) → j < n → Named (get_or entries j no_entry).target) → Named (get_or (set entries n entry) k no_entry).target
+named_stored entries n k entry named h below all =
     ⊎_elim
-    (λ same. subst (λ (e : Entry). Named e.target) (sym (ap (λ (j : ℕ). get_or (set entries n entry) j noEntry) same ∙ get_or-set_same entries n entry noEntry h)) named)
-    (λ less. subst (λ (e : Entry). Named e.target) (sym (get_or-set_other entries n k entry noEntry (omega arith))) (all k less))
+    (λ same. subst (λ (e : Entry). Named e.target) (sym (ap (λ (j : ℕ). get_or (set entries n entry) j no_entry) same ∙ get_or-set_same entries n entry no_entry h)) named)
+    (λ less. subst (λ (e : Entry). Named e.target) (sym (get_or-set_other entries n k entry no_entry (omega arith))) (all k less))
     (eq-or-lt_of_le below)
 
-bounded-stored : (entries : List Entry) (n : ℕ) (entry : Entry) → Named entry.target → n < length entries → n < 1152 → Bounded entries n → Bounded (set entries (n + 1 - 1) entry) (n + 1)
-bounded-stored entries n entry named h small bounded =
+bounded_stored : (entries : List Entry) (n : ℕ) (entry : Entry) → Named entry.target → n < length entries → n < 1152 → Bounded entries n → Bounded (set entries (n + 1 - 1) entry) (n + 1)
+bounded_stored entries n entry named h small bounded =
     let e : n + 1 - 1 ≡ n = omega arith in
-    record { most = omega arith; named = λ k below. rw e (named-stored entries n k entry named h (omega arith) bounded.named) }
+    record { most = omega arith; named = λ k below. rw e (named_stored entries n k entry named h (omega arith) bounded.named) }
 
-by-definition : (visits : ℕ) (target : definition.ControlFlowTarget) (cx : Context)
+by_definition : (visits : ℕ) (target : definition.ControlFlowTarget) (cx : Context)
     → schedule target (context_of visits cx) ≡
-    (refuseIf (isBlocked target cx.scheduled) (blockedCode target) (blockAsked target) visits >>= λ _. ok (pushed target (context_of visits cx)))
+    (refuse_if (is_blocked target cx.scheduled) (blocked_code target) (block_asked target) visits >>= λ _. ok (pushed target (context_of visits cx)))
 unfolding schedule context_of
-by-definition visits target cx = refl
+by_definition visits target cx = refl
 
 module _ (target : ControlFlowTarget) (cx : Context) (named : Named target) (room : Room cx) (inside : cx.len < length cx.stack) where
-  pub scheduled : Scheduled target cx (withEntry target cx)
+  pub scheduled : Scheduled target cx (with_entry target cx)
   scheduled = record {
     state = refl;
     context =
-        λ visits. by-definition visits (target_of target) cx ∙ ap
-        (λ (next : definition.Context). refuseIf (isBlocked (target_of target) cx.scheduled) (blockedCode (target_of target)) (blockAsked (target_of target))
+        λ visits. by_definition visits (target_of target) cx ∙ ap
+        (λ (next : definition.Context). refuse_if (is_blocked (target_of target) cx.scheduled) (blocked_code (target_of target)) (block_asked (target_of target))
         visits >>= λ _. ok next) (sym (pushes visits target cx))
-        ∙ asked (isBlocked (target_of target) cx.scheduled) (blockedCode (target_of target)) (blockAsked (target_of target)) visits
-        (entered_of visits (withEntry target cx)) (refuses (target_of target));
+        ∙ asked (is_blocked (target_of target) cx.scheduled) (blocked_code (target_of target)) (block_asked (target_of target)) visits
+        (entered_of visits (with_entry target cx)) (refuses (target_of target));
     len = refl;
     id = refl;
-    bounded = bounded-stored _ _ _ named inside room.len;
+    bounded = bounded_stored _ _ _ named inside room.len;
   }
 
 -- the same where the arms of `schedule` meet
-pub entered : {target t : ControlFlowTarget} {cx : Context} {flags : Flags} {code : ℕ} {owner : Bool} → t ≡ target → flags ≡ scheduledBy (target_of target) cx.scheduled
-    → code ≡ refusalIf (isBlocked (target_of target) cx.scheduled) (blockedCode (target_of target)) → owner ≡ owns (target_of target) cx.scheduled
-    → Scheduled target cx (withEntry target cx) → Scheduled target cx (record {
+pub entered : {target t : ControlFlowTarget} {cx : Context} {flags : Flags} {code : ℕ} {owner : Bool} → t ≡ target → flags ≡ scheduled_by (target_of target) cx.scheduled
+    → code ≡ refusal_if (is_blocked (target_of target) cx.scheduled) (blocked_code (target_of target)) → owner ≡ owns (target_of target) cx.scheduled
+    → Scheduled target cx (with_entry target cx) → Scheduled target cx (record {
       emitted = cx.emitted;
       catch_handlers = cx.catch_handlers;
       scope_fallthroughs = cx.scope_fallthroughs;
@@ -212,36 +212,36 @@ entered t f c o h = rw (t, f, c, o) h
 
 -- ---- unschedule
 
-unschedule-top : (cx : definition.Context) (top : definition.Entry) (below : List definition.Entry) → cx.stack ≡ top ∷ below
-    → unschedule top.id cx ≡ ok (popped below (unscheduledBy top.target top.ownsLoop cx.scheduled) cx)
-unfolding unschedule unscheduleTop
-unschedule-top cx top below e = ap (λ (stack : List definition.Entry). unscheduleTop stack top.id cx) e ∙ rw (unscheduleTop, eq-eqb top.id top.id refl)
+unschedule_top_lem : (cx : definition.Context) (top : definition.Entry) (below : List definition.Entry) → cx.stack ≡ top ∷ below
+    → unschedule top.id cx ≡ ok (popped below (unscheduled_by top.target top.owns_loop cx.scheduled) cx)
+unfolding unschedule unschedule_top
+unschedule_top_lem cx top below e = ap (λ (stack : List definition.Entry). unschedule_top stack top.id cx) e ∙ rw (unschedule_top, eq-eqb top.id top.id refl)
 
-unscheduled-top : (cx : definition.Context) (top : definition.Entry) (below : List definition.Entry) → cx.stack ≡ top ∷ below
-    → machine.unscheduled cx ≡ popped below (unscheduledBy top.target top.ownsLoop cx.scheduled) cx
-unfolding machine.unscheduled machine.unscheduledTop
-unscheduled-top cx top below e = ap (λ (stack : List definition.Entry). machine.unscheduledTop stack cx) e
+unscheduled_top_lem : (cx : definition.Context) (top : definition.Entry) (below : List definition.Entry) → cx.stack ≡ top ∷ below
+    → machine.unscheduled cx ≡ popped below (unscheduled_by top.target top.owns_loop cx.scheduled) cx
+unfolding machine.unscheduled machine.unscheduled_top
+unscheduled_top_lem cx top below e = ap (λ (stack : List definition.Entry). machine.unscheduled_top stack cx) e
 
 module _ (cx : Context) (last : Entry) (top : Last cx last) where
-  on-top : (visits : ℕ) → (context_of visits cx).stack ≡ entry_of last ∷ stack_of cx.stack (cx.len - 1)
+  on_top : (visits : ℕ) → (context_of visits cx).stack ≡ entry_of last ∷ stack_of cx.stack (cx.len - 1)
   unfolding context_of
-  on-top visits = stack-last cx.stack cx.len last top.nonempty top.read
+  on_top visits = stack_last cx.stack cx.len last top.nonempty top.read
 
-  off : (visits : ℕ) → popped (stack_of cx.stack (cx.len - 1)) (unscheduledBy (target_of last.target) last.owns_loop (context_of visits cx).scheduled)
-      (context_of visits cx) ≡ context_of visits (withoutLast last cx)
+  off : (visits : ℕ) → popped (stack_of cx.stack (cx.len - 1)) (unscheduled_by (target_of last.target) last.owns_loop (context_of visits cx).scheduled)
+      (context_of visits cx) ≡ context_of visits (without_last last cx)
   unfolding context_of popped
   off visits = refl
 
   -- the machine takes the last entry off whatever its id
-  pub pops : (visits : ℕ) → machine.unscheduled (context_of visits cx) ≡ context_of visits (withoutLast last cx)
-  pops visits = unscheduled-top (context_of visits cx) (entry_of last) (stack_of cx.stack (cx.len - 1)) (on-top visits) ∙ off visits
+  pub pops : (visits : ℕ) → machine.unscheduled (context_of visits cx) ≡ context_of visits (without_last last cx)
+  pops visits = unscheduled_top_lem (context_of visits cx) (entry_of last) (stack_of cx.stack (cx.len - 1)) (on_top visits) ∙ off visits
 
-  pub unscheduled : Unscheduled last cx (withoutLast last cx)
+  pub unscheduled : Unscheduled last cx (without_last last cx)
   unscheduled = record {
     state = refl;
     context =
-        λ visits. unschedule-top (context_of visits cx) (entry_of last) (stack_of cx.stack (cx.len - 1)) (on-top visits) ∙ ap ok
-        (sym (unscheduled-top (context_of visits cx) (entry_of last) (stack_of cx.stack (cx.len - 1)) (on-top visits)) ∙ pops visits);
+        λ visits. unschedule_top_lem (context_of visits cx) (entry_of last) (stack_of cx.stack (cx.len - 1)) (on_top visits) ∙ ap ok
+        (sym (unscheduled_top_lem (context_of visits cx) (entry_of last) (stack_of cx.stack (cx.len - 1)) (on_top visits)) ∙ pops visits);
     pops = λ visits. sym (pops visits);
     len = refl;
     id = refl;
@@ -249,8 +249,8 @@ module _ (cx : Context) (last : Entry) (top : Last cx last) where
   }
 
 -- the same where the arms of `unschedule` meet
-pub left : {last : Entry} {cx : Context} {flags : Flags} → flags ≡ unscheduledBy (target_of last.target) last.owns_loop cx.scheduled
-    → Unscheduled last cx (withoutLast last cx) → Unscheduled last cx (record {
+pub left : {last : Entry} {cx : Context} {flags : Flags} → flags ≡ unscheduled_by (target_of last.target) last.owns_loop cx.scheduled
+    → Unscheduled last cx (without_last last cx) → Unscheduled last cx (record {
       emitted = cx.emitted;
       catch_handlers = cx.catch_handlers;
       scope_fallthroughs = cx.scope_fallthroughs;

@@ -4,7 +4,7 @@ use Rattle.std.proofs.Math.Option.{Option, none, some}
 use Rattle.definition.specs.Result.{Result, ok, refused}
 use Rattle.definition.specs.Tree.{Kind, implicit, labeled, unlabeled}
 use Rattle.definition.specs.Context as definition
-use Rattle.definition.specs.Context.{target-if, target-switch, target-case, target-loop, targetBlock, blockAsked}
+use Rattle.definition.specs.Context.{target_if, target_switch, target_case, target_loop, target_block, block_asked}
 use Rattle.control.specs.declared.ControlFlowTarget.{ControlFlowTarget}
 use Rattle.control.specs.declared.ControlFlowTarget.TheVariants.{If, Switch, Case, Loop}
 use Rattle.control.specs.declared.Entry.{Entry}
@@ -16,34 +16,34 @@ use Rattle.control.specs.declared.Resolved.{Resolved}
 use Rattle.control.specs.declared.Resolved.TheVariants.{Nothing, Found}
 
 abbrev pub target_of : ControlFlowTarget → definition.ControlFlowTarget
-target_of (If block) = target-if block
-target_of (Switch block) = target-switch block
-target_of (Case block) = target-case block
-target_of (Loop block continueBlock loopBlock) = target-loop block continueBlock loopBlock
+target_of (If block) = target_if block
+target_of (Switch block) = target_switch block
+target_of (Case block) = target_case block
+target_of (Loop block continue_block loop_block) = target_loop block continue_block loop_block
 
 abbrev pub entry_of : Entry → definition.Entry
-entry_of entry = record { id = entry.id; target = target_of entry.target; ownsLoop = entry.owns_loop }
+entry_of entry = record { id = entry.id; target = target_of entry.target; owns_loop = entry.owns_loop }
 
 -- what a read past an array's end gives in the logic
-abbrev pub noEntry : Entry
-noEntry = record { id = 0; target = If 0; owns_loop = false }
+abbrev pub no_entry : Entry
+no_entry = record { id = 0; target = If 0; owns_loop = false }
 
 -- the first entries of the array, as many as the number says, the last of them first
 unfoldable pub stack_of : List Entry → ℕ → List definition.Entry
 stack_of entries zero = []
-stack_of entries (suc n) = entry_of (get_or entries n noEntry) ∷ stack_of entries n
+stack_of entries (suc n) = entry_of (get_or entries n no_entry) ∷ stack_of entries n
 
 -- The visits are counted outside the code's Context. Entries of the array above the length are not looked at.
 unfoldable pub context_of : (visits : ℕ) → Context → definition.Context
-context_of visits cx = record { nextId = cx.next_schedule_id; emitted = cx.emitted; scopeFallthroughs = cx.scope_fallthroughs; scheduled = cx.scheduled; catchHandlers = cx.catch_handlers; stack = stack_of cx.stack cx.len; visits = visits }
+context_of visits cx = record { next_id = cx.next_schedule_id; emitted = cx.emitted; scope_fallthroughs = cx.scope_fallthroughs; scheduled = cx.scheduled; catch_handlers = cx.catch_handlers; stack = stack_of cx.stack cx.len; visits = visits }
 
 -- The same for a Context that `schedule` hands back: the stack's last entry is `pushed`, which is not yet in the array.
 unfoldable pub entered_of : (visits : ℕ) → Context → definition.Context
-entered_of visits cx = record { nextId = cx.next_schedule_id; emitted = cx.emitted; scopeFallthroughs = cx.scope_fallthroughs; scheduled = cx.scheduled; catchHandlers = cx.catch_handlers; stack = entry_of cx.pushed ∷ stack_of cx.stack (cx.len - 1); visits = visits }
+entered_of visits cx = record { next_id = cx.next_schedule_id; emitted = cx.emitted; scope_fallthroughs = cx.scope_fallthroughs; scheduled = cx.scheduled; catch_handlers = cx.catch_handlers; stack = entry_of cx.pushed ∷ stack_of cx.stack (cx.len - 1); visits = visits }
 
 -- What `schedule` gives: the next Context, or a refusal at the block that the target asks about.
 abbrev pub result_of : (visits : ℕ) → Context → Result definition.Context
-result_of visits cx = elim (eqb cx.refused 0) [ true ↦ ok (entered_of visits cx) | false ↦ refused cx.refused (blockAsked (target_of cx.pushed.target)) visits ]
+result_of visits cx = elim (eqb cx.refused 0) [ true ↦ ok (entered_of visits cx) | false ↦ refused cx.refused (block_asked (target_of cx.pushed.target)) visits ]
 
 -- the Context once its caller has stored the new entry at its place in the array
 unfoldable pub stored : Context → Context
@@ -55,12 +55,12 @@ kind_of Labeled = labeled
 kind_of Unlabeled = unlabeled
 
 -- the block that the jump's row names
-abbrev pub foundBlock : Resolution → ℕ
-foundBlock resolution = targetBlock (target_of resolution.entry.target)
+abbrev pub found_block : Resolution → ℕ
+found_block resolution = target_block (target_of resolution.entry.target)
 
-abbrev pub resolutionOf : Resolution → definition.Resolution
-resolutionOf resolution = record { target = foundBlock resolution; kind = kind_of resolution.kind; loops = resolution.loops }
+abbrev pub resolution_of : Resolution → definition.Resolution
+resolution_of resolution = record { target = found_block resolution; kind = kind_of resolution.kind; loops = resolution.loops }
 
-abbrev pub resolvedOf : Resolved → Option definition.Resolution
-resolvedOf Nothing = none
-resolvedOf (Found resolution) = some (resolutionOf resolution)
+abbrev pub resolved_of : Resolved → Option definition.Resolution
+resolved_of Nothing = none
+resolved_of (Found resolution) = some (resolution_of resolution)

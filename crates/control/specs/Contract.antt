@@ -3,24 +3,24 @@ use Rattle.std.specs.Prelude.{ℕ, ◌+◌, ◌-◌, ◌≤◌, ◌<◌, ◌≡�
 use Rattle.definition.specs.Result.{ok}
 use Rattle.definition.specs.Context as definition
 use Rattle.machine.specs.Machine as machine
-use Rattle.definition.specs.Context.{targetBlock, isLoop, isBlocked, blockedCode, scheduledBy, owns, unscheduledBy, breakKind, continueKind, start, schedule, unschedule}
+use Rattle.definition.specs.Context.{target_block, is_loop, is_blocked, blocked_code, scheduled_by, owns, unscheduled_by, break_kind, continue_kind, start, schedule, unschedule}
 use Rattle.control.specs.declared.ControlFlowTarget.{ControlFlowTarget}
 use Rattle.control.specs.declared.ControlFlowTarget.TheVariants.{If, Switch, Case, Loop}
 use Rattle.control.specs.declared.Entry.{Entry}
 use Rattle.control.specs.declared.Context.{Context}
-use Rattle.control.specs.Abstraction.{target_of, noEntry, context_of, result_of}
+use Rattle.control.specs.Abstraction.{target_of, no_entry, context_of, result_of}
 
 -- the blocks that a target names are among the 1,024
 abbrev pub Named : ControlFlowTarget → Type 0
 Named (If block) = block < 1024
 Named (Switch block) = block < 1024
 Named (Case block) = block < 1024
-Named (Loop block continueBlock loopBlock) = (block < 1024) × (continueBlock < 1024) × (loopBlock < 1024)
+Named (Loop block continue_block loop_block) = (block < 1024) × (continue_block < 1024) × (loop_block < 1024)
 
 -- what a walk carries along: the stack's bound, and the blocks of its entries
 pub record Bounded (entries : List Entry) (len : ℕ) : Type 0 where
   pub most : len ≤ 1152
-  pub named : (k : ℕ) → k < len → Named (get_or entries k noEntry).target
+  pub named : (k : ℕ) → k < len → Named (get_or entries k no_entry).target
 
 -- what the methods require: room for one more entry and its id; the stack's last entry, as the caller reads it
 pub record Room (cx : Context) : Type 0 where
@@ -29,23 +29,23 @@ pub record Room (cx : Context) : Type 0 where
 
 pub record Last (cx : Context) (entry : Entry) : Type 0 where
   pub nonempty : 0 < cx.len
-  pub read : entry ≡ get_or cx.stack (cx.len - 1) noEntry
+  pub read : entry ≡ get_or cx.stack (cx.len - 1) no_entry
   pub named : Named entry.target
 
 -- the number of a refusal, 0 where there is none
-abbrev pub refusalIf : (blocked : Bool) → (code : ℕ) → ℕ
-refusalIf true code = code
-refusalIf false code = 0
+abbrev pub refusal_if : (blocked : Bool) → (code : ℕ) → ℕ
+refusal_if true code = code
+refusal_if false code = 0
 
 -- ---- the Contexts that the methods hand back, field by field
 
 -- a target under the next id, and its blocks in the scheduled set
-abbrev pub withEntry : ControlFlowTarget → Context → Context
-withEntry target cx = record { emitted = cx.emitted; catch_handlers = cx.catch_handlers; scope_fallthroughs = cx.scope_fallthroughs; len = cx.len + 1; scheduled = scheduledBy (target_of target) cx.scheduled; pushed = record { id = cx.next_schedule_id; target = target; owns_loop = owns (target_of target) cx.scheduled }; refused = refusalIf (isBlocked (target_of target) cx.scheduled) (blockedCode (target_of target)); next_schedule_id = cx.next_schedule_id + 1; stack = cx.stack }
+abbrev pub with_entry : ControlFlowTarget → Context → Context
+with_entry target cx = record { emitted = cx.emitted; catch_handlers = cx.catch_handlers; scope_fallthroughs = cx.scope_fallthroughs; len = cx.len + 1; scheduled = scheduled_by (target_of target) cx.scheduled; pushed = record { id = cx.next_schedule_id; target = target; owns_loop = owns (target_of target) cx.scheduled }; refused = refusal_if (is_blocked (target_of target) cx.scheduled) (blocked_code (target_of target)); next_schedule_id = cx.next_schedule_id + 1; stack = cx.stack }
 
 -- one entry less, and its blocks out of the set; the array of entries is as it was
-abbrev pub withoutLast : Entry → Context → Context
-withoutLast last cx = record { emitted = cx.emitted; catch_handlers = cx.catch_handlers; scope_fallthroughs = cx.scope_fallthroughs; len = cx.len - 1; scheduled = unscheduledBy (target_of last.target) last.owns_loop cx.scheduled; pushed = cx.pushed; refused = cx.refused; next_schedule_id = cx.next_schedule_id; stack = cx.stack }
+abbrev pub without_last : Entry → Context → Context
+without_last last cx = record { emitted = cx.emitted; catch_handlers = cx.catch_handlers; scope_fallthroughs = cx.scope_fallthroughs; len = cx.len - 1; scheduled = unscheduled_by (target_of last.target) last.owns_loop cx.scheduled; pushed = cx.pushed; refused = cx.refused; next_schedule_id = cx.next_schedule_id; stack = cx.stack }
 
 -- ---- the promises. `context` is the equation with the definition, refusals included. `pops` is the equation with the machine, which refuses nothing. `state`
 -- says what every field is
@@ -54,18 +54,18 @@ pub record Created (r : Context) : Type 0 where
   pub context : context_of 0 r ≡ start
   pub len : r.len ≡ 0
   pub id : r.next_schedule_id ≡ 0
-  pub stack : r.stack ≡ replicate 1152 noEntry
+  pub stack : r.stack ≡ replicate 1152 no_entry
   pub bounded : Bounded r.stack r.len
 
 pub record Scheduled (target : ControlFlowTarget) (self r : Context) : Type 0 where
-  pub state : r ≡ withEntry target self
+  pub state : r ≡ with_entry target self
   pub context : (visits : ℕ) → schedule (target_of target) (context_of visits self) ≡ result_of visits r
   pub len : r.len ≡ self.len + 1
   pub id : r.next_schedule_id ≡ self.next_schedule_id + 1
   pub bounded : Bounded self.stack self.len → Bounded (set r.stack (r.len - 1) r.pushed) r.len
 
 pub record Unscheduled (last : Entry) (self r : Context) : Type 0 where
-  pub state : r ≡ withoutLast last self
+  pub state : r ≡ without_last last self
   pub context : (visits : ℕ) → unschedule last.id (context_of visits self) ≡ ok (context_of visits r)
   pub pops : (visits : ℕ) → context_of visits r ≡ machine.unscheduled (context_of visits self)
   pub len : r.len ≡ self.len - 1
@@ -74,8 +74,8 @@ pub record Unscheduled (last : Entry) (self r : Context) : Type 0 where
 
 -- ---- a jump's entry, once it is found
 
-abbrev pub breakTo : definition.ControlFlowTarget → (top : Bool) → (loopsAbove : ℕ) → definition.Resolution
-breakTo found top loopsAbove = record { target = targetBlock found; kind = breakKind (isLoop found) top loopsAbove; loops = loopsAbove }
+abbrev pub break_to : definition.ControlFlowTarget → (top : Bool) → (loops_above : ℕ) → definition.Resolution
+break_to found top loops_above = record { target = target_block found; kind = break_kind (is_loop found) top loops_above; loops = loops_above }
 
-abbrev pub continueTo : definition.ControlFlowTarget → (top : Bool) → (loopsAbove : ℕ) → definition.Resolution
-continueTo found top loopsAbove = record { target = targetBlock found; kind = continueKind top loopsAbove; loops = loopsAbove }
+abbrev pub continue_to : definition.ControlFlowTarget → (top : Bool) → (loops_above : ℕ) → definition.Resolution
+continue_to found top loops_above = record { target = target_block found; kind = continue_kind top loops_above; loops = loops_above }

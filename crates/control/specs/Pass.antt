@@ -3,42 +3,42 @@ use Rattle.std.specs.Prelude.{ℕ, Bool, true, false, ◌&&◌, ◌||◌}
 use Rattle.std.proofs.Math.Option.{Option, none, some}
 use Rattle.definition.specs.Around.{Rule, rust, language}
 use Rattle.definition.specs.Context.{Resolution}
-use Rattle.machine.specs.Survey.{Survey, unseen, fewer, isNext}
+use Rattle.machine.specs.Survey.{Survey, unseen, fewer, is_next}
 
-abbrev pub asksAround : Rule → Option Resolution → Bool
-asksAround rust found = false
-asksAround language none = false
-asksAround language (some found) = true
+abbrev pub asks_around : Rule → Option Resolution → Bool
+asks_around rust found = false
+asks_around language none = false
+asks_around language (some found) = true
 
-abbrev pub passedFrom : (asked : Bool) → (depth : ℕ) → ℕ
-passedFrom true depth = depth
-passedFrom false depth = 0
+abbrev pub passed_from : (asked : Bool) → (depth : ℕ) → ℕ
+passed_from true depth = depth
+passed_from false depth = 0
 
-abbrev pub targetSought : Option Resolution → ℕ
-targetSought none = 0
-targetSought (some found) = found.target
+abbrev pub target_sought : Option Resolution → ℕ
+target_sought none = 0
+target_sought (some found) = found.target
 
-abbrev pub unseenBy : Option Resolution → Survey
-unseenBy none = unseen 0
-unseenBy (some found) = unseen found.loops
+abbrev pub unseen_by : Option Resolution → Survey
+unseen_by none = unseen 0
+unseen_by (some found) = unseen found.loops
 
-abbrev pub passedLoop : (here : Bool) → Survey → Survey
-passedLoop here s = record {
+abbrev pub passed_loop : (here : Bool) → Survey → Survey
+passed_loop here s = record {
   between = false;
-  switchInside = s.switchInside;
+  is_switch_inside = s.is_switch_inside;
   named = s.named || here;
-  loopsLeft = fewer s.loopsLeft;
-  loopNamed = s.loopNamed || (isNext s.loopsLeft && here);
+  loops_left = fewer s.loops_left;
+  loop_named = s.loop_named || (is_next s.loops_left && here);
 }
 
-abbrev pub passedSwitch : (here : Bool) → Survey → Survey
-passedSwitch here s = record {
+abbrev pub passed_switch : (here : Bool) → Survey → Survey
+passed_switch here s = record {
   between = false;
-  switchInside = s.switchInside || s.between;
+  is_switch_inside = s.is_switch_inside || s.between;
   named = s.named || here;
-  loopsLeft = s.loopsLeft;
-  loopNamed = s.loopNamed;
+  loops_left = s.loops_left;
+  loop_named = s.loop_named;
 }
 
-abbrev pub passedAnother : (here : Bool) → Survey → Survey
-passedAnother here s = record { between = s.between; switchInside = s.switchInside; named = s.named || here; loopsLeft = s.loopsLeft; loopNamed = s.loopNamed }
+abbrev pub passed_another : (here : Bool) → Survey → Survey
+passed_another here s = record { between = s.between; is_switch_inside = s.is_switch_inside; named = s.named || here; loops_left = s.loops_left; loop_named = s.loop_named }

@@ -2,17 +2,17 @@
 // One pass over the statements being built, from the innermost; the walk has them in its frames.
 ghost use Rattle.std.specs.Prelude.{◌≡◌, ◌&&◌, ◌||◌, ℕ, ◌<◌};
 ghost use Rattle.std.proofs.Math.Option.{Option};
-ghost use Rattle.table.specs.Words.{blockCount};
+ghost use Rattle.table.specs.Words.{block_count};
 ghost use Rattle.table.specs.Promise.{Promise};
-ghost use Rattle.table.specs.Table.{table_of, terminalAt, unlessNone};
-ghost use Rattle.definition.specs.Around.{language, kindBy, unnamed};
-ghost use Rattle.machine.specs.Goal.{surveyedBreak, surveyedContinue};
-ghost use Rattle.machine.specs.Machine.{enclosingBy};
+ghost use Rattle.table.specs.Table.{table_of, terminal_at, unless_none};
+ghost use Rattle.definition.specs.Around.{language, kind_by, unnamed};
+ghost use Rattle.machine.specs.Goal.{surveyed_break, surveyed_continue};
+ghost use Rattle.machine.specs.Machine.{enclosing_by};
 ghost use Rattle.machine.specs.Survey.{fewer};
 ghost use Rattle.machine.specs.Survey as definition;
-ghost use Rattle.control.specs.Abstraction.{kind_of, resolutionOf, resolvedOf};
-ghost use Rattle.control.specs.AroundAbstraction.{ruleOf, surveyOf, goalOf, enclosing, FoundBelow};
-ghost use Rattle.control.specs.Pass.{passedLoop, passedSwitch, passedAnother, asksAround, passedFrom, targetSought, unseenBy};
+ghost use Rattle.control.specs.Abstraction.{kind_of, resolution_of, resolved_of};
+ghost use Rattle.control.specs.AroundAbstraction.{rule_of, survey_of, goal_of, enclosing, FoundBelow};
+ghost use Rattle.control.specs.Pass.{passed_loop, passed_switch, passed_another, asks_around, passed_from, target_sought, unseen_by};
 
 use crate::rule::Rule;
 use crate::{ReactiveTerminalTargetKind, Resolution, Resolved};
@@ -66,7 +66,7 @@ fn either(a: bool, b: bool) -> bool
 
 // Only the language entry asks the statements around, and only for a jump that found its target.
 pub fn asks(rule: Rule, found: Resolved) -> bool
-    ensures { result ≡ asksAround (ruleOf rule) (resolvedOf found) }
+    ensures { result ≡ asks_around (rule_of rule) (resolved_of found) }
 {
     match rule {
         Rule::Rust => false,
@@ -79,7 +79,7 @@ pub fn asks(rule: Rule, found: Resolved) -> bool
 
 // The number of statements to pass over.
 pub fn pass_from(asked: bool, depth: u32) -> usize
-    ensures { result ≡ passedFrom asked depth }
+    ensures { result ≡ passed_from asked depth }
 {
     if asked {
         return depth as usize;
@@ -89,7 +89,7 @@ pub fn pass_from(asked: bool, depth: u32) -> usize
 
 pub fn target_of(found: Resolved) -> u32
     requires { FoundBelow found }
-    ensures { (result ≡ targetSought (resolvedOf found)) × (result < 1024) }
+    ensures { (result ≡ target_sought (resolved_of found)) × (result < 1024) }
 {
     match found {
         Resolved::Nothing => 0,
@@ -98,7 +98,7 @@ pub fn target_of(found: Resolved) -> u32
 }
 
 fn unseen_after(loops: u32) -> Survey
-    ensures { surveyOf result ≡ definition.unseen loops }
+    ensures { survey_of result ≡ definition.unseen loops }
 {
     Survey {
         between: true,
@@ -110,7 +110,7 @@ fn unseen_after(loops: u32) -> Survey
 }
 
 pub fn unseen(found: Resolved) -> Survey
-    ensures { surveyOf result ≡ unseenBy (resolvedOf found) }
+    ensures { survey_of result ≡ unseen_by (resolved_of found) }
 {
     match found {
         Resolved::Nothing => unseen_after(0),
@@ -122,8 +122,8 @@ pub fn unseen(found: Resolved) -> Survey
 
 fn sort_at(words: &[u32], block: u32) -> Sort
     requires promise { Promise words.now }
-    requires block_bound { block < blockCount words.now }
-    ensures { (label : Option ℕ) → enclosingBy (terminalAt (table_of words.now) block) label ≡ enclosing result label }
+    requires block_bound { block < block_count words.now }
+    ensures { (label : Option ℕ) → enclosing_by (terminal_at (table_of words.now) block) label ≡ enclosing result label }
 {
     match code_at(words, block) {
         7 => Sort::Switch,
@@ -149,7 +149,7 @@ fn one_fewer(loops: u64) -> u64
 
 // The loop that a continue resolved to has the label, if it is this one.
 fn names_loop(loops: u64, here: bool) -> bool
-    ensures { result ≡ definition.isNext loops && here }
+    ensures { result ≡ definition.is_next loops && here }
 {
     if loops == 1 {
         return here;
@@ -158,7 +158,7 @@ fn names_loop(loops: u64, here: bool) -> bool
 }
 
 fn pass_loop(here: bool, seen: Survey) -> Survey
-    ensures { surveyOf result ≡ passedLoop here (surveyOf seen) }
+    ensures { survey_of result ≡ passed_loop here (survey_of seen) }
 {
     Survey {
         between: false,
@@ -170,7 +170,7 @@ fn pass_loop(here: bool, seen: Survey) -> Survey
 }
 
 fn pass_switch(here: bool, seen: Survey) -> Survey
-    ensures { surveyOf result ≡ passedSwitch here (surveyOf seen) }
+    ensures { survey_of result ≡ passed_switch here (survey_of seen) }
 {
     Survey {
         between: false,
@@ -182,7 +182,7 @@ fn pass_switch(here: bool, seen: Survey) -> Survey
 }
 
 fn pass_another(here: bool, seen: Survey) -> Survey
-    ensures { surveyOf result ≡ passedAnother here (surveyOf seen) }
+    ensures { survey_of result ≡ passed_another here (survey_of seen) }
 {
     Survey {
         between: seen.between,
@@ -196,9 +196,9 @@ fn pass_another(here: bool, seen: Survey) -> Survey
 // The statement of this block, with the fallthrough that it took as its label.
 pub fn pass(words: &[u32], target: u32, block: u32, label: u32, seen: Survey) -> Survey
     requires promise { Promise words.now }
-    requires block_bound { block < blockCount words.now }
+    requires block_bound { block < block_count words.now }
     requires target_bound { target < 1024 }
-    ensures { surveyOf result ≡ definition.pass target (enclosingBy (terminalAt (table_of words.now) block) (unlessNone label)) (surveyOf seen) }
+    ensures { survey_of result ≡ definition.pass target (enclosing_by (terminal_at (table_of words.now) block) (unless_none label)) (survey_of seen) }
 {
     let here = label == target;
     let sort = sort_at(words, block);
@@ -213,7 +213,7 @@ pub fn pass(words: &[u32], target: u32, block: u32, label: u32, seen: Survey) ->
 // ---- after the last
 
 fn label_if(between: bool, kind: ReactiveTerminalTargetKind) -> ReactiveTerminalTargetKind
-    ensures { kind_of result ≡ kindBy language between (kind_of kind) }
+    ensures { kind_of result ≡ kind_by language between (kind_of kind) }
 {
     match kind {
         ReactiveTerminalTargetKind::Implicit => kind,
@@ -233,7 +233,7 @@ fn kind_by(
     between: bool,
     kind: ReactiveTerminalTargetKind,
 ) -> ReactiveTerminalTargetKind
-    ensures { kind_of result ≡ kindBy (ruleOf rule) between (kind_of kind) }
+    ensures { kind_of result ≡ kind_by (rule_of rule) between (kind_of kind) }
 {
     match rule {
         Rule::Rust => kind,
@@ -243,7 +243,7 @@ fn kind_by(
 
 // Labeled, and no such label was found.
 fn is_unnamed(rule: Rule, kind: ReactiveTerminalTargetKind, named: bool) -> bool
-    ensures { result ≡ unnamed (ruleOf rule) (kind_of kind) named }
+    ensures { result ≡ unnamed (rule_of rule) (kind_of kind) named }
 {
     match rule {
         Rule::Rust => false,
@@ -256,7 +256,7 @@ fn is_unnamed(rule: Rule, kind: ReactiveTerminalTargetKind, named: bool) -> bool
 }
 
 pub fn break_goal(rule: Rule, found: Resolution, seen: Survey) -> Goal
-    ensures { goalOf result ≡ surveyedBreak (ruleOf rule) (surveyOf seen) (resolutionOf found) }
+    ensures { goal_of result ≡ surveyed_break (rule_of rule) (survey_of seen) (resolution_of found) }
 {
     let was = found.kind;
     let kind = kind_by(rule, seen.switch_inside, was);
@@ -269,7 +269,7 @@ pub fn break_goal(rule: Rule, found: Resolution, seen: Survey) -> Goal
 }
 
 pub fn continue_goal(rule: Rule, found: Resolution, seen: Survey) -> Goal
-    ensures { goalOf result ≡ surveyedContinue (ruleOf rule) (surveyOf seen) (resolutionOf found) }
+    ensures { goal_of result ≡ surveyed_continue (rule_of rule) (survey_of seen) (resolution_of found) }
 {
     let kind = found.kind;
     Goal {

@@ -9,10 +9,10 @@ pub mod around;
 pub mod rule;
 
 ghost use Rattle.std.specs.Prelude.{◌≡◌, ◌+◌, ◌≤◌, ◌<◌, ◌||◌};
-ghost use Rattle.definition.specs.Context.{add, has, targetBlock, isLoop, loops_of, continuesAt, blockAsked, breakKind, continueKind};
-ghost use Rattle.definition.specs.Tree.{kindNumber};
-ghost use Rattle.control.specs.Abstraction.{target_of, kind_of, foundBlock, resolutionOf};
-ghost use Rattle.control.specs.Contract.{Named, Room, Last, refusalIf, Created, Scheduled, Unscheduled, breakTo, continueTo};
+ghost use Rattle.definition.specs.Context.{add, has, target_block, is_loop, loops_of, continues_at, block_asked, break_kind, continue_kind};
+ghost use Rattle.definition.specs.Tree.{kind_number};
+ghost use Rattle.control.specs.Abstraction.{target_of, kind_of, found_block, resolution_of};
+ghost use Rattle.control.specs.Contract.{Named, Room, Last, refusal_if, Created, Scheduled, Unscheduled, break_to, continue_to};
 
 // The Rust's BlockId, as the sets and the stack have it.
 pub fn block_id(block: u32) -> u16
@@ -86,7 +86,7 @@ pub struct Context {
 
 impl ControlFlowTarget {
     pub fn block(self) -> u16
-        ensures { result ≡ targetBlock (target_of self) }
+        ensures { result ≡ target_block (target_of self) }
     {
         match self {
             ControlFlowTarget::If { block } => block,
@@ -101,7 +101,7 @@ impl ControlFlowTarget {
     }
 
     pub fn is_loop(self) -> bool
-        ensures { result ≡ isLoop (target_of self) }
+        ensures { result ≡ is_loop (target_of self) }
     {
         match self {
             ControlFlowTarget::If { block: _ } => false,
@@ -117,7 +117,7 @@ impl ControlFlowTarget {
 
     // Whether this is a loop with that continue block.
     pub fn continues_at(self, wanted: u16) -> bool
-        ensures { result ≡ continuesAt (target_of self) wanted }
+        ensures { result ≡ continues_at (target_of self) wanted }
     {
         match self {
             ControlFlowTarget::If { block: _ } => false,
@@ -133,7 +133,7 @@ impl ControlFlowTarget {
 
     // The block of the refusal where the target cannot be scheduled.
     pub fn block_asked(self) -> u16
-        ensures { result ≡ blockAsked (target_of self) }
+        ensures { result ≡ block_asked (target_of self) }
     {
         match self {
             ControlFlowTarget::If { block } => block,
@@ -151,7 +151,7 @@ impl ControlFlowTarget {
 impl ReactiveTerminalTargetKind {
     // The kind's number in a row.
     pub fn number(self) -> u32
-        ensures { result ≡ kindNumber (kind_of self) }
+        ensures { result ≡ kind_number (kind_of self) }
     {
         match self {
             ReactiveTerminalTargetKind::Implicit => 0,
@@ -190,7 +190,7 @@ pub fn is_scheduled<'a>(
 
 // The number of a refusal, 0 where there is none.
 fn refusal(blocked: bool, code: u16) -> u16
-    ensures { result ≡ refusalIf blocked code }
+    ensures { result ≡ refusal_if blocked code }
 {
     if blocked { code } else { 0 }
 }
@@ -216,7 +216,7 @@ pub fn count_loop(loops: u32, target: ControlFlowTarget) -> u32
 
 // A loop gives Unlabeled, or Labeled if a loop lies above. Another entry gives Implicit at the top, else Labeled.
 fn break_kind(is_loop: bool, top: bool, loops: u32) -> ReactiveTerminalTargetKind
-    ensures { kind_of result ≡ breakKind is_loop top loops }
+    ensures { kind_of result ≡ break_kind is_loop top loops }
 {
     if is_loop {
         if loops == 0 {
@@ -232,7 +232,7 @@ fn break_kind(is_loop: bool, top: bool, loops: u32) -> ReactiveTerminalTargetKin
 
 // Labeled if a loop lies above, else Implicit at the top, else Unlabeled.
 fn continue_kind(top: bool, loops: u32) -> ReactiveTerminalTargetKind
-    ensures { kind_of result ≡ continueKind top loops }
+    ensures { kind_of result ≡ continue_kind top loops }
 {
     if loops > 0 {
         return ReactiveTerminalTargetKind::Labeled;
@@ -246,7 +246,7 @@ fn continue_kind(top: bool, loops: u32) -> ReactiveTerminalTargetKind
 impl Resolution {
     // The block that the jump's row names. For a continue too it is the loop's fallthrough.
     pub fn block(self) -> u16
-        ensures { result ≡ foundBlock self }
+        ensures { result ≡ found_block self }
     {
         let entry = self.entry;
         let target = entry.target;
@@ -256,7 +256,7 @@ impl Resolution {
 
 // A break to the entry that was found below `loops` loops.
 pub fn break_to(found: Entry, top: bool, loops: u32) -> Resolution
-    ensures { (result.entry ≡ found) × (resolutionOf result ≡ breakTo (target_of found.target) top loops) }
+    ensures { (result.entry ≡ found) × (resolution_of result ≡ break_to (target_of found.target) top loops) }
 {
     let target = found.target;
     let is_loop = target.is_loop();
@@ -270,7 +270,7 @@ pub fn break_to(found: Entry, top: bool, loops: u32) -> Resolution
 
 // A continue of the loop that was found below `loops` loops.
 pub fn continue_to(found: Entry, top: bool, loops: u32) -> Resolution
-    ensures { (result.entry ≡ found) × (resolutionOf result ≡ continueTo (target_of found.target) top loops) }
+    ensures { (result.entry ≡ found) × (resolution_of result ≡ continue_to (target_of found.target) top loops) }
 {
     let kind = continue_kind(top, loops);
     Resolution {

@@ -9,12 +9,12 @@ use borrow.Author.Tests.{le-leb}
 use Rattle.text.specs.Layout.{layout}
 use Rattle.text.specs.Lent.{padded}
 use Rattle.text.specs.Answer.{Accepted}
-use Rattle.text.specs.Reading.{Reading, reads, refuses, reading, WordsRead, readInto}
+use Rattle.text.specs.Reading.{Reading, reads, refuses, reading, WordsRead, read_into}
 use Rattle.text.specs.declared.version.Version.TheVariants.{New}
 use Rattle.text.specs.declared.read.Answer.{Answer}
 use Rattle.text.specs.declared.read.Answer.TheVariants as answer
-use Rattle.text.proofs.ReadingLaws.{accepted-reads}
-use Rattle.convert.specs.Read.{WordsPlaced, refusal, placedIn, tableRead}
+use Rattle.text.proofs.ReadingLaws.{accepted_reads}
+use Rattle.convert.specs.Read.{WordsPlaced, refusal, placed_in, table_read}
 
 -- what the code makes of an answer
 abbrev told : Answer → (lent : List ℕ) → WordsPlaced
@@ -22,15 +22,15 @@ told (answer.Words count) lent = record { code = 0; at = 0; count = count; lent 
 told (answer.Refused code at) lent = record { code = code; at = at; count = 0; lent = lent }
 told answer.NoRoom lent = record { code = 54; at = 0; count = 0; lent = lent }
 
-abbrev toldOf : WordsRead → WordsPlaced
-toldOf w = told w.answer w.lent
+abbrev told_of : WordsRead → WordsPlaced
+told_of w = told w.answer w.lent
 
-into-told : (room : ℕ) (r : Reading) → toldOf (readInto room r) ≡ placedIn room r
-unfolding readInto placedIn refusal
-into-told room (reads words) = by (leb (length words) room)
+into_told : (room : ℕ) (r : Reading) → told_of (read_into room r) ≡ placed_in room r
+unfolding read_into placed_in refusal
+into_told room (reads words) = by (leb (length words) room)
   where
     by : (fits : Bool)
-        → toldOf (elim fits [
+        → told_of (elim fits [
           | true ↦ record { answer = answer.Words (length words); lent = padded room words }
           | false ↦ record { answer = answer.NoRoom; lent = replicate room 0 }
         ]) ≡ elim fits [
@@ -39,28 +39,28 @@ into-told room (reads words) = by (leb (length words) room)
         ]
     by true = refl
     by false = refl
-into-told room (refuses code at) = refl
+into_told room (refuses code at) = refl
 
 -- an answer of the reader is told as the definition has it
 module _ (file : List ℕ) (room : ℕ) where
-  told-read : (w : WordsRead) → w ≡ readInto room (reading (layout New) file) → toldOf w ≡ tableRead file room
-  unfolding tableRead
-  told-read w e = ap toldOf e ∙ into-told room (reading (layout New) file)
+  told_read : (w : WordsRead) → w ≡ read_into room (reading (layout New) file) → told_of w ≡ table_read file room
+  unfolding table_read
+  told_read w e = ap told_of e ∙ into_told room (reading (layout New) file)
 
   abbrev Read : Answer → (lent : List ℕ) → Type 0
-  Read a lent = record { answer = a; lent = lent } ≡ readInto room (reading (layout New) file)
+  Read a lent = record { answer = a; lent = lent } ≡ read_into room (reading (layout New) file)
 
-  pub words-told : {count : ℕ} {lent : List ℕ} → Read (answer.Words count) lent → record { code = 0; at = 0; count = count; lent = lent } ≡ tableRead file room
-  words-told e = told-read _ e
+  pub words_told : {count : ℕ} {lent : List ℕ} → Read (answer.Words count) lent → record { code = 0; at = 0; count = count; lent = lent } ≡ table_read file room
+  words_told e = told_read _ e
 
-  pub refused-told : {code at : ℕ} {lent : List ℕ} → Read (answer.Refused code at) lent → record { code = code; at = at; count = 0; lent = lent } ≡ tableRead file room
-  refused-told e = told-read _ e
+  pub refused_told : {code at : ℕ} {lent : List ℕ} → Read (answer.Refused code at) lent → record { code = code; at = at; count = 0; lent = lent } ≡ table_read file room
+  refused_told e = told_read _ e
 
-  pub short-told : {lent : List ℕ} → Read answer.NoRoom lent → record { code = 54; at = 0; count = 0; lent = lent } ≡ tableRead file room
-  short-told e = told-read _ e
+  pub short_told : {lent : List ℕ} → Read answer.NoRoom lent → record { code = 54; at = 0; count = 0; lent = lent } ≡ table_read file room
+  short_told e = told_read _ e
 
   -- a good file is read as its words
-  pub good-read : (words : List ℕ) → Accepted (layout New) file words → length words ≤ room
-      → tableRead file room ≡ record { code = 0; at = 0; count = length words; lent = padded room words }
-  unfolding tableRead placedIn
-  good-read words good fits = rw (accepted-reads (layout New) file words good, placedIn, le-leb (length words) room fits) refl
+  pub good_read : (words : List ℕ) → Accepted (layout New) file words → length words ≤ room
+      → table_read file room ≡ record { code = 0; at = 0; count = length words; lent = padded room words }
+  unfolding table_read placed_in
+  good_read words good fits = rw (accepted_reads (layout New) file words good, placed_in, le-leb (length words) room fits) refl

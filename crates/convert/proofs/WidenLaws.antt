@@ -9,77 +9,77 @@ use Rattle.text.specs.Layout.{layout}
 use Rattle.text.specs.Line.{flat}
 use Rattle.text.specs.declared.version.Version.TheVariants.{Old, New}
 use Rattle.text.specs.Printed.{Wrote}
-use Rattle.text.proofs.LentLaws.{holds-none, holds-all}
+use Rattle.text.proofs.LentLaws.{holds_none, holds_all}
 use Rattle.text.proofs.WriteLaws.{wrote_then}
-use Rattle.convert.specs.Cut.{cut, instructionsAt, casesAt, places_at, identifiersAt, end_at, Shaped}
+use Rattle.convert.specs.Cut.{cut, instructions_at, cases_at, places_at, identifiers_at, end_at, Shaped}
 use Rattle.convert.proofs.GoodLaws.{behind}
-use Rattle.convert.specs.Widen.{doubled, doubledRows, widened}
+use Rattle.convert.specs.Widen.{doubled, doubled_rows, widened}
 
 -- ---- one row
 
-pub length-doubled : (row : List ℕ) → length (doubled row) ≡ suc (length row)
+pub length_doubled : (row : List ℕ) → length (doubled row) ≡ suc (length row)
 unfolding doubled
-length-doubled row = simp length-append (omega arith)
+length_doubled row = simp length-append (omega arith)
 
 -- its own words, and the last once more
-pub doubled-at : (row : List ℕ) (k : ℕ) → k < length row → get_or (doubled row) k 0 ≡ get_or row k 0
+pub doubled_at : (row : List ℕ) (k : ℕ) → k < length row → get_or (doubled row) k 0 ≡ get_or row k 0
 unfolding doubled
-doubled-at row k p = get_or-append row _ 0 k p
+doubled_at row k p = get_or-append row _ 0 k p
 
-pub doubled-end : (row : List ℕ) (k : ℕ) → k ≡ length row → get_or (doubled row) k 0 ≡ get_or row (length row - 1) 0
+pub doubled_end : (row : List ℕ) (k : ℕ) → k ≡ length row → get_or (doubled row) k 0 ≡ get_or row (length row - 1) 0
 unfolding doubled
-doubled-end row k e = rw e (get_or-append_seam row (get_or row (length row - 1) 0) [] 0)
+doubled_end row k e = rw e (get_or-append_seam row (get_or row (length row - 1) 0) [] 0)
 
 -- ---- rows
 
-pub doubled-open : (width count : ℕ) (words : List ℕ) → doubledRows width (suc count) words ≡ doubled (take width words) ++ doubledRows width count (drop width words)
-unfolding doubledRows cut flat
-doubled-open width count words = refl
+pub doubled_open : (width count : ℕ) (words : List ℕ) → doubled_rows width (suc count) words ≡ doubled (take width words) ++ doubled_rows width count (drop width words)
+unfolding doubled_rows cut flat
+doubled_open width count words = refl
 
-pub doubled-none : (width left : ℕ) (words : List ℕ) → left ≤ 0 → doubledRows width left words ≡ []
-unfolding doubledRows cut flat
-doubled-none width left words p = let none : left ≡ 0 = omega arith in rw none
+pub doubled_none : (width left : ℕ) (words : List ℕ) → left ≤ 0 → doubled_rows width left words ≡ []
+unfolding doubled_rows cut flat
+doubled_none width left words p = let none : left ≡ 0 = omega arith in rw none
 
 -- the row's words and its last, as they are copied
-pub doubled-more : (width left from : ℕ) (words written all : List ℕ) → 0 < left → 1 ≤ width → from + width ≤ length words
-    → written ++ doubledRows width left (drop from words) ≡ all
-    → (written ++ (take width (drop from words) ++ (get_or words (from + width - 1) 0 ∷ []))) ++ doubledRows width (left - 1) (drop (from + width) words) ≡ all
+pub doubled_more : (width left from : ℕ) (words written all : List ℕ) → 0 < left → 1 ≤ width → from + width ≤ length words
+    → written ++ doubled_rows width left (drop from words) ≡ all
+    → (written ++ (take width (drop from words) ++ (get_or words (from + width - 1) 0 ∷ []))) ++ doubled_rows width (left - 1) (drop (from + width) words) ≡ all
 unfolding doubled
-doubled-more width left from words written all p q r h =
+doubled_more width left from words written all p q r h =
     let l : length (take width (drop from words)) ≡ width = length-take-le width (drop from words) (rw (length-drop from words) (omega arith)) in
     let n : left ≡ suc (left - 1) = omega arith in
     let e : from + width - 1 ≡ from + (width - 1) = omega arith in
     let last : get_or (take width (drop from words)) (width - 1) 0 ≡ get_or words (from + width - 1) 0 =
     rw e (get_or-take width (drop from words) (width - 1) 0 (omega arith) ∙ get_or-drop from words (width - 1) 0) in
-    append_assoc written _ _ ∙ rw (← (drop-drop width from words), ← last) (rw (n, doubled-open width (left - 1) (drop from words), l) at h)
+    append_assoc written _ _ ∙ rw (← (drop-drop width from words), ← last) (rw (n, doubled_open width (left - 1) (drop from words), l) at h)
 
 module _ (width : ℕ) (some : 1 ≤ width) where
-  pub length-doubled-rows : (count : ℕ) (words : List ℕ) → count * width ≤ length words → length (doubledRows width count words) ≡ count * suc width
-  length-doubled-rows zero words p = rw (doubled-none width 0 words (omega arith)) (omega arith)
-  length-doubled-rows (suc count) words p =
+  pub length_doubled_rows : (count : ℕ) (words : List ℕ) → count * width ≤ length words → length (doubled_rows width count words) ≡ count * suc width
+  length_doubled_rows zero words p = rw (doubled_none width 0 words (omega arith)) (omega arith)
+  length_doubled_rows (suc count) words p =
       let e : suc count * width ≡ width + count * width = omega arith in
       let l : length (take width words) ≡ width = length-take-le width words (omega arith) in
-      rw (doubled-open width count words)
-      (simp length-append (omega (arith, l, length-doubled (take width words), length-doubled-rows count (drop width words) (rw (length-drop width words) (omega arith)))))
+      rw (doubled_open width count words)
+      (simp length-append (omega (arith, l, length_doubled (take width words), length_doubled_rows count (drop width words) (rw (length-drop width words) (omega arith)))))
 
   -- the words of a row
   pub doubled_word : (count : ℕ) (words rest : List ℕ) → count * width ≤ length words → (b k : ℕ) → b < count → k ≤ width
-      → get_or (doubledRows width count words ++ rest) (b * suc width + k) 0 ≡ get_or (doubled (take width (drop (b * width) words))) k 0
+      → get_or (doubled_rows width count words ++ rest) (b * suc width + k) 0 ≡ get_or (doubled (take width (drop (b * width) words))) k 0
   doubled_word zero words rest p b k q r = absurd (omega arith)
   doubled_word (suc count) words rest p zero k q r =
       let e : suc count * width ≡ width + count * width = omega arith in
       let l : length (take width words) ≡ width = length-take-le width words (omega arith) in
       let z : 0 * suc width + k ≡ k = omega arith in
       let y : 0 * width ≡ 0 = omega arith in
-      rw (z, y, doubled-open width count words, append_assoc)
-      (get_or-append (doubled (take width words)) (doubledRows width count (drop width words) ++ rest) 0 k (omega (arith, l, length-doubled (take width words))))
+      rw (z, y, doubled_open width count words, append_assoc)
+      (get_or-append (doubled (take width words)) (doubled_rows width count (drop width words) ++ rest) 0 k (omega (arith, l, length_doubled (take width words))))
   doubled_word (suc count) words rest p (suc b) k q r =
       let e : suc count * width ≡ width + count * width = omega arith in
       let l : length (take width words) ≡ width = length-take-le width words (omega arith) in
-      let z : suc b * suc width + k ≡ length (doubled (take width words)) + (b * suc width + k) = omega (arith, l, length-doubled (take width words)) in
+      let z : suc b * suc width + k ≡ length (doubled (take width words)) + (b * suc width + k) = omega (arith, l, length_doubled (take width words)) in
       let y : suc b * width ≡ width + b * width = omega arith in
-      rw (z, y, doubled-open width count words, append_assoc)
-      (get_or-append-add (doubled (take width words)) (doubledRows width count (drop width words) ++ rest) (b * suc width + k) 0
+      rw (z, y, doubled_open width count words, append_assoc)
+      (get_or-append-add (doubled (take width words)) (doubled_rows width count (drop width words) ++ rest) (b * suc width + k) 0
       ∙ doubled_word count (drop width words) rest (rw (length-drop width words) (omega arith)) b k (omega arith) r
       ∙ ap (λ (l : List ℕ). get_or (doubled (take width l)) k 0) (drop-drop (b * width) width words))
 
@@ -88,17 +88,17 @@ module _ (width : ℕ) (some : 1 ≤ width) where
   first_of row more l = rw append_assoc (take_at row _ width l)
 
   -- the rows, their last words left out again
-  pub cut-doubled : (count : ℕ) (words rest : List ℕ) → count * width ≤ length words
-      → cut (suc width) width count (doubledRows width count words ++ rest) ≡ cut width width count words
+  pub cut_doubled : (count : ℕ) (words rest : List ℕ) → count * width ≤ length words
+      → cut (suc width) width count (doubled_rows width count words ++ rest) ≡ cut width width count words
   unfolding cut
-  cut-doubled zero words rest p = refl
-  cut-doubled (suc count) words rest p =
+  cut_doubled zero words rest p = refl
+  cut_doubled (suc count) words rest p =
       let e : suc count * width ≡ width + count * width = omega arith in
       let l : length (take width words) ≡ width = length-take-le width words (omega arith) in
-      let more = doubledRows width count (drop width words) ++ rest in
+      let more = doubled_rows width count (drop width words) ++ rest in
       let first : take width (doubled (take width words) ++ more) ≡ take width words = first_of (take width words) more l in
-      let behind-it : drop (suc width) (doubled (take width words) ++ more) ≡ more = drop_at (doubled (take width words)) more (suc width) (length-doubled (take width words) ∙ ap suc l) in
-      rw (doubled-open width count words, append_assoc, first, behind-it, cut-doubled count (drop width words) rest (rw (length-drop width words) (omega arith)))
+      let behind_it : drop (suc width) (doubled (take width words) ++ more) ≡ more = drop_at (doubled (take width words)) more (suc width) (length_doubled (take width words) ∙ ap suc l) in
+      rw (doubled_open width count words, append_assoc, first, behind_it, cut_doubled count (drop width words) rest (rw (length-drop width words) (omega arith)))
 
 -- ---- the whole
 
@@ -112,114 +112,114 @@ module _ (old : List ℕ) (shaped : Shaped (layout Old) old) where
   abbrev wide : List ℕ
   wide = widened old
 
-  head-long : length (take 6 old) ≡ 6
-  head-long = length-take-le 6 old shaped.head
+  head_long : length (take 6 old) ≡ 6
+  head_long = length-take-le 6 old shaped.head
 
-  pub blocks-fit : blocks * 10 ≤ length (drop 6 old)
-  unfolding end_at identifiersAt places_at casesAt instructionsAt
-  blocks-fit = rw (length-drop 6 old) (omega (arith, shaped.long))
+  pub blocks_fit : blocks * 10 ≤ length (drop 6 old)
+  unfolding end_at identifiers_at places_at cases_at instructions_at
+  blocks_fit = rw (length-drop 6 old) (omega (arith, shaped.long))
 
-  pub instructions-fit : instructions * 6 ≤ length (drop (instructionsAt (layout Old) old) old)
-  unfolding end_at identifiersAt places_at casesAt instructionsAt
-  instructions-fit = rw (length-drop (instructionsAt (layout Old) old) old) (omega (arith, shaped.long))
+  pub instructions_fit : instructions * 6 ≤ length (drop (instructions_at (layout Old) old) old)
+  unfolding end_at identifiers_at places_at cases_at instructions_at
+  instructions_fit = rw (length-drop (instructions_at (layout Old) old) old) (omega (arith, shaped.long))
 
-  pub wide-head : (k : ℕ) → k < 6 → get_or wide k 0 ≡ get_or old k 0
+  pub wide_head : (k : ℕ) → k < 6 → get_or wide k 0 ≡ get_or old k 0
   unfolding widened
-  wide-head k p = get_or-append (take 6 old) _ 0 k (omega (arith, head-long)) ∙ get_or-take 6 old k 0 p
+  wide_head k p = get_or-append (take 6 old) _ 0 k (omega (arith, head_long)) ∙ get_or-take 6 old k 0 p
 
-  pub wide-six : take 6 wide ≡ take 6 old
+  pub wide_six : take 6 wide ≡ take 6 old
   unfolding widened
-  wide-six = take_at (take 6 old) _ 6 head-long
+  wide_six = take_at (take 6 old) _ 6 head_long
 
-  abbrev from-instructions : List ℕ
-  from-instructions = doubledRows 6 instructions (drop (instructionsAt (layout Old) old) old) ++ drop (casesAt (layout Old) old) old
+  abbrev from_instructions : List ℕ
+  from_instructions = doubled_rows 6 instructions (drop (instructions_at (layout Old) old) old) ++ drop (cases_at (layout Old) old) old
 
-  pub wide-blocks : drop 6 wide ≡ doubledRows 10 blocks (drop 6 old) ++ from-instructions
+  pub wide_blocks : drop 6 wide ≡ doubled_rows 10 blocks (drop 6 old) ++ from_instructions
   unfolding widened
-  wide-blocks = drop_at (take 6 old) _ 6 head-long
+  wide_blocks = drop_at (take 6 old) _ 6 head_long
 
-  pub wide-instructions : drop (6 + blocks * 11) wide ≡ from-instructions
-  wide-instructions = behind wide (doubledRows 10 blocks (drop 6 old)) from-instructions 6 (blocks * 11) wide-blocks (length-doubled-rows 10 (omega arith) blocks (drop 6 old) blocks-fit)
+  pub wide_instructions : drop (6 + blocks * 11) wide ≡ from_instructions
+  wide_instructions = behind wide (doubled_rows 10 blocks (drop 6 old)) from_instructions 6 (blocks * 11) wide_blocks (length_doubled_rows 10 (omega arith) blocks (drop 6 old) blocks_fit)
 
-  pub wide-rest : drop (6 + blocks * 11 + instructions * 7) wide ≡ drop (casesAt (layout Old) old) old
-  wide-rest =
-      behind wide (doubledRows 6 instructions (drop (instructionsAt (layout Old) old) old)) _ (6 + blocks * 11) (instructions * 7) wide-instructions
-      (length-doubled-rows 6 (omega arith) instructions _ instructions-fit)
+  pub wide_rest : drop (6 + blocks * 11 + instructions * 7) wide ≡ drop (cases_at (layout Old) old) old
+  wide_rest =
+      behind wide (doubled_rows 6 instructions (drop (instructions_at (layout Old) old) old)) _ (6 + blocks * 11) (instructions * 7) wide_instructions
+      (length_doubled_rows 6 (omega arith) instructions _ instructions_fit)
 
-  pub at-instructions : drop (instructionsAt (layout New) wide) wide ≡ doubledRows 6 (get_or old 2 0) (drop (instructionsAt (layout Old) old) old) ++ drop (casesAt (layout Old) old) old
-  unfolding instructionsAt
-  at-instructions = rw (wide-head 1 (omega arith)) (wide-instructions)
+  pub at_instructions : drop (instructions_at (layout New) wide) wide ≡ doubled_rows 6 (get_or old 2 0) (drop (instructions_at (layout Old) old) old) ++ drop (cases_at (layout Old) old) old
+  unfolding instructions_at
+  at_instructions = rw (wide_head 1 (omega arith)) (wide_instructions)
 
   -- where the last tables begin
-  pub at-cases : drop (casesAt (layout New) wide) wide ≡ drop (casesAt (layout Old) old) old
-  unfolding casesAt instructionsAt
-  at-cases = rw (wide-head 1 (omega arith), wide-head 2 (omega arith)) (wide-rest)
+  pub at_cases : drop (cases_at (layout New) wide) wide ≡ drop (cases_at (layout Old) old) old
+  unfolding cases_at instructions_at
+  at_cases = rw (wide_head 1 (omega arith), wide_head 2 (omega arith)) (wide_rest)
 
   pub at_places : drop (places_at (layout New) wide) wide ≡ drop (places_at (layout Old) old) old
   unfolding places_at
   at_places =
-      sym (drop-drop (get_or wide 3 0 * 2) (casesAt (layout New) wide) wide)
-      ∙ rw (at-cases, wide-head 3 (omega arith)) (drop-drop (get_or old 3 0 * 2) (casesAt (layout Old) old) old)
+      sym (drop-drop (get_or wide 3 0 * 2) (cases_at (layout New) wide) wide)
+      ∙ rw (at_cases, wide_head 3 (omega arith)) (drop-drop (get_or old 3 0 * 2) (cases_at (layout Old) old) old)
 
-  pub at-identifiers : drop (identifiersAt (layout New) wide) wide ≡ drop (identifiersAt (layout Old) old) old
-  unfolding identifiersAt
-  at-identifiers =
+  pub at_identifiers : drop (identifiers_at (layout New) wide) wide ≡ drop (identifiers_at (layout Old) old) old
+  unfolding identifiers_at
+  at_identifiers =
       sym (drop-drop (get_or wide 4 0 * 1) (places_at (layout New) wide) wide)
-      ∙ rw (at_places, wide-head 4 (omega arith)) (drop-drop (get_or old 4 0 * 1) (places_at (layout Old) old) old)
+      ∙ rw (at_places, wide_head 4 (omega arith)) (drop-drop (get_or old 4 0 * 1) (places_at (layout Old) old) old)
 
-  pub length-wide : length wide ≡ length old + blocks + instructions
-  unfolding widened end_at identifiersAt places_at casesAt instructionsAt
-  length-wide =
+  pub length_wide : length wide ≡ length old + blocks + instructions
+  unfolding widened end_at identifiers_at places_at cases_at instructions_at
+  length_wide =
       simp length-append (omega (
         arith,
-        head-long,
-        length-doubled-rows 10 (omega arith) blocks (drop 6 old) blocks-fit,
-        length-doubled-rows 6 (omega arith) instructions (drop (instructionsAt (layout Old) old) old) instructions-fit,
-        length-drop (casesAt (layout Old) old) old,
+        head_long,
+        length_doubled_rows 10 (omega arith) blocks (drop 6 old) blocks_fit,
+        length_doubled_rows 6 (omega arith) instructions (drop (instructions_at (layout Old) old) old) instructions_fit,
+        length-drop (cases_at (layout Old) old) old,
         shaped.long,
       ))
 
-  pub wide-shaped : Shaped (layout New) wide
-  unfolding end_at identifiersAt places_at casesAt instructionsAt
-  wide-shaped = record {
-    head = omega (arith, length-wide, shaped.head);
-    long = rw (wide-head 1 (omega arith), wide-head 2 (omega arith), wide-head 3 (omega arith), wide-head 4 (omega arith), wide-head 5 (omega arith)) (omega (arith, length-wide, shaped.long));
+  pub wide_shaped : Shaped (layout New) wide
+  unfolding end_at identifiers_at places_at cases_at instructions_at
+  wide_shaped = record {
+    head = omega (arith, length_wide, shaped.head);
+    long = rw (wide_head 1 (omega arith), wide_head 2 (omega arith), wide_head 3 (omega arith), wide_head 4 (omega arith), wide_head 5 (omega arith)) (omega (arith, length_wide, shaped.long));
   }
 
   -- 16,384 words become at most 19,456
-  pub wide-most : length old ≤ 16384 → length wide ≤ 19456
-  unfolding end_at identifiersAt places_at casesAt instructionsAt
-  wide-most p = omega (arith, length-wide, shaped.long)
+  pub wide_most : length old ≤ 16384 → length wide ≤ 19456
+  unfolding end_at identifiers_at places_at cases_at instructions_at
+  wide_most p = omega (arith, length_wide, shaped.long)
 
-pub old-within : (old : List ℕ) → Shaped (layout Old) old → (6 ≤ length old) × (6 + get_or old 1 0 * 10 + get_or old 2 0 * 6 ≤ length old)
-unfolding end_at identifiersAt places_at casesAt instructionsAt
-old-within old shaped = (shaped.head, omega (arith, shaped.long))
+pub old_within : (old : List ℕ) → Shaped (layout Old) old → (6 ≤ length old) × (6 + get_or old 1 0 * 10 + get_or old 2 0 * 6 ≤ length old)
+unfolding end_at identifiers_at places_at cases_at instructions_at
+old_within old shaped = (shaped.head, omega (arith, shaped.long))
 
 -- the words from a place on, as a slice has them
 abbrev rest_of : List ℕ → ℕ → List ℕ
 rest_of words at = take (length words - at) (drop at words)
 
-pub rest-whole : (words : List ℕ) (at : ℕ) → rest_of words at ≡ drop at words
-rest-whole words at = take_all (length words - at) (drop at words) (omega (arith, length-drop at words))
+pub rest_whole : (words : List ℕ) (at : ℕ) → rest_of words at ≡ drop at words
+rest_whole words at = take_all (length words - at) (drop at words) (omega (arith, length-drop at words))
 
 -- the parts of widened words, one after the other
-pub widened-wrote : {b b₁ b₂ b₃ b₄ : List ℕ} {n₁ n₂ n₃ n₄ : ℕ} (old : List ℕ)
+pub widened_wrote : {b b₁ b₂ b₃ b₄ : List ℕ} {n₁ n₂ n₃ n₄ : ℕ} (old : List ℕ)
     → Wrote b 0 (take 6 old) b₁ n₁
-    → Wrote b₁ n₁ (doubledRows 10 (get_or old 1 0) (drop 6 old)) b₂ n₂
-    → Wrote b₂ n₂ (doubledRows 6 (get_or old 2 0) (drop (6 + get_or old 1 0 * 10) old)) b₃ n₃
+    → Wrote b₁ n₁ (doubled_rows 10 (get_or old 1 0) (drop 6 old)) b₂ n₂
+    → Wrote b₂ n₂ (doubled_rows 6 (get_or old 2 0) (drop (6 + get_or old 1 0 * 10) old)) b₃ n₃
     → Wrote b₃ n₃ (rest_of old (6 + get_or old 1 0 * 10 + get_or old 2 0 * 6)) b₄ n₄ → Wrote b 0 (widened old) b₄ n₄
-unfolding widened casesAt instructionsAt
-widened-wrote old head blocks instructions rest =
-    wrote_then head (wrote_then blocks (wrote_then instructions (rw (rest-whole old (6 + get_or old 1 0 * 10 + get_or old 2 0 * 6)) at rest)))
+unfolding widened cases_at instructions_at
+widened_wrote old head blocks instructions rest =
+    wrote_then head (wrote_then blocks (wrote_then instructions (rw (rest_whole old (6 + get_or old 1 0 * 10 + get_or old 2 0 * 6)) at rest)))
 
 -- the widened words stand first in the lent ones
 pub record Taken (wide : List ℕ) (count : ℕ) (words : List ℕ) : Type 0 where
   pub within : count ≤ length words
   pub is : take count words ≡ wide
 
-pub wide-taken : (old words lent : List ℕ) {count : ℕ} → Shaped (layout Old) old → length old ≤ 16384 → Wrote lent 0 (widened old) words count → length words ≡ 19456
+pub wide_taken : (old words lent : List ℕ) {count : ℕ} → Shaped (layout Old) old → length old ≤ 16384 → Wrote lent 0 (widened old) words count → length words ≡ 19456
     → Taken (widened old) count words
-wide-taken old words lent {count} shaped few wrote long =
-    let held = wrote.holds [] (holds-none lent) in
-    let within : count ≤ length words = omega (arith, wrote.long, wide-most old shaped few) in
-    record { within = within; is = holds-all words count (widened old) held within }
+wide_taken old words lent {count} shaped few wrote long =
+    let held = wrote.holds [] (holds_none lent) in
+    let within : count ≤ length words = omega (arith, wrote.long, wide_most old shaped few) in
+    record { within = within; is = holds_all words count (widened old) held within }

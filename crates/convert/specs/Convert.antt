@@ -1,6 +1,6 @@
 -- M-112: a converter for each way between the old and the new texts. `proofs/OneAnswer` shows that what they give is the one answer that `Converted` allows.
 use Rattle.std.specs.Prelude.{ℕ, zero, suc, ◌+◌, ◌-◌, ◌≡◌, ◌⊎◌, List, true, false, length, take, eqb}
-use Rattle.table.specs.Words.{word, blockCount, instructionCount, blocksBegin, instructionsBegin}
+use Rattle.table.specs.Words.{word, block_count, instruction_count, blocks_begin, instructions_begin}
 use Rattle.table.specs.Check.{Verdict, accepted, refused, and_then, checked}
 use Rattle.text.specs.Layout.{Layout, layout}
 use Rattle.text.specs.Answer.{Accepted, Refusal}
@@ -8,43 +8,43 @@ use Rattle.text.specs.Reading.{Reading, reads, refuses, reading}
 use Rattle.text.specs.Lent.{padded}
 use Rattle.text.specs.Placed.{Placing, refusal}
 use Rattle.text.specs.declared.version.Version.TheVariants.{Old, New}
-use Rattle.convert.specs.Cut.{textIn}
-use Rattle.convert.specs.Write.{tableText, unlessRefused}
-use Rattle.convert.specs.OldCheck.{oldChecked}
+use Rattle.convert.specs.Cut.{text_in}
+use Rattle.convert.specs.Write.{table_text, unless_refused}
+use Rattle.convert.specs.OldCheck.{old_checked}
 use Rattle.convert.specs.Widen.{widened}
 
 -- of `count` rows of `width` words from the word `at` on: "52 at the word of the first `to` that differs from its `from`"
-unfoldable pub endsAgree : List ℕ → (width at count : ℕ) → Verdict
-endsAgree ws width at zero = accepted
-endsAgree ws width at (suc count) =
-    elim (eqb (word ws (at + (width - 2))) (word ws (at + (width - 1)))) [ true ↦ endsAgree ws width (at + width) count | false ↦ refused 52 (at + (width - 1)) ]
+unfoldable pub ends_agree : List ℕ → (width at count : ℕ) → Verdict
+ends_agree ws width at zero = accepted
+ends_agree ws width at (suc count) =
+    elim (eqb (word ws (at + (width - 2))) (word ws (at + (width - 1)))) [ true ↦ ends_agree ws width (at + width) count | false ↦ refused 52 (at + (width - 1)) ]
 
 -- "The other way is possible only where both ends agree."
-unfoldable pub spansVerdict : List ℕ → Verdict
-spansVerdict ws = and_then (endsAgree ws 11 blocksBegin (blockCount ws)) (endsAgree ws 7 (instructionsBegin ws) (instructionCount ws))
+unfoldable pub spans_verdict : List ℕ → Verdict
+spans_verdict ws = and_then (ends_agree ws 11 blocks_begin (block_count ws)) (ends_agree ws 7 (instructions_begin ws) (instruction_count ws))
 
 -- what the words of an old file, and of a new one, give for a number of bytes lent
-unfoldable pub newOfOld : (words : List ℕ) → (lent : ℕ) → Placing
-newOfOld words lent = unlessRefused (oldChecked words) lent (tableText (widened words))
+unfoldable pub new_of_old : (words : List ℕ) → (lent : ℕ) → Placing
+new_of_old words lent = unless_refused (old_checked words) lent (table_text (widened words))
 
 -- the old text has every row of the new one, but without `to`
-unfoldable pub oldText : List ℕ → List ℕ
-oldText words = textIn (layout New) (layout Old) words
+unfoldable pub old_text : List ℕ → List ℕ
+old_text words = text_in (layout New) (layout Old) words
 
-unfoldable pub oldOfNew : (words : List ℕ) → (lent : ℕ) → Placing
-oldOfNew words lent = unlessRefused (and_then (checked words) (spansVerdict words)) lent (oldText words)
+unfoldable pub old_of_new : (words : List ℕ) → (lent : ℕ) → Placing
+old_of_new words lent = unless_refused (and_then (checked words) (spans_verdict words)) lent (old_text words)
 
 -- "50 and 51 as in paper 01, then" what the words give
-unfoldable pub ofReading : (of : List ℕ → ℕ → Placing) → (lent : ℕ) → Reading → Placing
-ofReading of lent (reads words) = of words lent
-ofReading of lent (refuses code at) = refusal code at lent
+unfoldable pub of_reading : (of : List ℕ → ℕ → Placing) → (lent : ℕ) → Reading → Placing
+of_reading of lent (reads words) = of words lent
+of_reading of lent (refuses code at) = refusal code at lent
 
 -- the converters: what any file gives for a number of bytes lent
-unfoldable pub oldToNew : (file : List ℕ) → (lent : ℕ) → Placing
-oldToNew file lent = ofReading newOfOld lent (reading (layout Old) file)
+unfoldable pub old_to_new : (file : List ℕ) → (lent : ℕ) → Placing
+old_to_new file lent = of_reading new_of_old lent (reading (layout Old) file)
 
-unfoldable pub newToOld : (file : List ℕ) → (lent : ℕ) → Placing
-newToOld file lent = ofReading oldOfNew lent (reading (layout New) file)
+unfoldable pub new_to_old : (file : List ℕ) → (lent : ℕ) → Placing
+new_to_old file lent = of_reading old_of_new lent (reading (layout New) file)
 
 -- ---- the same with no reader in it: the file is good and has these words, or it is refused
 
@@ -69,5 +69,5 @@ abbrev pub wholly : (lent : ℕ) → (text : List ℕ) → Placing
 wholly lent text = record { code = 0; at = 0; length = length text; buffer = padded lent text }
 
 -- the text of an answer
-abbrev pub textOfAnswer : Placing → List ℕ
-textOfAnswer answer = take answer.length answer.buffer
+abbrev pub text_of_answer : Placing → List ℕ
+text_of_answer answer = take answer.length answer.buffer

@@ -1,13 +1,13 @@
 -- The contracts of the functions below the converters.
 use Rattle.std.specs.Prelude.{ℕ, zero, suc, ◌+◌, ◌-◌, ◌*◌, ◌/◌, List, true, false, ltb}
-use Rattle.table.specs.Words.{blockCount, instructionCount}
+use Rattle.table.specs.Words.{block_count, instruction_count}
 use Rattle.table.specs.Check.{Verdict, accepted, refused, checked}
 use Rattle.text.specs.Placed.{Placing}
-use Rattle.convert.specs.Write.{tableText, unlessRefused}
+use Rattle.convert.specs.Write.{table_text, unless_refused}
 
 -- a word's place in the old form: the `to`s before it are left out of the count
-unfoldable pub oldPlace : (blocks instructions at : ℕ) → ℕ
-oldPlace blocks instructions at =
+unfoldable pub old_place : (blocks instructions at : ℕ) → ℕ
+old_place blocks instructions at =
     elim (ltb at 6) [
       | true ↦ at
       | false ↦
@@ -27,14 +27,14 @@ moved back accepted = accepted
 moved back (refused code at) = refused code (back at)
 
 -- the verdict on widened words, in places of the old form
-abbrev pub movedBack : (wide : List ℕ) → Verdict
-movedBack wide = moved (oldPlace (blockCount wide) (instructionCount wide)) (checked wide)
+abbrev pub moved_back : (wide : List ℕ) → Verdict
+moved_back wide = moved (old_place (block_count wide) (instruction_count wide)) (checked wide)
 
 -- what widened words give
-abbrev pub ofWide : (wide : List ℕ) → (lent : ℕ) → Placing
-ofWide wide lent = unlessRefused (movedBack wide) lent (tableText wide)
+abbrev pub of_wide : (wide : List ℕ) → (lent : ℕ) → Placing
+of_wide wide lent = unless_refused (moved_back wide) lent (table_text wide)
 
 -- the place of the first `to` that differs from its `from`; 0 where all agree
-abbrev pub apartAt : ℕ → Verdict
-apartAt zero = accepted
-apartAt (suc n) = refused 52 (suc n)
+abbrev pub apart_at : ℕ → Verdict
+apart_at zero = accepted
+apart_at (suc n) = refused 52 (suc n)

@@ -18,13 +18,13 @@ unfoldable pub refusal : (code at room : ℕ) → WordsPlaced
 refusal code at room = record { code = code; at = at; count = 0; lent = replicate room 0 }
 
 -- the words, then zeros; 54, at 0, where they are more than the lent ones
-unfoldable pub placedIn : (room : ℕ) → Reading → WordsPlaced
-placedIn room (reads words) =
+unfoldable pub placed_in : (room : ℕ) → Reading → WordsPlaced
+placed_in room (reads words) =
     elim (leb (length words) room) [
       | true ↦ record { code = 0; at = 0; count = length words; lent = padded room words }
       | false ↦ refusal 54 0 room
     ]
-placedIn room (refuses code at) = refusal code at room
+placed_in room (refuses code at) = refusal code at room
 
-unfoldable pub tableRead : (file : List ℕ) → (room : ℕ) → WordsPlaced
-tableRead file room = placedIn room (reading (layout New) file)
+unfoldable pub table_read : (file : List ℕ) → (room : ℕ) → WordsPlaced
+table_read file room = placed_in room (reading (layout New) file)

@@ -11,8 +11,8 @@ ghost use Rattle.text.specs.Layout.{layout};
 ghost use Rattle.text.specs.Placed.{placing};
 ghost use Rattle.text.specs.declared.version.Version.TheVariants.{Old, New};
 ghost use Rattle.convert.specs.Cut.{Shaped};
-ghost use Rattle.convert.specs.Convert.{newOfOld, oldOfNew, oldToNew, newToOld};
-ghost use Rattle.convert.specs.Parts.{ofWide};
+ghost use Rattle.convert.specs.Convert.{new_of_old, old_of_new, old_to_new, new_to_old};
+ghost use Rattle.convert.specs.Parts.{of_wide};
 
 use crate::spans::{first_apart, old_place};
 use crate::widen::widen;
@@ -34,7 +34,7 @@ fn lent_wide() -> [u32; 19456]
 fn write_wide(wide: &[u32], text: &mut [u8]) -> Placed
     requires shaped { Shaped (layout New) wide.now }
     requires wide_len_bound { length wide.now ≤ 19456 }
-    ensures { placing result text.new ≡ ofWide wide.now (length text.old) }
+    ensures { placing result text.new ≡ of_wide wide.now (length text.old) }
 {
     let checked = check(wide);
     if checked.is_accepted() {
@@ -48,7 +48,7 @@ fn write_wide(wide: &[u32], text: &mut [u8]) -> Placed
 fn convert_old(old: &[u32], text: &mut [u8]) -> Placed
     requires shaped { Shaped (layout Old) old.now }
     requires len_bound { length old.now ≤ 16384 }
-    ensures { placing result text.new ≡ newOfOld old.now (length text.old) }
+    ensures { placing result text.new ≡ new_of_old old.now (length text.old) }
 {
     let mut wide = lent_wide();
     let count = widen(old, &mut wide);
@@ -57,7 +57,7 @@ fn convert_old(old: &[u32], text: &mut [u8]) -> Placed
 
 // New words into an old text.
 fn convert_new(words: &[u32], text: &mut [u8]) -> Placed
-    ensures { placing result text.new ≡ oldOfNew words.now (length text.old) }
+    ensures { placing result text.new ≡ old_of_new words.now (length text.old) }
 {
     let checked = check(words);
     if !checked.is_accepted() {
@@ -73,7 +73,7 @@ fn convert_new(words: &[u32], text: &mut [u8]) -> Placed
 
 // Converts any file of the old form into a lent buffer of any length.
 pub fn old_to_new(file: &[u8], text: &mut [u8]) -> Placed
-    ensures { placing result text.new ≡ oldToNew file.now (length text.old) }
+    ensures { placing result text.new ≡ old_to_new file.now (length text.old) }
 {
     let mut words = lent_words();
     let answer = read_as(file, Version::Old, &mut words);
@@ -86,7 +86,7 @@ pub fn old_to_new(file: &[u8], text: &mut [u8]) -> Placed
 
 // Converts any file of the new form into a lent buffer of any length.
 pub fn new_to_old(file: &[u8], text: &mut [u8]) -> Placed
-    ensures { placing result text.new ≡ newToOld file.now (length text.old) }
+    ensures { placing result text.new ≡ new_to_old file.now (length text.old) }
 {
     let mut words = lent_words();
     let answer = read_as(file, Version::New, &mut words);
@@ -104,7 +104,7 @@ pub fn table_old_to_new(
     at: &mut u32,
     size: &mut usize,
 ) -> u32
-    ensures { record { code = result; at = at.new; length = size.new; buffer = text.new } ≡ oldToNew file.now (length text.old) }
+    ensures { record { code = result; at = at.new; length = size.new; buffer = text.new } ≡ old_to_new file.now (length text.old) }
 {
     let converted = old_to_new(file, text);
     *at = converted.at;
@@ -118,7 +118,7 @@ pub fn table_new_to_old(
     at: &mut u32,
     size: &mut usize,
 ) -> u32
-    ensures { record { code = result; at = at.new; length = size.new; buffer = text.new } ≡ newToOld file.now (length text.old) }
+    ensures { record { code = result; at = at.new; length = size.new; buffer = text.new } ≡ new_to_old file.now (length text.old) }
 {
     let converted = new_to_old(file, text);
     *at = converted.at;

@@ -4,7 +4,7 @@ ghost use Rattle.text.specs.Layout.{layout};
 ghost use Rattle.text.specs.Printed.{Wrote};
 ghost use Rattle.text.specs.declared.version.Version.TheVariants.{Old};
 ghost use Rattle.convert.specs.Cut.{Shaped};
-ghost use Rattle.convert.specs.Widen.{doubledRows, widened};
+ghost use Rattle.convert.specs.Widen.{doubled_rows, widened};
 
 use text::lent::put_word;
 
@@ -34,7 +34,7 @@ fn widen_rows(
     requires rows_bound { rows ≤ 16384 }
     requires width_in_bounds { first + rows * width ≤ length old.now }
     requires start_bound { start + 180224 < 2 ^ 64 }
-    ensures wrote { Wrote wide.old start (doubledRows width rows (drop first old.now)) wide.new result }
+    ensures wrote { Wrote wide.old start (doubled_rows width rows (drop first old.now)) wide.new result }
     ensures upper_bound { result ≤ start + 180224 }
 {
     let mut at = start;

@@ -5,8 +5,8 @@ ghost use Rattle.text.specs.Layout.{layout};
 ghost use Rattle.text.specs.Line.{lines};
 ghost use Rattle.text.specs.Printed.{Wrote};
 ghost use Rattle.text.specs.declared.version.Version.TheVariants.{New};
-ghost use Rattle.convert.specs.Cut.{cut, textIn};
-ghost use Rattle.convert.specs.WrittenParts.{blockText, instructionText, headText, restText};
+ghost use Rattle.convert.specs.Cut.{cut, text_in};
+ghost use Rattle.convert.specs.WrittenParts.{block_text, instruction_text, head_text, rest_text};
 
 use table::words::{
     block_count, case_count, cases_begin, identifier_count, identifiers_begin, instruction_count,
@@ -73,7 +73,7 @@ pub fn write_part(
 fn write_blocks(words: &[u32], version: Version, text: &mut [u8], start: usize) -> usize
     requires sized { Sized words.now }
     requires start_bound { start + 7929920 < 2 ^ 64 }
-    ensures wrote { Wrote text.old start (blockText version words.now) text.new result }
+    ensures wrote { Wrote text.old start (block_text version words.now) text.new result }
     ensures upper_bound { result ≤ start + 7929920 }
 {
     let rows = block_count(words);
@@ -105,7 +105,7 @@ fn write_blocks(words: &[u32], version: Version, text: &mut [u8], start: usize) 
 fn write_instructions(words: &[u32], version: Version, text: &mut [u8], start: usize) -> usize
     requires sized { Sized words.now }
     requires start_bound { start + 7929920 < 2 ^ 64 }
-    ensures wrote { Wrote text.old start (instructionText version words.now) text.new result }
+    ensures wrote { Wrote text.old start (instruction_text version words.now) text.new result }
     ensures upper_bound { result ≤ start + 7929920 }
 {
     let first = instructions_begin(words) as usize;
@@ -137,7 +137,7 @@ fn write_instructions(words: &[u32], version: Version, text: &mut [u8], start: u
 // The head, which is the same in both forms.
 fn write_head(words: &[u32], text: &mut [u8]) -> usize
     requires { Sized words.now }
-    ensures wrote { Wrote text.old 0 (headText words.now) text.new result }
+    ensures wrote { Wrote text.old 0 (head_text words.now) text.new result }
     ensures upper_bound { result ≤ 7929920 }
 {
     write_part(
@@ -156,7 +156,7 @@ fn write_head(words: &[u32], text: &mut [u8]) -> usize
 fn write_rest(words: &[u32], text: &mut [u8], start: usize) -> usize
     requires sized { Sized words.now }
     requires start_bound { start + 23789760 < 2 ^ 64 }
-    ensures { Wrote text.old start (restText words.now) text.new result }
+    ensures { Wrote text.old start (rest_text words.now) text.new result }
 {
     let cases = cases_begin(words) as usize;
     let places = places_begin(words) as usize;
@@ -196,7 +196,7 @@ fn write_rest(words: &[u32], text: &mut [u8], start: usize) -> usize
 // The six tables of the words in a form.
 pub fn write_tables(words: &[u32], version: Version, text: &mut [u8]) -> usize
     requires { Sized words.now }
-    ensures { Wrote text.old 0 (textIn (layout New) (layout version) words.now) text.new result }
+    ensures { Wrote text.old 0 (text_in (layout New) (layout version) words.now) text.new result }
 {
     let head = write_head(words, text);
     let blocks = write_blocks(words, version, text, head);

@@ -6,51 +6,51 @@ use Prim.Native.Nat.{ℕ, ◌+◌}
 use native.Mathlib.Omega.{arith}
 use mathlib.Core.Bool.{Bool, true, false}
 use mathlib.Core.List.{List, [], ◌∷◌, ◌++◌}
-use Rattle.table.specs.Words.{word, entryWord, blockCount, instructionCount, caseCount, placeCount, identifierCount, blocksBegin, instructionsBegin, casesBegin}
-use Rattle.table.specs.Words.{placesBegin, identifiersBegin, wordsNeeded, blockWord, instructionWord, caseWord, placeWord, identifierWord}
-use Rattle.table.specs.Table.{unlessNone, variant_of, terminalOf, block_of, operationOf, instructionOf, case_of, tabulate, Table, table_of}
-use Rattle.table.specs.Check.{fits, block, block-or-none, place, place-or-none, terminalRules, blockRules, operandRules, instructionRules, caseRules}
-use Rattle.table.specs.Check.{placeRules, identifierRules, and_then, rowVerdict, rowsVerdict, wordsVerdict, countsVerdict, checked}
-use Rattle.definition.specs.Result.{◌>>=◌, refuseIf}
-use Rattle.definition.specs.Context.{noFlags, has, add, remove, start, isScheduled, emit, withVisits, markScopeFallthrough, scheduleCatchHandler, pushed}
-use Rattle.definition.specs.Context.{schedule, unscheduledBy, popped, unscheduleTop, unschedule, breakKind, breakTargetFrom, getBreakTarget, continueKind}
-use Rattle.definition.specs.Context.{continueTargetFrom, getContinueTarget}
-use Rattle.definition.specs.Value.{beginVisit, instructionsOf, wrapWithSequence, finalValue, finalPlace, storedToNamed, allButLast, last}
-use Rattle.definition.specs.Value.{extractValueBlockResult, extractOrRefuse, testBlockEnded, visitTestBlock, visitValueBlockTerminal, thenFallthrough}
-use Rattle.definition.specs.Value.{branchValue, isEmptyGoto, maybeThrowValue, visitValueBlockAt, visitValueBlock, appended, sameIdentifier, unlessSame}
-use Rattle.definition.specs.Value.{valueBlockResultToSequence}
-use Rattle.definition.specs.Statement.{enterBlock, unlessScheduled, unlessUnreachable, scheduleIf, scheduleSwitch, unscheduleIf, markScopeFallthroughIf}
-use Rattle.definition.specs.Statement.{breakToScope, breakResolved, visitBreak, continueResolved, visitContinue, visitGoto, traverseUnscheduled}
-use Rattle.definition.specs.Statement.{traverseAlternate, traverseConsequent, traverseEnclosed, loopIsTaken, traverseLoop, visitUpdate, casesLastFirst}
-use Rattle.definition.specs.Statement.{traverseCases, unscheduleAll, visitValueStatement, visitTerminal, instructionStatements, thenNext, visitBlock}
-use Rattle.definition.specs.Statement.{traverseBlock, buildTree}
-use Rattle.definition.specs.Around.{Rule, rust, language, switchInside, kindBy, breakKindIn, isLabel, namesStatement, namesLoop, unnamed, breakUnnamed, continueUnnamed}
-use Rattle.definition.specs.Index.{inList, lines, lineWords}
-use Rattle.definition.specs.Build.{reported, report, refusal, words_of, placed, outcomeOf, afterCheck, built}
+use Rattle.table.specs.Words.{word, entry_word, block_count, instruction_count, case_count, place_count, identifier_count, blocks_begin, instructions_begin, cases_begin}
+use Rattle.table.specs.Words.{places_begin, identifiers_begin, words_needed, block_word, instruction_word, case_word, place_word, identifier_word}
+use Rattle.table.specs.Table.{unless_none, variant_of, terminal_of, block_of, operation_of, instruction_of, case_of, tabulate, Table, table_of}
+use Rattle.table.specs.Check.{fits, block, block_or_none, place, place_or_none, terminal_rules, block_rules, operand_rules, instruction_rules, case_rules}
+use Rattle.table.specs.Check.{place_rules, identifier_rules, and_then, row_verdict, rows_verdict, words_verdict, counts_verdict, checked}
+use Rattle.definition.specs.Result.{◌>>=◌, refuse_if}
+use Rattle.definition.specs.Context.{no_flags, has, add, remove, start, is_scheduled, emit, with_visits, mark_scope_fallthrough, schedule_catch_handler, pushed}
+use Rattle.definition.specs.Context.{schedule, unscheduled_by, popped, unschedule_top, unschedule, break_kind, break_target_from, get_break_target, continue_kind}
+use Rattle.definition.specs.Context.{continue_target_from, get_continue_target}
+use Rattle.definition.specs.Value.{begin_visit, instructions_of, wrap_with_sequence, final_value, final_place, stored_to_named, all_but_last, last}
+use Rattle.definition.specs.Value.{extract_value_block_result, extract_or_refuse, test_block_ended, visit_test_block, visit_value_block_terminal, then_fallthrough}
+use Rattle.definition.specs.Value.{branch_value, is_empty_goto, maybe_throw_value, visit_value_block_at, visit_value_block, appended, same_identifier, unless_same}
+use Rattle.definition.specs.Value.{value_block_result_to_sequence}
+use Rattle.definition.specs.Statement.{enter_block, unless_scheduled, unless_unreachable, schedule_if, schedule_switch, unschedule_if, mark_scope_fallthrough_if}
+use Rattle.definition.specs.Statement.{break_to_scope, break_resolved, visit_break, continue_resolved, visit_continue, visit_goto, traverse_unscheduled}
+use Rattle.definition.specs.Statement.{traverse_alternate, traverse_consequent, traverse_enclosed, loop_is_taken, traverse_loop, visit_update, cases_last_first}
+use Rattle.definition.specs.Statement.{traverse_cases, unschedule_all, visit_value_statement, visit_terminal, instruction_statements, then_next, visit_block}
+use Rattle.definition.specs.Statement.{traverse_block, build_tree}
+use Rattle.definition.specs.Around.{Rule, rust, language, is_switch_inside, kind_by, break_kind_in, is_label, names_statement, names_loop, unnamed, break_unnamed, continue_unnamed}
+use Rattle.definition.specs.Index.{in_list, lines, line_words}
+use Rattle.definition.specs.Build.{reported, report, refusal, words_of, placed, outcome_of, after_check, built}
 use Rattle.definition.specs.Tree.{Statements, done}
 use Rattle.definition.specs.Result.{Result, ok, refused}
 use Rattle.definition.specs.Statement.{BlockResult}
-use Rattle.definition.specs.Run.{Answers, Reason, returned, threw, no-answer-left, not_plain, no_target, end-of-tree, no-such-case, Run, unfinished, stopped}
-use Rattle.definition.specs.BlockRun.{move, byAnswer, case_list, at_place, byPlace, performing, blockRun}
-use Rattle.definition.specs.Completion.{loopContinues, breakable, labelled}
-use Rattle.definition.specs.TreeRun.{completed, completing, prefix, thenOn, then, choose, afterBody, whileRounds, whileLoop, loop, switchEnds, entry_at}
-use Rattle.definition.specs.TreeRun.{choosePlace, jumpCompletion, runStatement, reasonOf, treeRun}
-use Rattle.definition.specs.Plain.{paper-01, with-switch, Plain}
+use Rattle.definition.specs.Run.{Answers, Reason, returned, threw, no_answer_left, not_plain, no_target, end_of_tree, no_such_case, Run, unfinished, stopped}
+use Rattle.definition.specs.BlockRun.{move, by_answer, case_list, at_place, by_place, performing, block_run}
+use Rattle.definition.specs.Completion.{loop_continues, breakable, labelled}
+use Rattle.definition.specs.TreeRun.{completed, completing, prefix, then_on, then, choose, after_body, while_rounds, while_loop, loop, switch_ends, entry_at}
+use Rattle.definition.specs.TreeRun.{choose_place, jump_completion, run_statement, reason_of, tree_run}
+use Rattle.definition.specs.Plain.{paper_01, with_switch, Plain}
 use Rattle.definition.specs.RunLaw.{Agree, RunLaw, Spoken, SwitchLaw}
 use Rattle.definition.specs.PlainTest.{is_plain}
-use Rattle.definition.proofs.PlainTest.{is-plain}
-use Rattle.definition.proofs.Accepted.{Accepted, accepted-of}
-use Rattle.definition.proofs.Steps.{true-false}
-use Rattle.definition.proofs.Law.{more-steps, spoken-of, tree-is-built, run-law, switch-law}
+use Rattle.definition.proofs.PlainTest.{is_plain_lem}
+use Rattle.definition.proofs.Accepted.{Accepted, accepted_of}
+use Rattle.definition.proofs.Steps.{true_false}
+use Rattle.definition.proofs.Law.{more_steps, spoken_of, tree_is_built, run_law, switch_law}
 use Rattle.definition.specs.Examples.{block_row, W, loops, picks}
 
 -- ---- plain
 
-all_plain : Plain paper-01 (table_of W) × Plain paper-01 (table_of loops) × Plain with-switch (table_of picks)
-unfolding word entryWord blockCount instructionCount caseCount placeCount identifierCount blocksBegin instructionsBegin casesBegin placesBegin identifiersBegin
-    blockWord instructionWord caseWord placeWord identifierWord unlessNone variant_of terminalOf block_of operationOf instructionOf case_of tabulate table_of
+all_plain : Plain paper_01 (table_of W) × Plain paper_01 (table_of loops) × Plain with_switch (table_of picks)
+unfolding word entry_word block_count instruction_count case_count place_count identifier_count blocks_begin instructions_begin cases_begin places_begin identifiers_begin
+    block_word instruction_word case_word place_word identifier_word unless_none variant_of terminal_of block_of operation_of instruction_of case_of tabulate table_of
     case_list
-all_plain = (is-plain (table_of W) paper-01 refl, is-plain (table_of loops) paper-01 refl, is-plain (table_of picks) with-switch refl)
+all_plain = (is_plain_lem (table_of W) paper_01 refl, is_plain_lem (table_of loops) paper_01 refl, is_plain_lem (table_of picks) with_switch refl)
 
 -- ---- the edges of M-113's conditions
 
@@ -70,22 +70,22 @@ edge second ft leads code a b c d =
     ++ (0 ∷ 5 ∷ 0 ∷ second ∷ 0 ∷ 4 ∷ 0 ∷ 1 ∷ [])))))))))
 
 abbrev Edge : (second ft leads code a b c d : ℕ) → Bool → Type 0
-Edge second ft leads code a b c d plain = is_plain (table_of (edge second ft leads code a b c d)) with-switch ≡ plain
+Edge second ft leads code a b c d plain = is_plain (table_of (edge second ft leads code a b c d)) with_switch ≡ plain
 
 -- plain with switches, and not as paper 01 has it; still so with a case that is the entry, or a second Switch, which nothing reaches, over the same case
-within-edges : Edge 6 4 3 0 0 0 0 0 true × (is_plain (table_of (edge 6 4 3 0 0 0 0 0)) paper-01 ≡ false) × Edge 0 4 3 0 0 0 0 0 true × Edge 6 4 3 7 0 1 1 7 true
-unfolding word entryWord blockCount instructionCount caseCount placeCount identifierCount blocksBegin instructionsBegin casesBegin placesBegin identifiersBegin
-    blockWord instructionWord caseWord placeWord identifierWord unlessNone variant_of terminalOf block_of operationOf instructionOf case_of tabulate table_of case_list
-within-edges = (refl, refl, refl, refl)
+within_edges : Edge 6 4 3 0 0 0 0 0 true × (is_plain (table_of (edge 6 4 3 0 0 0 0 0)) paper_01 ≡ false) × Edge 0 4 3 0 0 0 0 0 true × Edge 6 4 3 7 0 1 1 7 true
+unfolding word entry_word block_count instruction_count case_count place_count identifier_count blocks_begin instructions_begin cases_begin places_begin identifiers_begin
+    block_word instruction_word case_word place_word identifier_word unless_none variant_of terminal_of block_of operation_of instruction_of case_of tabulate table_of case_list
+within_edges = (refl, refl, refl, refl)
 
 -- one change each that spoils it: the second case is the first; the Switch's fallthrough; the loop's; its loop block; its test; a Goto to a case; one that nothing reaches;
 -- the Switch's fallthrough is a test; an Unreachable that nothing reaches; a second Switch whose case is a fallthrough
-beyond-edges :
+beyond_edges :
     Edge 5 4 3 0 0 0 0 0 false × Edge 4 4 3 0 0 0 0 0 false × Edge 3 4 3 0 0 0 0 0 false × Edge 2 4 3 0 0 0 0 0 false × Edge 1 4 3 0 0 0 0 0 false
     × Edge 6 4 6 0 0 0 0 0 false × Edge 6 4 3 4 5 0 0 0 false × Edge 6 1 3 0 0 0 0 0 false × Edge 6 4 3 1 0 0 0 0 false × Edge 6 4 3 7 0 2 1 7 false
-unfolding word entryWord blockCount instructionCount caseCount placeCount identifierCount blocksBegin instructionsBegin casesBegin placesBegin identifiersBegin
-    blockWord instructionWord caseWord placeWord identifierWord unlessNone variant_of terminalOf block_of operationOf instructionOf case_of tabulate table_of case_list
-beyond-edges = (refl, refl, refl, refl, refl, refl, refl, refl, refl, refl)
+unfolding word entry_word block_count instruction_count case_count place_count identifier_count blocks_begin instructions_begin cases_begin places_begin identifiers_begin
+    block_word instruction_word case_word place_word identifier_word unless_none variant_of terminal_of block_of operation_of instruction_of case_of tabulate table_of case_list
+beyond_edges = (refl, refl, refl, refl, refl, refl, refl, refl, refl, refl)
 
 -- ---- the runs, by computation
 
@@ -96,13 +96,13 @@ tree_of (refused code at visits) = done
 
 -- over these answers, both runs
 abbrev pub Both : Rule → (words : List ℕ) → Answers → Run → Type 0
-Both rule words answers run = (blockRun (table_of words) 40 (table_of words).entry answers ≡ run) × (treeRun (tree_of (buildTree rule (table_of words))) answers ≡ run)
+Both rule words answers run = (block_run (table_of words) 40 (table_of words).entry answers ≡ run) × (tree_run (tree_of (build_tree rule (table_of words))) answers ≡ run)
 
 abbrev WRuns : Rule → Type 0
 WRuns rule =
     Both rule W (1 ∷ 7 ∷ 0 ∷ []) (stopped (0 ∷ 1 ∷ 2 ∷ 3 ∷ 1 ∷ 2 ∷ 3 ∷ 1 ∷ 2 ∷ 4 ∷ []) [] (returned 0 4))
     × Both rule W (0 ∷ 1 ∷ 1 ∷ []) (stopped (0 ∷ 1 ∷ 2 ∷ 4 ∷ []) (1 ∷ 1 ∷ []) (returned 0 4))
-    × Both rule W (1 ∷ []) (stopped (0 ∷ 1 ∷ 2 ∷ 3 ∷ 1 ∷ 2 ∷ []) [] no-answer-left)
+    × Both rule W (1 ∷ []) (stopped (0 ∷ 1 ∷ 2 ∷ 3 ∷ 1 ∷ 2 ∷ []) [] no_answer_left)
 
 -- yes, yes, yes: the outer loop is continued from the inner; then its inner loop ends, and then the outer
 abbrev LoopsRun : Rule → Type 0
@@ -115,85 +115,85 @@ abbrev PicksRun : Rule → Type 0
 PicksRun language =
     Both language picks (1 ∷ 0 ∷ 1 ∷ 2 ∷ 1 ∷ 1 ∷ 5 ∷ []) (stopped (0 ∷ 1 ∷ 2 ∷ 4 ∷ 7 ∷ 1 ∷ 2 ∷ 6 ∷ 1 ∷ 2 ∷ 5 ∷ 3 ∷ []) (5 ∷ []) (returned 0 4))
     × Both language picks (1 ∷ 1 ∷ []) (stopped (0 ∷ 1 ∷ 2 ∷ 5 ∷ 3 ∷ []) [] (returned 0 4))
-    × Both language picks (1 ∷ 2 ∷ 1 ∷ []) (stopped (0 ∷ 1 ∷ 2 ∷ 6 ∷ 1 ∷ 2 ∷ []) [] no-answer-left)
-    × (blockRun (table_of picks) 40 (table_of picks).entry (1 ∷ 3 ∷ []) ≡ stopped (0 ∷ 1 ∷ 2 ∷ []) (3 ∷ []) no-such-case)
+    × Both language picks (1 ∷ 2 ∷ 1 ∷ []) (stopped (0 ∷ 1 ∷ 2 ∷ 6 ∷ 1 ∷ 2 ∷ []) [] no_answer_left)
+    × (block_run (table_of picks) 40 (table_of picks).entry (1 ∷ 3 ∷ []) ≡ stopped (0 ∷ 1 ∷ 2 ∷ []) (3 ∷ []) no_such_case)
 PicksRun rust =
-    (blockRun (table_of picks) 40 (table_of picks).entry (1 ∷ 1 ∷ []) ≡ stopped (0 ∷ 1 ∷ 2 ∷ 5 ∷ 3 ∷ []) [] (returned 0 4))
-    × (treeRun (tree_of (buildTree rust (table_of picks))) (1 ∷ 1 ∷ []) ≡ stopped (0 ∷ 1 ∷ 2 ∷ 5 ∷ 7 ∷ 1 ∷ []) [] no-answer-left)
+    (block_run (table_of picks) 40 (table_of picks).entry (1 ∷ 1 ∷ []) ≡ stopped (0 ∷ 1 ∷ 2 ∷ 5 ∷ 3 ∷ []) [] (returned 0 4))
+    × (tree_run (tree_of (build_tree rust (table_of picks))) (1 ∷ 1 ∷ []) ≡ stopped (0 ∷ 1 ∷ 2 ∷ 5 ∷ 7 ∷ 1 ∷ []) [] no_answer_left)
 
 abbrev AllAccepted : Rule → Type 0
 AllAccepted rule = ((built rule W 600 300).code ≡ 0) × ((built rule loops 600 300).code ≡ 0) × ((built rule picks 900 300).code ≡ 0)
 
 -- what computation shows: the runs, and that the tables are accepted
 computed : (rule : Rule) → WRuns rule × LoopsRun rule × PicksRun rule × AllAccepted rule
-unfolding word entryWord blockCount instructionCount caseCount placeCount identifierCount blocksBegin instructionsBegin casesBegin placesBegin identifiersBegin
-    wordsNeeded blockWord instructionWord caseWord placeWord identifierWord unlessNone variant_of terminalOf block_of operationOf instructionOf case_of tabulate
-    table_of fits block block-or-none place place-or-none terminalRules blockRules operandRules instructionRules caseRules placeRules identifierRules and_then
-    rowVerdict rowsVerdict wordsVerdict countsVerdict checked ◌>>=◌ refuseIf noFlags has add remove start isScheduled emit withVisits markScopeFallthrough
-    scheduleCatchHandler pushed schedule unscheduledBy popped unscheduleTop unschedule breakKind breakTargetFrom getBreakTarget continueKind continueTargetFrom
-    getContinueTarget beginVisit instructionsOf wrapWithSequence finalValue finalPlace storedToNamed allButLast last extractValueBlockResult extractOrRefuse
-    testBlockEnded visitTestBlock visitValueBlockTerminal thenFallthrough branchValue isEmptyGoto maybeThrowValue visitValueBlockAt visitValueBlock appended
-    sameIdentifier unlessSame valueBlockResultToSequence enterBlock unlessScheduled unlessUnreachable scheduleIf scheduleSwitch unscheduleIf
-    markScopeFallthroughIf switchInside kindBy breakKindIn isLabel namesStatement namesLoop unnamed breakUnnamed continueUnnamed breakToScope breakResolved
-    visitBreak continueResolved visitContinue visitGoto traverseUnscheduled traverseAlternate
-    traverseConsequent traverseEnclosed loopIsTaken traverseLoop visitUpdate casesLastFirst traverseCases unscheduleAll visitValueStatement visitTerminal
-    instructionStatements thenNext visitBlock traverseBlock buildTree reported report refusal words_of inList lines lineWords placed outcomeOf afterCheck built performing move byAnswer
-    case_list at_place byPlace blockRun loopContinues breakable labelled completed completing prefix thenOn then choose afterBody whileRounds whileLoop loop
-    switchEnds entry_at choosePlace jumpCompletion runStatement reasonOf treeRun
+unfolding word entry_word block_count instruction_count case_count place_count identifier_count blocks_begin instructions_begin cases_begin places_begin identifiers_begin
+    words_needed block_word instruction_word case_word place_word identifier_word unless_none variant_of terminal_of block_of operation_of instruction_of case_of tabulate
+    table_of fits block block_or_none place place_or_none terminal_rules block_rules operand_rules instruction_rules case_rules place_rules identifier_rules and_then
+    row_verdict rows_verdict words_verdict counts_verdict checked ◌>>=◌ refuse_if no_flags has add remove start is_scheduled emit with_visits mark_scope_fallthrough
+    schedule_catch_handler pushed schedule unscheduled_by popped unschedule_top unschedule break_kind break_target_from get_break_target continue_kind continue_target_from
+    get_continue_target begin_visit instructions_of wrap_with_sequence final_value final_place stored_to_named all_but_last last extract_value_block_result extract_or_refuse
+    test_block_ended visit_test_block visit_value_block_terminal then_fallthrough branch_value is_empty_goto maybe_throw_value visit_value_block_at visit_value_block appended
+    same_identifier unless_same value_block_result_to_sequence enter_block unless_scheduled unless_unreachable schedule_if schedule_switch unschedule_if
+    mark_scope_fallthrough_if is_switch_inside kind_by break_kind_in is_label names_statement names_loop unnamed break_unnamed continue_unnamed break_to_scope break_resolved
+    visit_break continue_resolved visit_continue visit_goto traverse_unscheduled traverse_alternate
+    traverse_consequent traverse_enclosed loop_is_taken traverse_loop visit_update cases_last_first traverse_cases unschedule_all visit_value_statement visit_terminal
+    instruction_statements then_next visit_block traverse_block build_tree reported report refusal words_of in_list lines line_words placed outcome_of after_check built performing move by_answer
+    case_list at_place by_place block_run loop_continues breakable labelled completed completing prefix then_on then choose after_body while_rounds while_loop loop
+    switch_ends entry_at choose_place jump_completion run_statement reason_of tree_run
 computed rust = (((refl, refl), (refl, refl), (refl, refl)), (refl, refl), (refl, refl), (refl, refl, refl))
 computed language = (((refl, refl), (refl, refl), (refl, refl)), (refl, refl), ((refl, refl), (refl, refl), (refl, refl), refl), (refl, refl, refl))
 
 -- ---- the law
 
 pub W-law : (rule : Rule) → RunLaw W (built rule W 600 300)
-W-law rule = run-law rule W 600 300 (computed rule).3.0 all_plain.0
+W-law rule = run_law rule W 600 300 (computed rule).3.0 all_plain.0
 
-pub loops-law : (rule : Rule) → RunLaw loops (built rule loops 600 300)
-loops-law rule = run-law rule loops 600 300 (computed rule).3.1 all_plain.1
+pub loops_law : (rule : Rule) → RunLaw loops (built rule loops 600 300)
+loops_law rule = run_law rule loops 600 300 (computed rule).3.1 all_plain.1
 
-pub picks-law : SwitchLaw picks (built language picks 900 300)
-picks-law = switch-law picks 900 300 (computed language).3.2 all_plain.2
+pub picks_law : SwitchLaw picks (built language picks 900 300)
+picks_law = switch_law picks 900 300 (computed language).3.2 all_plain.2
 
 -- the three lists are spoken of, so that the law says something of each
-picks-spoken : Spoken (table_of picks) (1 ∷ 0 ∷ 1 ∷ 2 ∷ 1 ∷ 1 ∷ 5 ∷ []) × Spoken (table_of picks) (1 ∷ 1 ∷ []) × Spoken (table_of picks) (1 ∷ 2 ∷ 1 ∷ [])
-picks-spoken = (
-  spoken-of (table_of picks) (1 ∷ 0 ∷ 1 ∷ 2 ∷ 1 ∷ 1 ∷ 5 ∷ []) 40 (0 ∷ 1 ∷ 2 ∷ 4 ∷ 7 ∷ 1 ∷ 2 ∷ 6 ∷ 1 ∷ 2 ∷ 5 ∷ 3 ∷ []) (5 ∷ []) (returned 0 4) (computed language).2.0.0 refl,
-  spoken-of (table_of picks) (1 ∷ 1 ∷ []) 40 (0 ∷ 1 ∷ 2 ∷ 5 ∷ 3 ∷ []) [] (returned 0 4) (computed language).2.1.0 refl,
-  spoken-of (table_of picks) (1 ∷ 2 ∷ 1 ∷ []) 40 (0 ∷ 1 ∷ 2 ∷ 6 ∷ 1 ∷ 2 ∷ []) [] no-answer-left (computed language).2.2.0 refl,
+picks_spoken : Spoken (table_of picks) (1 ∷ 0 ∷ 1 ∷ 2 ∷ 1 ∷ 1 ∷ 5 ∷ []) × Spoken (table_of picks) (1 ∷ 1 ∷ []) × Spoken (table_of picks) (1 ∷ 2 ∷ 1 ∷ [])
+picks_spoken = (
+  spoken_of (table_of picks) (1 ∷ 0 ∷ 1 ∷ 2 ∷ 1 ∷ 1 ∷ 5 ∷ []) 40 (0 ∷ 1 ∷ 2 ∷ 4 ∷ 7 ∷ 1 ∷ 2 ∷ 6 ∷ 1 ∷ 2 ∷ 5 ∷ 3 ∷ []) (5 ∷ []) (returned 0 4) (computed language).2.0.0 refl,
+  spoken_of (table_of picks) (1 ∷ 1 ∷ []) 40 (0 ∷ 1 ∷ 2 ∷ 5 ∷ 3 ∷ []) [] (returned 0 4) (computed language).2.1.0 refl,
+  spoken_of (table_of picks) (1 ∷ 2 ∷ 1 ∷ []) 40 (0 ∷ 1 ∷ 2 ∷ 6 ∷ 1 ∷ 2 ∷ []) [] no_answer_left (computed language).2.2.0 refl,
 )
 
-picks_agree : Agree (table_of picks) picks-law.one.tree (1 ∷ 0 ∷ 1 ∷ 2 ∷ 1 ∷ 1 ∷ 5 ∷ [])
-picks_agree = picks-law.agree (1 ∷ 0 ∷ 1 ∷ 2 ∷ 1 ∷ 1 ∷ 5 ∷ []) picks-spoken.0
+picks_agree : Agree (table_of picks) picks_law.one.tree (1 ∷ 0 ∷ 1 ∷ 2 ∷ 1 ∷ 1 ∷ 5 ∷ [])
+picks_agree = picks_law.agree (1 ∷ 0 ∷ 1 ∷ 2 ∷ 1 ∷ 1 ∷ 5 ∷ []) picks_spoken.0
 
 -- ---- the first entry
 
 -- runs that agree stop alike
-pub stop-alike : (t : Table) (root : Statements) (answers : Answers) (n : ℕ) (run run' : Run) (performed : List ℕ) (left : Answers) (r : Reason) → run ≡ stopped performed left r
-    → Agree t root answers → blockRun t n t.entry answers ≡ run → treeRun root answers ≡ run' → run ≡ run'
-stop-alike t root answers n run run' performed left r k a e e' =
+pub stop_alike : (t : Table) (root : Statements) (answers : Answers) (n : ℕ) (run run' : Run) (performed : List ℕ) (left : Answers) (r : Reason) → run ≡ stopped performed left r
+    → Agree t root answers → block_run t n t.entry answers ≡ run → tree_run root answers ≡ run' → run ≡ run'
+stop_alike t root answers n run run' performed left r k a e e' =
     let q : n + a.steps ≡ a.steps + n = omega arith in
-    k ∙ sym (more-steps t a.steps n t.entry answers performed left r (e ∙ k)) ∙ ap (λ (m : ℕ). blockRun t m t.entry answers) (sym q) ∙ a.block_run n ∙ sym a.tree-run ∙ e'
+    k ∙ sym (more_steps t a.steps n t.entry answers performed left r (e ∙ k)) ∙ ap (λ (m : ℕ). block_run t m t.entry answers) (sym q) ∙ a.block_stops n ∙ sym a.tree_stops ∙ e'
 
 abbrev pub returns : Run → Bool
 returns unfinished = false
 returns (stopped performed left (returned value id)) = true
 returns (stopped performed left (threw value id)) = false
-returns (stopped performed left no-answer-left) = false
+returns (stopped performed left no_answer_left) = false
 returns (stopped performed left not_plain) = false
 returns (stopped performed left (no_target id)) = false
-returns (stopped performed left end-of-tree) = false
-returns (stopped performed left no-such-case) = false
+returns (stopped performed left end_of_tree) = false
+returns (stopped performed left no_such_case) = false
 
 -- whichever tree is in the buffer, it is the one that was built
-picks-tree : (law : SwitchLaw picks (built rust picks 900 300)) → law.one.tree ≡ tree_of (buildTree rust (table_of picks))
-picks-tree law =
-    let a : Accepted rust picks 900 300 = accepted-of rust picks 900 300 (computed rust).3.2 in
-    tree-is-built rust picks 900 300 a law.one ∙ sym (ap tree_of a.builds)
+picks_tree : (law : SwitchLaw picks (built rust picks 900 300)) → law.one.tree ≡ tree_of (build_tree rust (table_of picks))
+picks_tree law =
+    let a : Accepted rust picks 900 300 = accepted_of rust picks 900 300 (computed rust).3.2 in
+    tree_is_built rust picks 900 300 a law.one ∙ sym (ap tree_of a.builds)
 
 -- the table is plain with switches and accepted, and the law does not hold of what the first entry gave
-pub not-for-rust : SwitchLaw picks (built rust picks 900 300) → ⊥
-not-for-rust law =
-    true-false (ap returns (stop-alike (table_of picks) law.one.tree (1 ∷ 1 ∷ []) 40 (stopped (0 ∷ 1 ∷ 2 ∷ 5 ∷ 3 ∷ []) [] (returned 0 4))
-    (stopped (0 ∷ 1 ∷ 2 ∷ 5 ∷ 7 ∷ 1 ∷ []) [] no-answer-left) (0 ∷ 1 ∷ 2 ∷ 5 ∷ 3 ∷ []) [] (returned 0 4) refl
-    (law.agree (1 ∷ 1 ∷ []) picks-spoken.1) (computed rust).2.0
-    (ap (λ (s : Statements). treeRun s (1 ∷ 1 ∷ [])) (picks-tree law) ∙ (computed rust).2.1)))
+pub not_for_rust : SwitchLaw picks (built rust picks 900 300) → ⊥
+not_for_rust law =
+    true_false (ap returns (stop_alike (table_of picks) law.one.tree (1 ∷ 1 ∷ []) 40 (stopped (0 ∷ 1 ∷ 2 ∷ 5 ∷ 3 ∷ []) [] (returned 0 4))
+    (stopped (0 ∷ 1 ∷ 2 ∷ 5 ∷ 7 ∷ 1 ∷ []) [] no_answer_left) (0 ∷ 1 ∷ 2 ∷ 5 ∷ 3 ∷ []) [] (returned 0 4) refl
+    (law.agree (1 ∷ 1 ∷ []) picks_spoken.1) (computed rust).2.0
+    (ap (λ (s : Statements). tree_run s (1 ∷ 1 ∷ [])) (picks_tree law) ∙ (computed rust).2.1)))

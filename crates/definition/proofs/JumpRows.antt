@@ -4,71 +4,71 @@ use Prim.Native.Nat.{ℕ}
 use mathlib.Core.List.{List, [], ◌∷◌}
 use mathlib.Core.Option.{Option, none, some}
 use mathlib.Core.Bool.{Bool, true, false}
-use Rattle.definition.specs.Tree.{Value, PLAIN, LOAD, UNDEF, SEQ, LOGICAL, COND, OPTIONAL, Instructions, no-instructions, instruction, Statement, INSTR}
+use Rattle.definition.specs.Tree.{Value, PLAIN, LOAD, UNDEF, SEQ, LOGICAL, COND, OPTIONAL, Instructions, no_instructions, instruction, Statement, INSTR}
 use Rattle.definition.specs.Tree.{IF, SWITCH, DOWHILE, WHILE, FOR, FOROF, FORIN, LABEL, TRY, SCOPE, RETURN, THROW, BREAK, CONTINUE, Statements, done, ◌▸◌}
-use Rattle.definition.specs.Tree.{Cases, no_cases, CASE, Row, row, orNone, valueRows, instructionsRows, updateRows, statementRows, statementsRows}
-use Rattle.definition.specs.Tree.{blockRows, casesRows, rows}
+use Rattle.definition.specs.Tree.{Cases, no_cases, CASE, Row, row, or_none, value_rows, instructions_rows, update_rows, statement_rows, statements_rows}
+use Rattle.definition.specs.Tree.{block_rows, cases_rows, rows}
 use Rattle.definition.specs.Around.{Rule}
 use Rattle.definition.specs.Build.{built}
 use Rattle.definition.specs.Reading.{WellFormedStatement, WellFormed, WellFormedCases, JumpsWithin}
-use Rattle.definition.proofs.Law.{one-tree}
+use Rattle.definition.proofs.Law.{one_tree}
 
 -- values have no jump
 mutual
-  value-within : (v : Value) (after : List Row) → JumpsWithin after → JumpsWithin (valueRows v after)
-  value-within (PLAIN r) after h = (tt, h)
-  value-within (LOAD p) after h = (tt, h)
-  value-within (UNDEF s) after h = (tt, h)
-  value-within (SEQ is i v) after h = instructions-within is _ (value-within v _ (tt, h))
-  value-within (LOGICAL o x y) after h = value-within x _ (value-within y _ (tt, h))
-  value-within (COND t x y) after h = value-within t _ (value-within x _ (value-within y _ (tt, h)))
-  value-within (OPTIONAL f v) after h = value-within v _ (tt, h)
+  value_within : (v : Value) (after : List Row) → JumpsWithin after → JumpsWithin (value_rows v after)
+  value_within (PLAIN r) after h = (tt, h)
+  value_within (LOAD p) after h = (tt, h)
+  value_within (UNDEF s) after h = (tt, h)
+  value_within (SEQ is i v) after h = instructions_within is _ (value_within v _ (tt, h))
+  value_within (LOGICAL o x y) after h = value_within x _ (value_within y _ (tt, h))
+  value_within (COND t x y) after h = value_within t _ (value_within x _ (value_within y _ (tt, h)))
+  value_within (OPTIONAL f v) after h = value_within v _ (tt, h)
 
-  instructions-within : (is : Instructions) (after : List Row) → JumpsWithin after → JumpsWithin (instructionsRows is after)
-  instructions-within no-instructions after h = h
-  instructions-within (instruction i l s v rest) after h = value-within v _ (tt, instructions-within rest after h)
+  instructions_within : (is : Instructions) (after : List Row) → JumpsWithin after → JumpsWithin (instructions_rows is after)
+  instructions_within no_instructions after h = h
+  instructions_within (instruction i l s v rest) after h = value_within v _ (tt, instructions_within rest after h)
 
-update-within : (u : Option Value) (after : List Row) → JumpsWithin after → JumpsWithin (updateRows u after)
-update-within none after h = h
-update-within (some v) after h = value-within v after h
+update_within : (u : Option Value) (after : List Row) → JumpsWithin after → JumpsWithin (update_rows u after)
+update_within none after h = h
+update_within (some v) after h = value_within v after h
 
 mutual
   unfolding WellFormedStatement
 
-  statement-within : (s : Statement) (after : List Row) → WellFormedStatement s → JumpsWithin after → JumpsWithin (statementRows s after)
-  statement-within (INSTR i l s v) after w h = value-within v _ (tt, h)
-  statement-within (IF t i g c true a) after w h = block_within c _ w.1 (block_within a _ w.2 (tt, h))
-  statement-within (IF t i g c false a) after w h = block_within c _ w.1 (tt, h)
-  statement-within (SWITCH t i g cs) after w h = cases-within cs _ w.1 (tt, h)
-  statement-within (DOWHILE i g b t) after w h = block_within b _ w.1 (value-within t _ (tt, h))
-  statement-within (WHILE i g t b) after w h = value-within t _ (block_within b _ w.1 (tt, h))
-  statement-within (FOR i g n t u b) after w h = value-within n _ (value-within t _ (update-within u _ (block_within b _ w.1 (tt, h))))
-  statement-within (FOROF i g s n t b) after w h = value-within n _ (value-within t _ (block_within b _ w.1 (tt, h)))
-  statement-within (FORIN i g s n b) after w h = value-within n _ (block_within b _ w.1 (tt, h))
-  statement-within (LABEL i g b) after w h = block_within b _ w.1 (tt, h)
-  statement-within (TRY i g n b k) after w h = block_within b _ w.2 (block_within k _ w.3 (tt, h))
-  statement-within (SCOPE true n b) after w h = block_within b _ w (tt, h)
-  statement-within (SCOPE false n b) after w h = block_within b _ w (tt, h)
-  statement-within (RETURN v i) after w h = (tt, h)
-  statement-within (THROW v i) after w h = (tt, h)
-  statement-within (BREAK g i k l) after w h = (w, h)
-  statement-within (CONTINUE g i k l) after w h = (w, h)
+  statement_within : (s : Statement) (after : List Row) → WellFormedStatement s → JumpsWithin after → JumpsWithin (statement_rows s after)
+  statement_within (INSTR i l s v) after w h = value_within v _ (tt, h)
+  statement_within (IF t i g c true a) after w h = block_within c _ w.1 (block_within a _ w.2 (tt, h))
+  statement_within (IF t i g c false a) after w h = block_within c _ w.1 (tt, h)
+  statement_within (SWITCH t i g cs) after w h = cases_within cs _ w.1 (tt, h)
+  statement_within (DOWHILE i g b t) after w h = block_within b _ w.1 (value_within t _ (tt, h))
+  statement_within (WHILE i g t b) after w h = value_within t _ (block_within b _ w.1 (tt, h))
+  statement_within (FOR i g n t u b) after w h = value_within n _ (value_within t _ (update_within u _ (block_within b _ w.1 (tt, h))))
+  statement_within (FOROF i g s n t b) after w h = value_within n _ (value_within t _ (block_within b _ w.1 (tt, h)))
+  statement_within (FORIN i g s n b) after w h = value_within n _ (block_within b _ w.1 (tt, h))
+  statement_within (LABEL i g b) after w h = block_within b _ w.1 (tt, h)
+  statement_within (TRY i g n b k) after w h = block_within b _ w.2 (block_within k _ w.3 (tt, h))
+  statement_within (SCOPE true n b) after w h = block_within b _ w (tt, h)
+  statement_within (SCOPE false n b) after w h = block_within b _ w (tt, h)
+  statement_within (RETURN v i) after w h = (tt, h)
+  statement_within (THROW v i) after w h = (tt, h)
+  statement_within (BREAK g i k l) after w h = (w, h)
+  statement_within (CONTINUE g i k l) after w h = (w, h)
 
-  statements-within : (s : Statements) (after : List Row) → WellFormed s → JumpsWithin after → JumpsWithin (statementsRows s after)
-  statements-within done after w h = h
-  statements-within (s ▸ rest) after w h = statement-within s _ w.0 (statements-within rest after w.1 h)
+  statements_within : (s : Statements) (after : List Row) → WellFormed s → JumpsWithin after → JumpsWithin (statements_rows s after)
+  statements_within done after w h = h
+  statements_within (s ▸ rest) after w h = statement_within s _ w.0 (statements_within rest after w.1 h)
 
-  block_within : (s : Statements) (after : List Row) → WellFormed s → JumpsWithin after → JumpsWithin (blockRows s after)
+  block_within : (s : Statements) (after : List Row) → WellFormed s → JumpsWithin after → JumpsWithin (block_rows s after)
   block_within done after w h = (tt, h)
-  block_within (s ▸ rest) after w h = statement-within s _ w.0 (statements-within rest _ w.1 (tt, h))
+  block_within (s ▸ rest) after w h = statement_within s _ w.0 (statements_within rest _ w.1 (tt, h))
 
-  cases-within : (cs : Cases) (after : List Row) → WellFormedCases cs → JumpsWithin after → JumpsWithin (casesRows cs after)
-  cases-within no_cases after w h = h
-  cases-within (CASE t b rest) after w h = block_within b _ w.0 (tt, cases-within rest after w.1 h)
+  cases_within : (cs : Cases) (after : List Row) → WellFormedCases cs → JumpsWithin after → JumpsWithin (cases_rows cs after)
+  cases_within no_cases after w h = h
+  cases_within (CASE t b rest) after w h = block_within b _ w.0 (tt, cases_within rest after w.1 h)
 
-pub rows-within : (root : Statements) → WellFormed root → JumpsWithin (rows root)
-rows-within root w = block_within root [] w tt
+pub rows_within : (root : Statements) → WellFormed root → JumpsWithin (rows root)
+rows_within root w = block_within root [] w tt
 
 -- the rows that the build makes
-pub built-within : (rule : Rule) (words : List ℕ) (lent lentIndex : ℕ) → (accepts : (built rule words lent lentIndex).code ≡ 0) → JumpsWithin (rows (one-tree rule words lent lentIndex accepts).tree)
-built-within rule words lent lentIndex accepts = rows-within _ (one-tree rule words lent lentIndex accepts).held.well-formed
+pub built_within : (rule : Rule) (words : List ℕ) (lent lent_index : ℕ) → (accepts : (built rule words lent lent_index).code ≡ 0) → JumpsWithin (rows (one_tree rule words lent lent_index accepts).tree)
+built_within rule words lent lent_index accepts = rows_within _ (one_tree rule words lent lent_index accepts).held.well_formed

@@ -9,52 +9,52 @@ use lib.ListN.{length, length-append}
 use Rattle.table.specs.Table.{Table}
 use Rattle.table.specs.declared.columns.Span.{Span}
 use Rattle.definition.specs.Around.{Around}
-use Rattle.definition.specs.Context.{has, Context, Resolution, getBreakTarget, getContinueTarget}
-use Rattle.definition.specs.Index.{label_of, rowsIn, Labelled, labelledBy, in_parts, inList, inCases, Line, line_of}
-use Rattle.definition.specs.Output.{Output, ◌⊕◌, lineOut, valueOut, updateOut, statementOut, instructionsOut, block_row, jumpOut, added, scopeRow}
-use Rattle.definition.specs.Statement.{breakToScope, breakResolved, visitBreak, continueResolved, visitContinue, instructionStatements, followedBy}
+use Rattle.definition.specs.Context.{has, Context, Resolution, get_break_target, get_continue_target}
+use Rattle.definition.specs.Index.{label_of, rows_in, Labelled, labelled_by, in_parts, in_list, in_cases, Line, line_of}
+use Rattle.definition.specs.Output.{Output, ◌⊕◌, line_out, value_out, update_out, statement_out, instructions_out, block_row, jump_out, added, scope_row}
+use Rattle.definition.specs.Statement.{break_to_scope, break_resolved, visit_break, continue_resolved, visit_continue, instruction_statements, followed_by}
 use Rattle.definition.specs.Tree.{Kind, implicit, labeled, unlabeled, Value, Statement, INSTR, IF, SWITCH, DOWHILE, WHILE, FOR, FOROF, FORIN, LABEL, TRY}
-use Rattle.definition.specs.Tree.{SCOPE, RETURN, THROW, Statements, done, Cases, no_cases, CASE, Row, row, valueRows, updateRows, statementRows}
-use Rattle.definition.specs.Tree.{blockRows, instrRow, forOfRow, forInRow, countStatements, countCases, orNone, updatePresent}
-use Rattle.definition.proofs.Steps.{Good, good-unless, good-pick}
-use Rattle.definition.proofs.Rows.{statementsOut, casesOut, blockOut, block_out, rows-if, rows-else, rows-do-while, rows-while, rows-for, rows-for-of}
-use Rattle.definition.proofs.Rows.{rows-for-in, rows-label, rows-try, rows_scope, rows-value, rows-single, rows-case, rows-switch, rows-chain}
+use Rattle.definition.specs.Tree.{SCOPE, RETURN, THROW, Statements, done, Cases, no_cases, CASE, Row, row, value_rows, update_rows, statement_rows}
+use Rattle.definition.specs.Tree.{block_rows, instr_row, for_of_row, for_in_row, count_statements, count_cases, or_none, update_present}
+use Rattle.definition.proofs.Steps.{Good, good_unless, good_pick}
+use Rattle.definition.proofs.Rows.{statements_out, cases_out, block_out, block_out_lem, rows_if, rows_else, rows_do_while, rows_while, rows_for, rows_for_of}
+use Rattle.definition.proofs.Rows.{rows_for_in, rows_label, rows_try, rows_scope, rows_value, rows_single, rows_case, rows_switch, rows_chain}
 
 -- ---- a part put out behind R: its rows, and the lines of what it has
 
-abbrev pub linesIn : ℕ → Statements → List Line
-linesIn first s = map line_of (inList first s)
+abbrev pub lines_in : ℕ → Statements → List Line
+lines_in first s = map line_of (in_list first s)
 
 abbrev pub lines_of : ℕ → Statement → List Line
-lines_of first s = map line_of (in_parts first s ++ labelledBy (label_of s) first s)
+lines_of first s = map line_of (in_parts first s ++ labelled_by (label_of s) first s)
 
-abbrev pub listPut : Output → Statements → Output
-listPut R s = record { rows = R.rows ++ statementsOut s; lines = R.lines ++ linesIn (length R.rows) s }
+abbrev pub list_put : Output → Statements → Output
+list_put R s = record { rows = R.rows ++ statements_out s; lines = R.lines ++ lines_in (length R.rows) s }
 
 -- a nested list and its BLOCK row
-abbrev pub blockPut : Output → Statements → Output
-blockPut R s = listPut R s ⊕ (block_row (countStatements s) ∷ [])
+abbrev pub block_put : Output → Statements → Output
+block_put R s = list_put R s ⊕ (block_row (count_statements s) ∷ [])
 
-abbrev pub casesPut : Output → Cases → Output
-casesPut R s = record { rows = R.rows ++ casesOut s; lines = R.lines ++ map line_of (inCases (length R.rows) s) }
+abbrev pub cases_put : Output → Cases → Output
+cases_put R s = record { rows = R.rows ++ cases_out s; lines = R.lines ++ map line_of (in_cases (length R.rows) s) }
 
-abbrev pub statementPut : Output → Statement → Output
-statementPut R s = record { rows = R.rows ++ statementOut s; lines = R.lines ++ lines_of (length R.rows) s }
+abbrev pub statement_put : Output → Statement → Output
+statement_put R s = record { rows = R.rows ++ statement_out s; lines = R.lines ++ lines_of (length R.rows) s }
 
 -- a terminal's statement, if it has one
-abbrev pub stepPut : Output → Option Statement → Output
-stepPut R none = R ⊕ []
-stepPut R (some s) = statementPut R s
+abbrev pub step_put : Output → Option Statement → Output
+step_put R none = R ⊕ []
+step_put R (some s) = statement_put R s
 
-pub output-eq : {R S : Output} → R.rows ≡ S.rows → R.lines ≡ S.lines → R ≡ S
-output-eq {R} {S} e f = ap (λ (z : List Row). record { rows = z; lines = R.lines }) e ∙ ap (λ (z : List Line). record { rows = S.rows; lines = z }) f
+pub output_eq : {R S : Output} → R.rows ≡ S.rows → R.lines ≡ S.lines → R ≡ S
+output_eq {R} {S} e f = ap (λ (z : List Row). record { rows = z; lines = R.lines }) e ∙ ap (λ (z : List Line). record { rows = S.rows; lines = z }) f
 
 -- no rows more, and rows behind rows
-pub out-nil : (R : Output) → R ⊕ [] ≡ R
-out-nil R = output-eq (append-nil R.rows) refl
+pub out_nil : (R : Output) → R ⊕ [] ≡ R
+out_nil R = output_eq (append-nil R.rows) refl
 
-pub out-assoc : (R : Output) (a b : List Row) → (R ⊕ a) ⊕ b ≡ R ⊕ (a ++ b)
-out-assoc R a b = output-eq (append_assoc R.rows a b) refl
+pub out_assoc : (R : Output) (a b : List Row) → (R ⊕ a) ⊕ b ≡ R ⊕ (a ++ b)
+out_assoc R a b = output_eq (append_assoc R.rows a b) refl
 
 -- ---- a statement with no line
 
@@ -65,208 +65,208 @@ abbrev pub UnlinedStep : Option Statement → Type 0
 UnlinedStep none = Unit {0}
 UnlinedStep (some s) = Unlined s
 
-pub unlined-none : (s : Statement) → Unlined s → (n : ℕ) → in_parts n s ++ labelledBy (label_of s) n s ≡ []
-unlined-none s u n = ap (λ (z : List Labelled). z ++ labelledBy (label_of s) n s) (u.1 n) ∙ ap (λ (g : Option ℕ). labelledBy g n s) u.0
+pub unlined_none : (s : Statement) → Unlined s → (n : ℕ) → in_parts n s ++ labelled_by (label_of s) n s ≡ []
+unlined_none s u n = ap (λ (z : List Labelled). z ++ labelled_by (label_of s) n s) (u.1 n) ∙ ap (λ (g : Option ℕ). labelled_by g n s) u.0
 
-pub break-unlined : (o : Around) (at b i : ℕ) (c : Context) → Good UnlinedStep (visitBreak o at b i c)
-unfolding visitBreak
-break-unlined o at b i c = by (getBreakTarget c b)
+pub break_unlined : (o : Around) (at b i : ℕ) (c : Context) → Good UnlinedStep (visit_break o at b i c)
+unfolding visit_break
+break_unlined o at b i c = by (get_break_target c b)
   where
-    scope-unlined : (k : Kind) → Good UnlinedStep (breakToScope k at c.visits)
-    scope-unlined implicit = unfold breakToScope in tt
-    scope-unlined labeled = unfold breakToScope in tt
-    scope-unlined unlabeled = unfold breakToScope in tt
+    scope_unlined : (k : Kind) → Good UnlinedStep (break_to_scope k at c.visits)
+    scope_unlined implicit = unfold break_to_scope in tt
+    scope_unlined labeled = unfold break_to_scope in tt
+    scope_unlined unlabeled = unfold break_to_scope in tt
 
-    by : (r : Option Resolution) → Good UnlinedStep (breakResolved o at b i c r)
-    by none = unfold breakResolved in tt
+    by : (r : Option Resolution) → Good UnlinedStep (break_resolved o at b i c r)
+    by none = unfold break_resolved in tt
     by (some r) =
-        unfold breakResolved inList in good-pick UnlinedStep (has c.scopeFallthroughs r.target) _ _ (scope-unlined r.kind)
-        (good-unless UnlinedStep _ 29 at c.visits _ (λ _. (refl, λ n. refl)))
+        unfold break_resolved in_list in good_pick UnlinedStep (has c.scope_fallthroughs r.target) _ _ (scope_unlined r.kind)
+        (good_unless UnlinedStep _ 29 at c.visits _ (λ _. (refl, λ n. refl)))
 
-pub continue-unlined : (o : Around) (at b i : ℕ) (c : Context) → Good Unlined (visitContinue o at b i c)
-unfolding visitContinue
-continue-unlined o at b i c = by (getContinueTarget c b)
+pub continue_unlined : (o : Around) (at b i : ℕ) (c : Context) → Good Unlined (visit_continue o at b i c)
+unfolding visit_continue
+continue_unlined o at b i c = by (get_continue_target c b)
   where
-    by : (r : Option Resolution) → Good Unlined (continueResolved o at b i c r)
-    by none = unfold continueResolved in tt
-    by (some r) = unfold continueResolved inList in good-unless Unlined _ 29 at c.visits _ (λ _. (refl, λ n. refl))
+    by : (r : Option Resolution) → Good Unlined (continue_resolved o at b i c r)
+    by none = unfold continue_resolved in tt
+    by (some r) = unfold continue_resolved in_list in good_unless Unlined _ 29 at c.visits _ (λ _. (refl, λ n. refl))
 
-pub unlined-put : (R : Output) (S : List Row) (s : Statement) → R.rows ++ S ≡ R.rows ++ statementOut s → Unlined s → R ⊕ S ≡ statementPut R s
-unlined-put R S s e u = output-eq e (sym (ap (λ (z : List Labelled). R.lines ++ map line_of z) (unlined-none s u (length R.rows)) ∙ append-nil R.lines))
+pub unlined_put : (R : Output) (S : List Row) (s : Statement) → R.rows ++ S ≡ R.rows ++ statement_out s → Unlined s → R ⊕ S ≡ statement_put R s
+unlined_put R S s e u = output_eq e (sym (ap (λ (z : List Labelled). R.lines ++ map line_of z) (unlined_none s u (length R.rows)) ∙ append-nil R.lines))
 
-pub unlined-step : (R : Output) (o : Option Statement) → UnlinedStep o → R ⊕ jumpOut o ≡ stepPut R o
-unlined-step R none u = refl
-unlined-step R (some s) u = unlined-put R (statementOut s) s refl u
+pub unlined_step : (R : Output) (o : Option Statement) → UnlinedStep o → R ⊕ jump_out o ≡ step_put R o
+unlined_step R none u = refl
+unlined_step R (some s) u = unlined_put R (statement_out s) s refl u
 
-pub instr-put : (R : Output) (i l : ℕ) (s : Span) (v : Value) → (R ⊕ valueOut v) ⊕ (instrRow i l s ∷ []) ≡ statementPut R (INSTR i l s v)
-unfolding inList
-instr-put R i l s v = output-eq (rows-value R.rows i l s v) (sym (append-nil R.lines))
+pub instr_put : (R : Output) (i l : ℕ) (s : Span) (v : Value) → (R ⊕ value_out v) ⊕ (instr_row i l s ∷ []) ≡ statement_put R (INSTR i l s v)
+unfolding in_list
+instr_put R i l s v = output_eq (rows_value R.rows i l s v) (sym (append-nil R.lines))
 
-pub throw-put : (R : Output) (v i : ℕ) → R ⊕ (row 23 v i 0 0 0 ∷ []) ≡ statementPut R (THROW v i)
-unfolding inList statementOut
-throw-put R v i = unlined-put R _ (THROW v i) refl (refl, λ n. refl)
+pub throw_put : (R : Output) (v i : ℕ) → R ⊕ (row 23 v i 0 0 0 ∷ []) ≡ statement_put R (THROW v i)
+unfolding in_list statement_out
+throw_put R v i = unlined_put R _ (THROW v i) refl (refl, λ n. refl)
 
-pub return-put : (R : Output) (v i : ℕ) → R ⊕ (row 22 v i 0 0 0 ∷ []) ≡ statementPut R (RETURN v i)
-unfolding inList statementOut
-return-put R v i = unlined-put R _ (RETURN v i) refl (refl, λ n. refl)
+pub return_put : (R : Output) (v i : ℕ) → R ⊕ (row 22 v i 0 0 0 ∷ []) ≡ statement_put R (RETURN v i)
+unfolding in_list statement_out
+return_put R v i = unlined_put R _ (RETURN v i) refl (refl, λ n. refl)
 
 -- ---- a statement is complete
 
 -- R was out when s began, and R₁ is before its closing row
 pub record Parts (R : Output) (s : Statement) (closing : Row) (R₁ : Output) : Type 0 where
-  pub rows : R₁.rows ++ (closing ∷ []) ≡ R.rows ++ statementOut s
+  pub rows : R₁.rows ++ (closing ∷ []) ≡ R.rows ++ statement_out s
   pub lines : R₁.lines ≡ R.lines ++ map line_of (in_parts (length R.rows) s)
 
 -- the line has the last of the statement's rows
-own_line : (R R₁ : Output) (s : Statement) (k : Row) → Parts R s k R₁ → (g : Option ℕ) → lineOut g (length R.rows) (length R₁.rows) ≡ map line_of (labelledBy g (length R.rows) s)
-unfolding statementOut
+own_line : (R R₁ : Output) (s : Statement) (k : Row) → Parts R s k R₁ → (g : Option ℕ) → line_out g (length R.rows) (length R₁.rows) ≡ map line_of (labelled_by g (length R.rows) s)
+unfolding statement_out
 own_line R R₁ s k p none = refl
 own_line R R₁ s k p (some f) = ap (λ (z : ℕ). record { label = f; first = length R.rows; closing = z } ∷ []) last
   where
-    both : length R₁.rows + 1 ≡ length R.rows + rowsIn (statementRows s)
-    both = sym (length-append R₁.rows (k ∷ [])) ∙ ap length p.rows ∙ length-append R.rows (statementRows s [])
+    both : length R₁.rows + 1 ≡ length R.rows + rows_in (statement_rows s)
+    both = sym (length-append R₁.rows (k ∷ [])) ∙ ap length p.rows ∙ length-append R.rows (statement_rows s [])
 
-    last : length R₁.rows ≡ (length R.rows + rowsIn (statementRows s)) - 1
+    last : length R₁.rows ≡ (length R.rows + rows_in (statement_rows s)) - 1
     last = omega (arith, both)
 
-pub close-put : (R R₁ : Output) (s : Statement) (k : Row) (g : Option ℕ) (first : ℕ) → Parts R s k R₁ → first ≡ length R.rows → g ≡ label_of s
-    → ◌≡◌ {A = Output} (record { rows = R₁.rows ++ (k ∷ []); lines = R₁.lines ++ lineOut g first (length R₁.rows) }) (statementPut R s)
-close-put R R₁ s k g first p e f = output-eq p.rows
-    (rw (e, f) (ap (λ (z : List Line). z ++ lineOut (label_of s) (length R.rows) (length R₁.rows)) p.lines
-    ∙ append_assoc R.lines (map line_of (in_parts (length R.rows) s)) (lineOut (label_of s) (length R.rows) (length R₁.rows))
+pub close_put : (R R₁ : Output) (s : Statement) (k : Row) (g : Option ℕ) (first : ℕ) → Parts R s k R₁ → first ≡ length R.rows → g ≡ label_of s
+    → ◌≡◌ {A = Output} (record { rows = R₁.rows ++ (k ∷ []); lines = R₁.lines ++ line_out g first (length R₁.rows) }) (statement_put R s)
+close_put R R₁ s k g first p e f = output_eq p.rows
+    (rw (e, f) (ap (λ (z : List Line). z ++ line_out (label_of s) (length R.rows) (length R₁.rows)) p.lines
+    ∙ append_assoc R.lines (map line_of (in_parts (length R.rows) s)) (line_out (label_of s) (length R.rows) (length R₁.rows))
     ∙ ap (λ (z : List Line). R.lines ++ (map line_of (in_parts (length R.rows) s) ++ z)) (own_line R R₁ s k p (label_of s))
-    ∙ ap (λ (z : List Line). R.lines ++ z) (sym (map-append line_of (in_parts (length R.rows) s) (labelledBy (label_of s) (length R.rows) s)))))
+    ∙ ap (λ (z : List Line). R.lines ++ z) (sym (map-append line_of (in_parts (length R.rows) s) (labelled_by (label_of s) (length R.rows) s)))))
 
 -- ---- where the parts begin
 
-block_size : (R : List Row) (s : Statements) → length (blockOut R s) ≡ length R + rowsIn (blockRows s)
-block_size R s = ap length (sym (append-nil (blockOut R s)) ∙ block_out R s []) ∙ length-append R (blockRows s [])
+block_size : (R : List Row) (s : Statements) → length (block_out R s) ≡ length R + rows_in (block_rows s)
+block_size R s = ap length (sym (append-nil (block_out R s)) ∙ block_out_lem R s []) ∙ length-append R (block_rows s [])
 
-value-size : (R : List Row) (v : Value) → length (R ++ valueOut v) ≡ length R + rowsIn (valueRows v)
-unfolding valueOut
-value-size R v = length-append R (valueRows v [])
+value_size : (R : List Row) (v : Value) → length (R ++ value_out v) ≡ length R + rows_in (value_rows v)
+unfolding value_out
+value_size R v = length-append R (value_rows v [])
 
-update-size : (R : List Row) (u : Option Value) → length (R ++ updateOut u) ≡ length R + rowsIn (updateRows u)
-unfolding updateOut
-update-size R none = length-append R []
-update-size R (some v) = value-size R v
+update_size : (R : List Row) (u : Option Value) → length (R ++ update_out u) ≡ length R + rows_in (update_rows u)
+unfolding update_out
+update_size R none = length-append R []
+update_size R (some v) = value_size R v
 
-moved : (L : List Line) (s : Statements) {m n : ℕ} → m ≡ n → L ++ linesIn m s ≡ L ++ linesIn n s
-moved L s e = ap (λ (z : ℕ). L ++ linesIn z s) e
+moved : (L : List Line) (s : Statements) {m n : ℕ} → m ≡ n → L ++ lines_in m s ≡ L ++ lines_in n s
+moved L s e = ap (λ (z : ℕ). L ++ lines_in z s) e
 
 joined : (L : List Line) (A B : List Labelled) → (L ++ map line_of A) ++ map line_of B ≡ L ++ map line_of (A ++ B)
 joined L A B = append_assoc L (map line_of A) (map line_of B) ∙ ap (λ (z : List Line). L ++ z) (sym (map-append line_of A B))
 
 -- ---- what the machine has put out before it closes a statement
 
-pub parts-if : (R : Output) (x id : ℕ) (g : Option ℕ) (c a : Statements) → Parts R (IF x id g c false a) (row 10 x 0 id (orNone g) 0) (blockPut R c)
-unfolding inList
-parts-if R x id g c a = record { rows = rows-if R.rows x id g c a; lines = refl }
+pub parts_if : (R : Output) (x id : ℕ) (g : Option ℕ) (c a : Statements) → Parts R (IF x id g c false a) (row 10 x 0 id (or_none g) 0) (block_put R c)
+unfolding in_list
+parts_if R x id g c a = record { rows = rows_if R.rows x id g c a; lines = refl }
 
-pub parts-else : (R : Output) (x id : ℕ) (g : Option ℕ) (c a : Statements) → Parts R (IF x id g c true a) (row 10 x 1 id (orNone g) 0) (blockPut (blockPut R c) a)
-unfolding inList
-parts-else R x id g c a = record {
-  rows = rows-else R.rows x id g c a;
-  lines = moved (R.lines ++ linesIn (length R.rows) c) a (block_size R.rows c) ∙ joined R.lines (inList (length R.rows) c) (inList (length R.rows + rowsIn (blockRows c)) a);
+pub parts_else : (R : Output) (x id : ℕ) (g : Option ℕ) (c a : Statements) → Parts R (IF x id g c true a) (row 10 x 1 id (or_none g) 0) (block_put (block_put R c) a)
+unfolding in_list
+parts_else R x id g c a = record {
+  rows = rows_else R.rows x id g c a;
+  lines = moved (R.lines ++ lines_in (length R.rows) c) a (block_size R.rows c) ∙ joined R.lines (in_list (length R.rows) c) (in_list (length R.rows + rows_in (block_rows c)) a);
 }
 
-pub parts-do-while : (R : Output) (id : ℕ) (g : Option ℕ) (b : Statements) (v : Value) → Parts R (DOWHILE id g b v) (row 13 id (orNone g) 0 0 0) (blockPut R b ⊕ valueOut v)
-unfolding inList
-parts-do-while R id g b v = record { rows = rows-do-while R.rows id g b v; lines = refl }
+pub parts_do_while : (R : Output) (id : ℕ) (g : Option ℕ) (b : Statements) (v : Value) → Parts R (DOWHILE id g b v) (row 13 id (or_none g) 0 0 0) (block_put R b ⊕ value_out v)
+unfolding in_list
+parts_do_while R id g b v = record { rows = rows_do_while R.rows id g b v; lines = refl }
 
-pub parts-while : (R : Output) (id : ℕ) (g : Option ℕ) (v : Value) (b : Statements) → Parts R (WHILE id g v b) (row 14 id (orNone g) 0 0 0) (blockPut (R ⊕ valueOut v) b)
-unfolding inList
-parts-while R id g v b = record { rows = rows-while R.rows id g v b; lines = moved R.lines b (value-size R.rows v) }
+pub parts_while : (R : Output) (id : ℕ) (g : Option ℕ) (v : Value) (b : Statements) → Parts R (WHILE id g v b) (row 14 id (or_none g) 0 0 0) (block_put (R ⊕ value_out v) b)
+unfolding in_list
+parts_while R id g v b = record { rows = rows_while R.rows id g v b; lines = moved R.lines b (value_size R.rows v) }
 
-pub parts-for : (R : Output) (id : ℕ) (g : Option ℕ) (n v : Value) (u : Option Value) (b : Statements)
-    → Parts R (FOR id g n v u b) (row 15 id (orNone g) (updatePresent u) 0 0) (blockPut (((R ⊕ valueOut n) ⊕ valueOut v) ⊕ updateOut u) b)
-unfolding inList
-parts-for R id g n v u b = record {
-  rows = rows-for R.rows id g n v u b;
-  lines = moved R.lines b (omega (arith, update-size ((R.rows ++ valueOut n) ++ valueOut v) u, value-size (R.rows ++ valueOut n) v, value-size R.rows n));
+pub parts_for : (R : Output) (id : ℕ) (g : Option ℕ) (n v : Value) (u : Option Value) (b : Statements)
+    → Parts R (FOR id g n v u b) (row 15 id (or_none g) (update_present u) 0 0) (block_put (((R ⊕ value_out n) ⊕ value_out v) ⊕ update_out u) b)
+unfolding in_list
+parts_for R id g n v u b = record {
+  rows = rows_for R.rows id g n v u b;
+  lines = moved R.lines b (omega (arith, update_size ((R.rows ++ value_out n) ++ value_out v) u, value_size (R.rows ++ value_out n) v, value_size R.rows n));
 }
 
-pub parts-for-of : (R : Output) (id : ℕ) (g : Option ℕ) (s : Span) (n v : Value) (b : Statements)
-    → Parts R (FOROF id g s n v b) (forOfRow id (orNone g) s) (blockPut ((R ⊕ valueOut n) ⊕ valueOut v) b)
-unfolding inList
-parts-for-of R id g s n v b = record {
-  rows = rows-for-of R.rows id g s n v b;
-  lines = moved R.lines b (omega (arith, value-size (R.rows ++ valueOut n) v, value-size R.rows n));
+pub parts_for_of : (R : Output) (id : ℕ) (g : Option ℕ) (s : Span) (n v : Value) (b : Statements)
+    → Parts R (FOROF id g s n v b) (for_of_row id (or_none g) s) (block_put ((R ⊕ value_out n) ⊕ value_out v) b)
+unfolding in_list
+parts_for_of R id g s n v b = record {
+  rows = rows_for_of R.rows id g s n v b;
+  lines = moved R.lines b (omega (arith, value_size (R.rows ++ value_out n) v, value_size R.rows n));
 }
 
-pub parts-for-in : (R : Output) (id : ℕ) (g : Option ℕ) (s : Span) (n : Value) (b : Statements) → Parts R (FORIN id g s n b) (forInRow id (orNone g) s) (blockPut (R ⊕ valueOut n) b)
-unfolding inList
-parts-for-in R id g s n b = record { rows = rows-for-in R.rows id g s n b; lines = moved R.lines b (value-size R.rows n) }
+pub parts_for_in : (R : Output) (id : ℕ) (g : Option ℕ) (s : Span) (n : Value) (b : Statements) → Parts R (FORIN id g s n b) (for_in_row id (or_none g) s) (block_put (R ⊕ value_out n) b)
+unfolding in_list
+parts_for_in R id g s n b = record { rows = rows_for_in R.rows id g s n b; lines = moved R.lines b (value_size R.rows n) }
 
-pub parts-label : (R : Output) (id : ℕ) (g : Option ℕ) (b : Statements) → Parts R (LABEL id g b) (row 18 id (orNone g) 0 0 0) (blockPut R b)
-unfolding inList
-parts-label R id g b = record { rows = rows-label R.rows id g b; lines = refl }
+pub parts_label : (R : Output) (id : ℕ) (g : Option ℕ) (b : Statements) → Parts R (LABEL id g b) (row 18 id (or_none g) 0 0 0) (block_put R b)
+unfolding in_list
+parts_label R id g b = record { rows = rows_label R.rows id g b; lines = refl }
 
-pub parts-try : (R : Output) (id : ℕ) (g n : Option ℕ) (b h : Statements) → Parts R (TRY id g n b h) (row 19 id (orNone g) (orNone n) 0 0) (blockPut (blockPut R b) h)
-unfolding inList
-parts-try R id g n b h = record {
-  rows = rows-try R.rows id g n b h;
-  lines = moved (R.lines ++ linesIn (length R.rows) b) h (block_size R.rows b) ∙ joined R.lines (inList (length R.rows) b) (inList (length R.rows + rowsIn (blockRows b)) h);
+pub parts_try : (R : Output) (id : ℕ) (g n : Option ℕ) (b h : Statements) → Parts R (TRY id g n b h) (row 19 id (or_none g) (or_none n) 0 0) (block_put (block_put R b) h)
+unfolding in_list
+parts_try R id g n b h = record {
+  rows = rows_try R.rows id g n b h;
+  lines = moved (R.lines ++ lines_in (length R.rows) b) h (block_size R.rows b) ∙ joined R.lines (in_list (length R.rows) b) (in_list (length R.rows + rows_in (block_rows b)) h);
 }
 
-pub parts-scope : (R : Output) (p : Bool) (s : ℕ) (b : Statements) → Parts R (SCOPE p s b) (scopeRow p s) (blockPut R b)
-unfolding inList
-parts-scope R p s b = record { rows = rows_scope R.rows p s b; lines = refl }
+pub parts_scope : (R : Output) (p : Bool) (s : ℕ) (b : Statements) → Parts R (SCOPE p s b) (scope_row p s) (block_put R b)
+unfolding in_list
+parts_scope R p s b = record { rows = rows_scope R.rows p s b; lines = refl }
 
-pub parts-switch : (R : Output) (x id : ℕ) (g : Option ℕ) (cs : Cases) → Parts R (SWITCH x id g cs) (row 12 x (countCases cs) id (orNone g) 0) (casesPut R cs)
-unfolding inList
-parts-switch R x id g cs = record { rows = rows-switch R.rows x id g cs; lines = refl }
+pub parts_switch : (R : Output) (x id : ℕ) (g : Option ℕ) (cs : Cases) → Parts R (SWITCH x id g cs) (row 12 x (count_cases cs) id (or_none g) 0) (cases_put R cs)
+unfolding in_list
+parts_switch R x id g cs = record { rows = rows_switch R.rows x id g cs; lines = refl }
 
 -- ---- cases
 
-pub case-put : (R : Output) (x : ℕ) (b : Statements) (r : Cases) → casesPut R (CASE x b r) ≡ casesPut (blockPut R b ⊕ (row 11 x 0 0 0 0 ∷ [])) r
-unfolding inList
-case-put R x b r = output-eq (rows-case R.rows x b r)
-    (sym (ap (λ (z : ℕ). (R.lines ++ linesIn (length R.rows) b) ++ map line_of (inCases z r)) later ∙ joined R.lines (inList (length R.rows) b)
-    (inCases (length R.rows + (rowsIn (blockRows b) + 1)) r)))
+pub case_put : (R : Output) (x : ℕ) (b : Statements) (r : Cases) → cases_put R (CASE x b r) ≡ cases_put (block_put R b ⊕ (row 11 x 0 0 0 0 ∷ [])) r
+unfolding in_list
+case_put R x b r = output_eq (rows_case R.rows x b r)
+    (sym (ap (λ (z : ℕ). (R.lines ++ lines_in (length R.rows) b) ++ map line_of (in_cases z r)) later ∙ joined R.lines (in_list (length R.rows) b)
+    (in_cases (length R.rows + (rows_in (block_rows b) + 1)) r)))
   where
-    later : length (blockOut R.rows b ++ (row 11 x 0 0 0 0 ∷ [])) ≡ length R.rows + (rowsIn (blockRows b) + 1)
-    later = omega (arith, length-append (blockOut R.rows b) (row 11 x 0 0 0 0 ∷ []), block_size R.rows b)
+    later : length (block_out R.rows b ++ (row 11 x 0 0 0 0 ∷ [])) ≡ length R.rows + (rows_in (block_rows b) + 1)
+    later = omega (arith, length-append (block_out R.rows b) (row 11 x 0 0 0 0 ∷ []), block_size R.rows b)
 
-pub no-case-put : (R : Output) → casesPut R no_cases ≡ R
-unfolding inList casesOut
-no-case-put R = output-eq (append-nil R.rows) (append-nil R.lines)
+pub no_case_put : (R : Output) → cases_put R no_cases ≡ R
+unfolding in_list cases_out
+no_case_put R = output_eq (append-nil R.rows) (append-nil R.lines)
 
 -- ---- a block: its instructions, its statement, if it has one, and the statements after it
 
 -- a list of no statement or of one, which has no line
-pub single-put : (R : Output) (o : Option Statement) → UnlinedStep o → (R ⊕ jumpOut o) ⊕ (block_row (added o 0) ∷ []) ≡ blockPut R (followedBy o done)
-unfolding inList
-single-put R none u = output-eq (rows-single R.rows none) (sym (append-nil R.lines))
-single-put R (some s) u =
-    output-eq (rows-single R.rows (some s))
+pub single_put : (R : Output) (o : Option Statement) → UnlinedStep o → (R ⊕ jump_out o) ⊕ (block_row (added o 0) ∷ []) ≡ block_put R (followed_by o done)
+unfolding in_list
+single_put R none u = output_eq (rows_single R.rows none) (sym (append-nil R.lines))
+single_put R (some s) u =
+    output_eq (rows_single R.rows (some s))
     (sym (ap (λ (z : List Labelled). R.lines ++ map line_of z)
-    (append-nil (in_parts (length R.rows) s ++ labelledBy (label_of s) (length R.rows) s) ∙ unlined-none s u (length R.rows)) ∙ append-nil R.lines))
+    (append-nil (in_parts (length R.rows) s ++ labelled_by (label_of s) (length R.rows) s) ∙ unlined_none s u (length R.rows)) ∙ append-nil R.lines))
 
-pub instructions-lined : (t : Table) (rs : List ℕ) (n : ℕ) (s : Statements) → inList n (instructionStatements t rs s) ≡ inList (n + length (instructionsOut t rs)) s
-unfolding instructionStatements instructionsOut inList
-instructions-lined t [] n s = ap (λ (z : ℕ). inList z s) (omega arith)
-instructions-lined t (r ∷ rs) n s = instructions-lined t rs (n + 2) s ∙ ap (λ (z : ℕ). inList z s) (omega arith)
+pub instructions_lined : (t : Table) (rs : List ℕ) (n : ℕ) (s : Statements) → in_list n (instruction_statements t rs s) ≡ in_list (n + length (instructions_out t rs)) s
+unfolding instruction_statements instructions_out in_list
+instructions_lined t [] n s = ap (λ (z : ℕ). in_list z s) (omega arith)
+instructions_lined t (r ∷ rs) n s = instructions_lined t rs (n + 2) s ∙ ap (λ (z : ℕ). in_list z s) (omega arith)
 
-followed-lined : (R : Output) (o : Option Statement) (s : Statements) → R.lines ++ linesIn (length R.rows) (followedBy o s) ≡ (stepPut R o).lines ++ linesIn (length (stepPut R o).rows) s
-unfolding inList statementOut
-followed-lined R none s = moved R.lines s (ap length (sym (append-nil R.rows)))
-followed-lined R (some x) s =
-    sym (moved (R.lines ++ lines_of (length R.rows) x) s (length-append R.rows (statementRows x []))
-    ∙ joined R.lines (in_parts (length R.rows) x ++ labelledBy (label_of x) (length R.rows) x) (inList (length R.rows + rowsIn (statementRows x)) s))
+followed_lined : (R : Output) (o : Option Statement) (s : Statements) → R.lines ++ lines_in (length R.rows) (followed_by o s) ≡ (step_put R o).lines ++ lines_in (length (step_put R o).rows) s
+unfolding in_list statement_out
+followed_lined R none s = moved R.lines s (ap length (sym (append-nil R.rows)))
+followed_lined R (some x) s =
+    sym (moved (R.lines ++ lines_of (length R.rows) x) s (length-append R.rows (statement_rows x []))
+    ∙ joined R.lines (in_parts (length R.rows) x ++ labelled_by (label_of x) (length R.rows) x) (in_list (length R.rows + rows_in (statement_rows x)) s))
 
-step-rows : (R : Output) (o : Option Statement) → (stepPut R o).rows ≡ R.rows ++ jumpOut o
-step-rows R none = refl
-step-rows R (some s) = refl
+step_rows : (R : Output) (o : Option Statement) → (step_put R o).rows ≡ R.rows ++ jump_out o
+step_rows R none = refl
+step_rows R (some s) = refl
 
-pub no-list-put : (R : Output) → listPut R done ≡ R
-unfolding inList statementsOut
-no-list-put R = output-eq (append-nil R.rows) (append-nil R.lines)
+pub no_list_put : (R : Output) → list_put R done ≡ R
+unfolding in_list statements_out
+no_list_put R = output_eq (append-nil R.rows) (append-nil R.lines)
 
-pub chain-put : (R : Output) (t : Table) (rs : List ℕ) (o : Option Statement) (s : Statements)
-    → listPut R (instructionStatements t rs (followedBy o s)) ≡ listPut (stepPut (R ⊕ instructionsOut t rs) o) s
-chain-put R t rs o s = output-eq
-    (rows-chain R.rows t rs o s ∙ ap (λ (z : List Row). z ++ statementsOut s) (sym (step-rows (R ⊕ instructionsOut t rs) o)))
-    (ap (λ (z : List Labelled). R.lines ++ map line_of z) (instructions-lined t rs (length R.rows) (followedBy o s))
-    ∙ moved R.lines (followedBy o s) (sym (length-append R.rows (instructionsOut t rs)))
-    ∙ followed-lined (R ⊕ instructionsOut t rs) o s)
+pub chain_put : (R : Output) (t : Table) (rs : List ℕ) (o : Option Statement) (s : Statements)
+    → list_put R (instruction_statements t rs (followed_by o s)) ≡ list_put (step_put (R ⊕ instructions_out t rs) o) s
+chain_put R t rs o s = output_eq
+    (rows_chain R.rows t rs o s ∙ ap (λ (z : List Row). z ++ statements_out s) (sym (step_rows (R ⊕ instructions_out t rs) o)))
+    (ap (λ (z : List Labelled). R.lines ++ map line_of z) (instructions_lined t rs (length R.rows) (followed_by o s))
+    ∙ moved R.lines (followed_by o s) (sym (length-append R.rows (instructions_out t rs)))
+    ∙ followed_lined (R ⊕ instructions_out t rs) o s)

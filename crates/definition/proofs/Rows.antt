@@ -8,207 +8,207 @@ use mathlib.Core.Option.{Option, none, some}
 use mathlib.Core.Bool.{Bool, true, false}
 use lib.ListN.{length}
 use Rattle.table.specs.declared.columns.Span.{Span}
-use Rattle.table.specs.Table.{Table, instructionAt}
-use Rattle.definition.specs.Output.{valueOut, updateOut, statementOut, instructionsOut, block_row, jumpOut, added, scopeRow}
-use Rattle.definition.specs.Statement.{instructionStatements, followedBy}
-use Rattle.definition.specs.Tree.{Value, PLAIN, LOAD, UNDEF, SEQ, LOGICAL, COND, OPTIONAL, Instructions, no-instructions, instruction, Statement, INSTR, instrRow, forOfRow, forInRow}
+use Rattle.table.specs.Table.{Table, instruction_at}
+use Rattle.definition.specs.Output.{value_out, update_out, statement_out, instructions_out, block_row, jump_out, added, scope_row}
+use Rattle.definition.specs.Statement.{instruction_statements, followed_by}
+use Rattle.definition.specs.Tree.{Value, PLAIN, LOAD, UNDEF, SEQ, LOGICAL, COND, OPTIONAL, Instructions, no_instructions, instruction, Statement, INSTR, instr_row, for_of_row, for_in_row}
 use Rattle.definition.specs.Tree.{IF, SWITCH, DOWHILE, WHILE, FOR, FOROF, FORIN, LABEL, TRY, SCOPE, RETURN, THROW, BREAK, CONTINUE, Statements, done, ◌▸◌}
-use Rattle.definition.specs.Tree.{Cases, no_cases, CASE, Row, row, valueRows, instructionsRows, updateRows, statementRows, statementsRows, blockRows}
-use Rattle.definition.specs.Tree.{casesRows, countStatements, countInstructions, countCases, orNone, updatePresent, instrRow, forOfRow, forInRow}
+use Rattle.definition.specs.Tree.{Cases, no_cases, CASE, Row, row, value_rows, instructions_rows, update_rows, statement_rows, statements_rows, block_rows}
+use Rattle.definition.specs.Tree.{cases_rows, count_statements, count_instructions, count_cases, or_none, update_present, instr_row, for_of_row, for_in_row}
 
 -- ---- the rows of a part and then others
 
 mutual
-  pub value-append : (v : Value) (k l : List Row) → valueRows v (k ++ l) ≡ valueRows v k ++ l
-  value-append (PLAIN r) k l = refl
-  value-append (LOAD p) k l = refl
-  value-append (UNDEF s) k l = refl
-  value-append (SEQ is i v) k l =
-      ap (instructionsRows is) (value-append v (row 5 (countInstructions is) i 0 0 0 ∷ k) l) ∙ instructions-append is
-      (valueRows v (row 5 (countInstructions is) i 0 0 0 ∷ k)) l
-  value-append (LOGICAL o x y) k l = ap (valueRows x) (value-append y (row 6 o 0 0 0 0 ∷ k) l) ∙ value-append x (valueRows y (row 6 o 0 0 0 0 ∷ k)) l
-  value-append (COND x y z) k l =
-      ap (λ (r : List Row). valueRows x (valueRows y r)) (value-append z (row 7 0 0 0 0 0 ∷ k) l)
-      ∙ ap (valueRows x) (value-append y (valueRows z (row 7 0 0 0 0 0 ∷ k)) l) ∙ value-append x (valueRows y (valueRows z (row 7 0 0 0 0 0 ∷ k))) l
-  value-append (OPTIONAL f v) k l = value-append v (row 8 f 0 0 0 0 ∷ k) l
+  pub value_append : (v : Value) (k l : List Row) → value_rows v (k ++ l) ≡ value_rows v k ++ l
+  value_append (PLAIN r) k l = refl
+  value_append (LOAD p) k l = refl
+  value_append (UNDEF s) k l = refl
+  value_append (SEQ is i v) k l =
+      ap (instructions_rows is) (value_append v (row 5 (count_instructions is) i 0 0 0 ∷ k) l) ∙ instructions_append is
+      (value_rows v (row 5 (count_instructions is) i 0 0 0 ∷ k)) l
+  value_append (LOGICAL o x y) k l = ap (value_rows x) (value_append y (row 6 o 0 0 0 0 ∷ k) l) ∙ value_append x (value_rows y (row 6 o 0 0 0 0 ∷ k)) l
+  value_append (COND x y z) k l =
+      ap (λ (r : List Row). value_rows x (value_rows y r)) (value_append z (row 7 0 0 0 0 0 ∷ k) l)
+      ∙ ap (value_rows x) (value_append y (value_rows z (row 7 0 0 0 0 0 ∷ k)) l) ∙ value_append x (value_rows y (value_rows z (row 7 0 0 0 0 0 ∷ k))) l
+  value_append (OPTIONAL f v) k l = value_append v (row 8 f 0 0 0 0 ∷ k) l
 
-  instructions-append : (is : Instructions) (k l : List Row) → instructionsRows is (k ++ l) ≡ instructionsRows is k ++ l
-  instructions-append no-instructions k l = refl
-  instructions-append (instruction i p s v r) k l =
-      ap (λ (z : List Row). valueRows v (instrRow i p s ∷ z)) (instructions-append r k l) ∙ value-append v (instrRow i p s ∷ instructionsRows r k) l
+  instructions_append : (is : Instructions) (k l : List Row) → instructions_rows is (k ++ l) ≡ instructions_rows is k ++ l
+  instructions_append no_instructions k l = refl
+  instructions_append (instruction i p s v r) k l =
+      ap (λ (z : List Row). value_rows v (instr_row i p s ∷ z)) (instructions_append r k l) ∙ value_append v (instr_row i p s ∷ instructions_rows r k) l
 
-pub update-append : (v : Option Value) (k l : List Row) → updateRows v (k ++ l) ≡ updateRows v k ++ l
-update-append none k l = refl
-update-append (some v) k l = value-append v k l
+pub update_append : (v : Option Value) (k l : List Row) → update_rows v (k ++ l) ≡ update_rows v k ++ l
+update_append none k l = refl
+update_append (some v) k l = value_append v k l
 
 mutual
-  pub statement-append : (s : Statement) (k l : List Row) → statementRows s (k ++ l) ≡ statementRows s k ++ l
-  statement-append (INSTR i p s v) k l = value-append v (instrRow i p s ∷ k) l
-  statement-append (IF x i g c true a) k l =
-      ap (blockRows c) (block-append a (row 10 x 1 i (orNone g) 0 ∷ k) l) ∙ block-append c (blockRows a (row 10 x 1 i (orNone g) 0 ∷ k)) l
-  statement-append (IF x i g c false a) k l = block-append c (row 10 x 0 i (orNone g) 0 ∷ k) l
-  statement-append (SWITCH x i g cs) k l = cases_append cs (row 12 x (countCases cs) i (orNone g) 0 ∷ k) l
-  statement-append (DOWHILE i g b v) k l =
-      ap (blockRows b) (value-append v (row 13 i (orNone g) 0 0 0 ∷ k) l) ∙ block-append b (valueRows v (row 13 i (orNone g) 0 0 0 ∷ k)) l
-  statement-append (WHILE i g v b) k l =
-      ap (valueRows v) (block-append b (row 14 i (orNone g) 0 0 0 ∷ k) l) ∙ value-append v (blockRows b (row 14 i (orNone g) 0 0 0 ∷ k)) l
-  statement-append (FOR i g n v u b) k l =
-      ap (λ (z : List Row). valueRows n (valueRows v (updateRows u z))) (block-append b (row 15 i (orNone g) (updatePresent u) 0 0 ∷ k) l)
-      ∙ ap (λ (z : List Row). valueRows n (valueRows v z)) (update-append u (blockRows b (row 15 i (orNone g) (updatePresent u) 0 0 ∷ k)) l)
-      ∙ ap (valueRows n) (value-append v (updateRows u (blockRows b (row 15 i (orNone g) (updatePresent u) 0 0 ∷ k))) l)
-      ∙ value-append n (valueRows v (updateRows u (blockRows b (row 15 i (orNone g) (updatePresent u) 0 0 ∷ k)))) l
-  statement-append (FOROF i g s n v b) k l =
-      ap (λ (z : List Row). valueRows n (valueRows v z)) (block-append b (forOfRow i (orNone g) s ∷ k) l)
-      ∙ ap (valueRows n) (value-append v (blockRows b (forOfRow i (orNone g) s ∷ k)) l)
-      ∙ value-append n (valueRows v (blockRows b (forOfRow i (orNone g) s ∷ k))) l
-  statement-append (FORIN i g s n b) k l =
-      ap (valueRows n) (block-append b (forInRow i (orNone g) s ∷ k) l) ∙ value-append n (blockRows b (forInRow i (orNone g) s ∷ k)) l
-  statement-append (LABEL i g b) k l = block-append b (row 18 i (orNone g) 0 0 0 ∷ k) l
-  statement-append (TRY i g n b h) k l =
-      ap (blockRows b) (block-append h (row 19 i (orNone g) (orNone n) 0 0 ∷ k) l) ∙ block-append b (blockRows h (row 19 i (orNone g) (orNone n) 0 0 ∷ k)) l
-  statement-append (SCOPE true s b) k l = block-append b (row 21 s 0 0 0 0 ∷ k) l
-  statement-append (SCOPE false s b) k l = block-append b (row 20 s 0 0 0 0 ∷ k) l
-  statement-append (RETURN v i) k l = refl
-  statement-append (THROW v i) k l = refl
-  statement-append (BREAK g i d n) k l = refl
-  statement-append (CONTINUE g i d n) k l = refl
+  pub statement_append : (s : Statement) (k l : List Row) → statement_rows s (k ++ l) ≡ statement_rows s k ++ l
+  statement_append (INSTR i p s v) k l = value_append v (instr_row i p s ∷ k) l
+  statement_append (IF x i g c true a) k l =
+      ap (block_rows c) (block_append a (row 10 x 1 i (or_none g) 0 ∷ k) l) ∙ block_append c (block_rows a (row 10 x 1 i (or_none g) 0 ∷ k)) l
+  statement_append (IF x i g c false a) k l = block_append c (row 10 x 0 i (or_none g) 0 ∷ k) l
+  statement_append (SWITCH x i g cs) k l = cases_append cs (row 12 x (count_cases cs) i (or_none g) 0 ∷ k) l
+  statement_append (DOWHILE i g b v) k l =
+      ap (block_rows b) (value_append v (row 13 i (or_none g) 0 0 0 ∷ k) l) ∙ block_append b (value_rows v (row 13 i (or_none g) 0 0 0 ∷ k)) l
+  statement_append (WHILE i g v b) k l =
+      ap (value_rows v) (block_append b (row 14 i (or_none g) 0 0 0 ∷ k) l) ∙ value_append v (block_rows b (row 14 i (or_none g) 0 0 0 ∷ k)) l
+  statement_append (FOR i g n v u b) k l =
+      ap (λ (z : List Row). value_rows n (value_rows v (update_rows u z))) (block_append b (row 15 i (or_none g) (update_present u) 0 0 ∷ k) l)
+      ∙ ap (λ (z : List Row). value_rows n (value_rows v z)) (update_append u (block_rows b (row 15 i (or_none g) (update_present u) 0 0 ∷ k)) l)
+      ∙ ap (value_rows n) (value_append v (update_rows u (block_rows b (row 15 i (or_none g) (update_present u) 0 0 ∷ k))) l)
+      ∙ value_append n (value_rows v (update_rows u (block_rows b (row 15 i (or_none g) (update_present u) 0 0 ∷ k)))) l
+  statement_append (FOROF i g s n v b) k l =
+      ap (λ (z : List Row). value_rows n (value_rows v z)) (block_append b (for_of_row i (or_none g) s ∷ k) l)
+      ∙ ap (value_rows n) (value_append v (block_rows b (for_of_row i (or_none g) s ∷ k)) l)
+      ∙ value_append n (value_rows v (block_rows b (for_of_row i (or_none g) s ∷ k))) l
+  statement_append (FORIN i g s n b) k l =
+      ap (value_rows n) (block_append b (for_in_row i (or_none g) s ∷ k) l) ∙ value_append n (block_rows b (for_in_row i (or_none g) s ∷ k)) l
+  statement_append (LABEL i g b) k l = block_append b (row 18 i (or_none g) 0 0 0 ∷ k) l
+  statement_append (TRY i g n b h) k l =
+      ap (block_rows b) (block_append h (row 19 i (or_none g) (or_none n) 0 0 ∷ k) l) ∙ block_append b (block_rows h (row 19 i (or_none g) (or_none n) 0 0 ∷ k)) l
+  statement_append (SCOPE true s b) k l = block_append b (row 21 s 0 0 0 0 ∷ k) l
+  statement_append (SCOPE false s b) k l = block_append b (row 20 s 0 0 0 0 ∷ k) l
+  statement_append (RETURN v i) k l = refl
+  statement_append (THROW v i) k l = refl
+  statement_append (BREAK g i d n) k l = refl
+  statement_append (CONTINUE g i d n) k l = refl
 
-  statements-append : (s : Statements) (k l : List Row) → statementsRows s (k ++ l) ≡ statementsRows s k ++ l
-  statements-append done k l = refl
-  statements-append (s ▸ r) k l = ap (statementRows s) (statements-append r k l) ∙ statement-append s (statementsRows r k) l
+  statements_append : (s : Statements) (k l : List Row) → statements_rows s (k ++ l) ≡ statements_rows s k ++ l
+  statements_append done k l = refl
+  statements_append (s ▸ r) k l = ap (statement_rows s) (statements_append r k l) ∙ statement_append s (statements_rows r k) l
 
-  pub block-append : (s : Statements) (k l : List Row) → blockRows s (k ++ l) ≡ blockRows s k ++ l
-  block-append done k l = refl
-  block-append (s ▸ r) k l =
-      ap (statementRows s) (statements-append r (row 9 (suc (countStatements r)) 0 0 0 0 ∷ k) l) ∙ statement-append s (statementsRows r (row 9 (suc (countStatements r)) 0 0 0 0 ∷ k)) l
+  pub block_append : (s : Statements) (k l : List Row) → block_rows s (k ++ l) ≡ block_rows s k ++ l
+  block_append done k l = refl
+  block_append (s ▸ r) k l =
+      ap (statement_rows s) (statements_append r (row 9 (suc (count_statements r)) 0 0 0 0 ∷ k) l) ∙ statement_append s (statements_rows r (row 9 (suc (count_statements r)) 0 0 0 0 ∷ k)) l
 
-  pub cases_append : (s : Cases) (k l : List Row) → casesRows s (k ++ l) ≡ casesRows s k ++ l
+  pub cases_append : (s : Cases) (k l : List Row) → cases_rows s (k ++ l) ≡ cases_rows s k ++ l
   cases_append no_cases k l = refl
-  cases_append (CASE x b r) k l = ap (λ (z : List Row). blockRows b (row 11 x 0 0 0 0 ∷ z)) (cases_append r k l) ∙ block-append b (row 11 x 0 0 0 0 ∷ casesRows r k) l
+  cases_append (CASE x b r) k l = ap (λ (z : List Row). block_rows b (row 11 x 0 0 0 0 ∷ z)) (cases_append r k l) ∙ block_append b (row 11 x 0 0 0 0 ∷ cases_rows r k) l
 
 -- ---- a part put out behind R, and then the rows k
 
-unfoldable pub statementsOut : Statements → List Row
-statementsOut s = statementsRows s []
+unfoldable pub statements_out : Statements → List Row
+statements_out s = statements_rows s []
 
-unfoldable pub casesOut : Cases → List Row
-casesOut s = casesRows s []
+unfoldable pub cases_out : Cases → List Row
+cases_out s = cases_rows s []
 
 -- a nested list and its BLOCK row
-abbrev pub blockOut : List Row → Statements → List Row
-blockOut R s = (R ++ statementsOut s) ++ (block_row (countStatements s) ∷ [])
+abbrev pub block_out : List Row → Statements → List Row
+block_out R s = (R ++ statements_out s) ++ (block_row (count_statements s) ∷ [])
 
-value_out : (R : List Row) (v : Value) (k : List Row) → (R ++ valueOut v) ++ k ≡ R ++ valueRows v k
-unfolding valueOut
-value_out R v k = append_assoc R (valueOut v) k ∙ ap (λ (z : List Row). R ++ z) (sym (value-append v [] k))
+value_out_lem : (R : List Row) (v : Value) (k : List Row) → (R ++ value_out v) ++ k ≡ R ++ value_rows v k
+unfolding value_out
+value_out_lem R v k = append_assoc R (value_out v) k ∙ ap (λ (z : List Row). R ++ z) (sym (value_append v [] k))
 
-update-out : (R : List Row) (u : Option Value) (k : List Row) → (R ++ updateOut u) ++ k ≡ R ++ updateRows u k
-unfolding updateOut
-update-out R none k = append_assoc R [] k
-update-out R (some v) k = value_out R v k
+update_out_lem : (R : List Row) (u : Option Value) (k : List Row) → (R ++ update_out u) ++ k ≡ R ++ update_rows u k
+unfolding update_out
+update_out_lem R none k = append_assoc R [] k
+update_out_lem R (some v) k = value_out_lem R v k
 
-cases-out : (R : List Row) (cs : Cases) (k : List Row) → (R ++ casesOut cs) ++ k ≡ R ++ casesRows cs k
-unfolding casesOut
-cases-out R cs k = append_assoc R (casesOut cs) k ∙ ap (λ (z : List Row). R ++ z) (sym (cases_append cs [] k))
+cases_out_lem : (R : List Row) (cs : Cases) (k : List Row) → (R ++ cases_out cs) ++ k ≡ R ++ cases_rows cs k
+unfolding cases_out
+cases_out_lem R cs k = append_assoc R (cases_out cs) k ∙ ap (λ (z : List Row). R ++ z) (sym (cases_append cs [] k))
 
-pub block-rows : (s : Statements) (k : List Row) → blockRows s k ≡ statementsOut s ++ (block_row (countStatements s) ∷ k)
-unfolding statementsOut
-block-rows done k = refl
-block-rows (s ▸ rest) k = statements-append (s ▸ rest) [] (block_row (suc (countStatements rest)) ∷ k)
+pub block_rows_lem : (s : Statements) (k : List Row) → block_rows s k ≡ statements_out s ++ (block_row (count_statements s) ∷ k)
+unfolding statements_out
+block_rows_lem done k = refl
+block_rows_lem (s ▸ rest) k = statements_append (s ▸ rest) [] (block_row (suc (count_statements rest)) ∷ k)
 
-pub block-split : (b : Statements) (k : List Row) → blockRows b k ≡ blockRows b [] ++ k
-block-split b k = block-rows b k ∙ sym (append_assoc (statementsOut b) (block_row (countStatements b) ∷ []) k) ∙ ap (λ (z : List Row). z ++ k) (sym (block-rows b []))
+pub block_split : (b : Statements) (k : List Row) → block_rows b k ≡ block_rows b [] ++ k
+block_split b k = block_rows_lem b k ∙ sym (append_assoc (statements_out b) (block_row (count_statements b) ∷ []) k) ∙ ap (λ (z : List Row). z ++ k) (sym (block_rows_lem b []))
 
-pub block_out : (R : List Row) (s : Statements) (k : List Row) → blockOut R s ++ k ≡ R ++ blockRows s k
-block_out R s k = simp append_assoc (ap (λ (z : List Row). R ++ z) (sym (block-rows s k)))
+pub block_out_lem : (R : List Row) (s : Statements) (k : List Row) → block_out R s ++ k ≡ R ++ block_rows s k
+block_out_lem R s k = simp append_assoc (ap (λ (z : List Row). R ++ z) (sym (block_rows_lem s k)))
 
 -- ---- what the machine has put out when it closes a statement
 
-pub rows-if : (R : List Row) (x id : ℕ) (g : Option ℕ) (c a : Statements) → blockOut R c ++ (row 10 x 0 id (orNone g) 0 ∷ []) ≡ R ++ statementOut (IF x id g c false a)
-unfolding statementOut
-rows-if R x id g c a = block_out R c _
+pub rows_if : (R : List Row) (x id : ℕ) (g : Option ℕ) (c a : Statements) → block_out R c ++ (row 10 x 0 id (or_none g) 0 ∷ []) ≡ R ++ statement_out (IF x id g c false a)
+unfolding statement_out
+rows_if R x id g c a = block_out_lem R c _
 
-pub rows-else : (R : List Row) (x id : ℕ) (g : Option ℕ) (c a : Statements) → blockOut (blockOut R c) a ++ (row 10 x 1 id (orNone g) 0 ∷ []) ≡ R ++ statementOut (IF x id g c true a)
-unfolding statementOut
-rows-else R x id g c a = block_out (blockOut R c) a _ ∙ block_out R c _
+pub rows_else : (R : List Row) (x id : ℕ) (g : Option ℕ) (c a : Statements) → block_out (block_out R c) a ++ (row 10 x 1 id (or_none g) 0 ∷ []) ≡ R ++ statement_out (IF x id g c true a)
+unfolding statement_out
+rows_else R x id g c a = block_out_lem (block_out R c) a _ ∙ block_out_lem R c _
 
-pub rows-do-while : (R : List Row) (id : ℕ) (g : Option ℕ) (b : Statements) (v : Value) → (blockOut R b ++ valueOut v) ++ (row 13 id (orNone g) 0 0 0 ∷ []) ≡ R ++ statementOut (DOWHILE id g b v)
-unfolding statementOut
-rows-do-while R id g b v = value_out (blockOut R b) v _ ∙ block_out R b _
+pub rows_do_while : (R : List Row) (id : ℕ) (g : Option ℕ) (b : Statements) (v : Value) → (block_out R b ++ value_out v) ++ (row 13 id (or_none g) 0 0 0 ∷ []) ≡ R ++ statement_out (DOWHILE id g b v)
+unfolding statement_out
+rows_do_while R id g b v = value_out_lem (block_out R b) v _ ∙ block_out_lem R b _
 
-pub rows-while : (R : List Row) (id : ℕ) (g : Option ℕ) (v : Value) (b : Statements) → blockOut (R ++ valueOut v) b ++ (row 14 id (orNone g) 0 0 0 ∷ []) ≡ R ++ statementOut (WHILE id g v b)
-unfolding statementOut
-rows-while R id g v b = block_out (R ++ valueOut v) b _ ∙ value_out R v _
+pub rows_while : (R : List Row) (id : ℕ) (g : Option ℕ) (v : Value) (b : Statements) → block_out (R ++ value_out v) b ++ (row 14 id (or_none g) 0 0 0 ∷ []) ≡ R ++ statement_out (WHILE id g v b)
+unfolding statement_out
+rows_while R id g v b = block_out_lem (R ++ value_out v) b _ ∙ value_out_lem R v _
 
-pub rows-for : (R : List Row) (id : ℕ) (g : Option ℕ) (n v : Value) (u : Option Value) (b : Statements)
-    → blockOut (((R ++ valueOut n) ++ valueOut v) ++ updateOut u) b ++ (row 15 id (orNone g) (updatePresent u) 0 0 ∷ []) ≡ R ++ statementOut (FOR id g n v u b)
-unfolding statementOut
-rows-for R id g n v u b = block_out (((R ++ valueOut n) ++ valueOut v) ++ updateOut u) b _ ∙ update-out ((R ++ valueOut n) ++ valueOut v) u _ ∙ value_out (R ++ valueOut n) v _ ∙ value_out R n _
+pub rows_for : (R : List Row) (id : ℕ) (g : Option ℕ) (n v : Value) (u : Option Value) (b : Statements)
+    → block_out (((R ++ value_out n) ++ value_out v) ++ update_out u) b ++ (row 15 id (or_none g) (update_present u) 0 0 ∷ []) ≡ R ++ statement_out (FOR id g n v u b)
+unfolding statement_out
+rows_for R id g n v u b = block_out_lem (((R ++ value_out n) ++ value_out v) ++ update_out u) b _ ∙ update_out_lem ((R ++ value_out n) ++ value_out v) u _ ∙ value_out_lem (R ++ value_out n) v _ ∙ value_out_lem R n _
 
-pub rows-for-of : (R : List Row) (id : ℕ) (g : Option ℕ) (s : Span) (n v : Value) (b : Statements)
-    → blockOut ((R ++ valueOut n) ++ valueOut v) b ++ (forOfRow id (orNone g) s ∷ []) ≡ R ++ statementOut (FOROF id g s n v b)
-unfolding statementOut
-rows-for-of R id g s n v b = block_out ((R ++ valueOut n) ++ valueOut v) b _ ∙ value_out (R ++ valueOut n) v _ ∙ value_out R n _
+pub rows_for_of : (R : List Row) (id : ℕ) (g : Option ℕ) (s : Span) (n v : Value) (b : Statements)
+    → block_out ((R ++ value_out n) ++ value_out v) b ++ (for_of_row id (or_none g) s ∷ []) ≡ R ++ statement_out (FOROF id g s n v b)
+unfolding statement_out
+rows_for_of R id g s n v b = block_out_lem ((R ++ value_out n) ++ value_out v) b _ ∙ value_out_lem (R ++ value_out n) v _ ∙ value_out_lem R n _
 
-pub rows-for-in : (R : List Row) (id : ℕ) (g : Option ℕ) (s : Span) (n : Value) (b : Statements)
-    → blockOut (R ++ valueOut n) b ++ (forInRow id (orNone g) s ∷ []) ≡ R ++ statementOut (FORIN id g s n b)
-unfolding statementOut
-rows-for-in R id g s n b = block_out (R ++ valueOut n) b _ ∙ value_out R n _
+pub rows_for_in : (R : List Row) (id : ℕ) (g : Option ℕ) (s : Span) (n : Value) (b : Statements)
+    → block_out (R ++ value_out n) b ++ (for_in_row id (or_none g) s ∷ []) ≡ R ++ statement_out (FORIN id g s n b)
+unfolding statement_out
+rows_for_in R id g s n b = block_out_lem (R ++ value_out n) b _ ∙ value_out_lem R n _
 
-pub rows-label : (R : List Row) (id : ℕ) (g : Option ℕ) (b : Statements) → blockOut R b ++ (row 18 id (orNone g) 0 0 0 ∷ []) ≡ R ++ statementOut (LABEL id g b)
-unfolding statementOut
-rows-label R id g b = block_out R b _
+pub rows_label : (R : List Row) (id : ℕ) (g : Option ℕ) (b : Statements) → block_out R b ++ (row 18 id (or_none g) 0 0 0 ∷ []) ≡ R ++ statement_out (LABEL id g b)
+unfolding statement_out
+rows_label R id g b = block_out_lem R b _
 
-pub rows-try : (R : List Row) (id : ℕ) (g n : Option ℕ) (b h : Statements) → blockOut (blockOut R b) h ++ (row 19 id (orNone g) (orNone n) 0 0 ∷ []) ≡ R ++ statementOut (TRY id g n b h)
-unfolding statementOut
-rows-try R id g n b h = block_out (blockOut R b) h _ ∙ block_out R b _
+pub rows_try : (R : List Row) (id : ℕ) (g n : Option ℕ) (b h : Statements) → block_out (block_out R b) h ++ (row 19 id (or_none g) (or_none n) 0 0 ∷ []) ≡ R ++ statement_out (TRY id g n b h)
+unfolding statement_out
+rows_try R id g n b h = block_out_lem (block_out R b) h _ ∙ block_out_lem R b _
 
-pub rows_scope : (R : List Row) (p : Bool) (s : ℕ) (b : Statements) → blockOut R b ++ (scopeRow p s ∷ []) ≡ R ++ statementOut (SCOPE p s b)
-unfolding statementOut
-rows_scope R true s b = block_out R b _
-rows_scope R false s b = block_out R b _
+pub rows_scope : (R : List Row) (p : Bool) (s : ℕ) (b : Statements) → block_out R b ++ (scope_row p s ∷ []) ≡ R ++ statement_out (SCOPE p s b)
+unfolding statement_out
+rows_scope R true s b = block_out_lem R b _
+rows_scope R false s b = block_out_lem R b _
 
-pub rows-value : (R : List Row) (i l : ℕ) (s : Span) (v : Value) → (R ++ valueOut v) ++ (instrRow i l s ∷ []) ≡ R ++ statementOut (INSTR i l s v)
-unfolding statementOut
-rows-value R i l s v = value_out R v _
+pub rows_value : (R : List Row) (i l : ℕ) (s : Span) (v : Value) → (R ++ value_out v) ++ (instr_row i l s ∷ []) ≡ R ++ statement_out (INSTR i l s v)
+unfolding statement_out
+rows_value R i l s v = value_out_lem R v _
 
-pub rows-case : (R : List Row) (x : ℕ) (b : Statements) (r : Cases) → R ++ casesOut (CASE x b r) ≡ (blockOut R b ++ (row 11 x 0 0 0 0 ∷ [])) ++ casesOut r
-unfolding casesOut
-rows-case R x b r = sym (append_assoc (blockOut R b) (row 11 x 0 0 0 0 ∷ []) (casesRows r []) ∙ block_out R b (row 11 x 0 0 0 0 ∷ casesRows r []))
+pub rows_case : (R : List Row) (x : ℕ) (b : Statements) (r : Cases) → R ++ cases_out (CASE x b r) ≡ (block_out R b ++ (row 11 x 0 0 0 0 ∷ [])) ++ cases_out r
+unfolding cases_out
+rows_case R x b r = sym (append_assoc (block_out R b) (row 11 x 0 0 0 0 ∷ []) (cases_rows r []) ∙ block_out_lem R b (row 11 x 0 0 0 0 ∷ cases_rows r []))
 
-pub rows-switch : (R : List Row) (x id : ℕ) (g : Option ℕ) (cs : Cases) → (R ++ casesOut cs) ++ (row 12 x (countCases cs) id (orNone g) 0 ∷ []) ≡ R ++ statementOut (SWITCH x id g cs)
-unfolding statementOut
-rows-switch R x id g cs = cases-out R cs _
+pub rows_switch : (R : List Row) (x id : ℕ) (g : Option ℕ) (cs : Cases) → (R ++ cases_out cs) ++ (row 12 x (count_cases cs) id (or_none g) 0 ∷ []) ≡ R ++ statement_out (SWITCH x id g cs)
+unfolding statement_out
+rows_switch R x id g cs = cases_out_lem R cs _
 
 -- ---- a block: its instructions, its statement, if it has one, and the statements after it
 
-instructions-count : (t : Table) (rs : List ℕ) (s : Statements) → countStatements (instructionStatements t rs s) ≡ length rs + countStatements s
-unfolding instructionStatements
-instructions-count t [] s = sym (zero-add (countStatements s))
-instructions-count t (r ∷ rs) s = ap suc (instructions-count t rs s) ∙ sym (suc-add (length rs) (countStatements s))
+instructions_count : (t : Table) (rs : List ℕ) (s : Statements) → count_statements (instruction_statements t rs s) ≡ length rs + count_statements s
+unfolding instruction_statements
+instructions_count t [] s = sym (zero-add (count_statements s))
+instructions_count t (r ∷ rs) s = ap suc (instructions_count t rs s) ∙ sym (suc-add (length rs) (count_statements s))
 
-instructions-out : (t : Table) (rs : List ℕ) (s : Statements) → statementsOut (instructionStatements t rs s) ≡ instructionsOut t rs ++ statementsOut s
-unfolding instructionStatements statementsOut instructionsOut
-instructions-out t [] s = refl
-instructions-out t (r ∷ rs) s =
-    ap (λ (z : List Row). row 1 r 0 0 0 0 ∷ instrRow (instructionAt t r).id (instructionAt t r).lvalue (instructionAt t r).span ∷ z) (instructions-out t rs s)
+instructions_out_lem : (t : Table) (rs : List ℕ) (s : Statements) → statements_out (instruction_statements t rs s) ≡ instructions_out t rs ++ statements_out s
+unfolding instruction_statements statements_out instructions_out
+instructions_out_lem t [] s = refl
+instructions_out_lem t (r ∷ rs) s =
+    ap (λ (z : List Row). row 1 r 0 0 0 0 ∷ instr_row (instruction_at t r).id (instruction_at t r).lvalue (instruction_at t r).span ∷ z) (instructions_out_lem t rs s)
 
-followed-out : (o : Option Statement) (s : Statements) → statementsOut (followedBy o s) ≡ jumpOut o ++ statementsOut s
-unfolding statementsOut statementOut
-followed-out none s = refl
-followed-out (some x) s = statement-append x [] (statementsRows s [])
+followed_out : (o : Option Statement) (s : Statements) → statements_out (followed_by o s) ≡ jump_out o ++ statements_out s
+unfolding statements_out statement_out
+followed_out none s = refl
+followed_out (some x) s = statement_append x [] (statements_rows s [])
 
 -- a list of no statement or of one
-pub rows-single : (R : List Row) (o : Option Statement) → (R ++ jumpOut o) ++ (block_row (added o 0) ∷ []) ≡ blockOut R (followedBy o done)
-unfolding statementsOut statementOut
-rows-single R none = refl
-rows-single R (some s) = refl
+pub rows_single : (R : List Row) (o : Option Statement) → (R ++ jump_out o) ++ (block_row (added o 0) ∷ []) ≡ block_out R (followed_by o done)
+unfolding statements_out statement_out
+rows_single R none = refl
+rows_single R (some s) = refl
 
-pub rows-chain : (R : List Row) (t : Table) (rs : List ℕ) (o : Option Statement) (s : Statements)
-    → R ++ statementsOut (instructionStatements t rs (followedBy o s)) ≡ ((R ++ instructionsOut t rs) ++ jumpOut o) ++ statementsOut s
-rows-chain R t rs o s = ap (λ (z : List Row). R ++ z) (instructions-out t rs (followedBy o s) ∙ ap (λ (z : List Row). instructionsOut t rs ++ z) (followed-out o s)) ∙ sym (simp append_assoc)
+pub rows_chain : (R : List Row) (t : Table) (rs : List ℕ) (o : Option Statement) (s : Statements)
+    → R ++ statements_out (instruction_statements t rs (followed_by o s)) ≡ ((R ++ instructions_out t rs) ++ jump_out o) ++ statements_out s
+rows_chain R t rs o s = ap (λ (z : List Row). R ++ z) (instructions_out_lem t rs (followed_by o s) ∙ ap (λ (z : List Row). instructions_out t rs ++ z) (followed_out o s)) ∙ sym (simp append_assoc)
 
-pub count-chain : (m : ℕ) (t : Table) (rs : List ℕ) (o : Option Statement) (s : Statements)
-    → m + countStatements (instructionStatements t rs (followedBy o s)) ≡ added o (m + length rs) + countStatements s
-count-chain m t rs none s = omega (arith, instructions-count t rs s)
-count-chain m t rs (some x) s = omega (arith, instructions-count t rs (x ▸ s))
+pub count_chain : (m : ℕ) (t : Table) (rs : List ℕ) (o : Option Statement) (s : Statements)
+    → m + count_statements (instruction_statements t rs (followed_by o s)) ≡ added o (m + length rs) + count_statements s
+count_chain m t rs none s = omega (arith, instructions_count t rs s)
+count_chain m t rs (some x) s = omega (arith, instructions_count t rs (x ▸ s))

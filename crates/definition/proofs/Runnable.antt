@@ -1,13 +1,13 @@
 -- The trees that M-103 runs: "64, before running, at the first LOGICAL, COND, OPTIONAL, TRY, FOROF or FORIN". For proofs/Semantics, which says that the tree of
 -- a plain table is one, and for the runner.
 use mathlib.Core.Option.{Option, none, some}
-use Rattle.definition.specs.Tree.{Value, PLAIN, LOAD, UNDEF, SEQ, LOGICAL, COND, OPTIONAL, Instructions, no-instructions, instruction, Statement, INSTR, IF}
+use Rattle.definition.specs.Tree.{Value, PLAIN, LOAD, UNDEF, SEQ, LOGICAL, COND, OPTIONAL, Instructions, no_instructions, instruction, Statement, INSTR, IF}
 use Rattle.definition.specs.Tree.{SWITCH, DOWHILE, WHILE, FOR, FOROF, FORIN, LABEL, TRY, SCOPE, RETURN, THROW, BREAK, CONTINUE, Statements, done, ◌▸◌}
 use Rattle.definition.specs.Tree.{Cases, no_cases, CASE}
 
 abbrev mutual
   pub Straight : Value → Type 0
-  Straight (PLAIN instructionRow) = Unit {0}
+  Straight (PLAIN instruction_row) = Unit {0}
   Straight (LOAD place) = Unit {0}
   Straight (UNDEF span) = Unit {0}
   Straight (SEQ instructions id value) = StraightAll instructions × Straight value
@@ -16,7 +16,7 @@ abbrev mutual
   Straight (OPTIONAL flag value) = ⊥
 
   pub StraightAll : Instructions → Type 0
-  StraightAll no-instructions = Unit {0}
+  StraightAll no_instructions = Unit {0}
   StraightAll (instruction id lvalue span value rest) = Straight value × StraightAll rest
 
 abbrev pub StraightUpdate : Option Value → Type 0

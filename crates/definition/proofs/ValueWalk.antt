@@ -11,122 +11,122 @@ use lib.ListN.{length}
 use lib.Dec.{T, eqb}
 use borrow.Author.Tests.{leb-false}
 use Rattle.table.specs.declared.columns.Span.{Span}
-use Rattle.table.specs.Table.{Table, Block, Terminal, Operation, other, load-local, store-local, absent, unreachable, throw, return, goto, if, branch, switch}
-use Rattle.table.specs.Table.{do-while, while, for, for-of, for-in, logical, ternary, optional, sequence, maybe-throw, try, scope, code_of, block_at, terminalAt}
-use Rattle.table.specs.Table.{instructionAt, instructionRowsAt, instructionRows, label}
-use Rattle.definition.specs.Output.{valueOut, updateOut}
+use Rattle.table.specs.Table.{Table, Block, Terminal, Operation, other, load_local, store_local, absent, unreachable, throw, return, goto, if, branch, switch}
+use Rattle.table.specs.Table.{do_while, while, for, for_of, for_in, logical, ternary, optional, sequence, maybe_throw, try, scope, code_of, block_at, terminal_at}
+use Rattle.table.specs.Table.{instruction_at, instruction_rows_at, instruction_rows, label}
+use Rattle.definition.specs.Output.{value_out, update_out}
 use Rattle.definition.specs.Result.{Result}
-use Rattle.definition.specs.Statement.{visitUpdate}
-use Rattle.definition.specs.Tree.{Value, PLAIN, LOAD, UNDEF, SEQ, LOGICAL, COND, OPTIONAL, Instructions, no-instructions, instruction, Row, row, instrRow}
-use Rattle.definition.specs.Tree.{valueRows, instructionsRows, countInstructions, instrRow}
-use Rattle.definition.specs.Value.{visitValueBlock, Ways, beginVisit, ValueBlockResult, ValueTerminalResult, TestBlockResult, VisitValueBlock}
-use Rattle.definition.specs.Value.{instructionsOf, wrapWithSequence, finalValue, storedToNamed, allButLast, last, extractValueBlockResult}
-use Rattle.definition.specs.Value.{extractOrRefuse, testBlockEnded, visitTestBlock, singleInstruction, visitValueBlockTerminal, thenFallthrough}
-use Rattle.definition.specs.Value.{branchValue, maybeThrowValue, visitValueBlockAt, appended, sequencedInstructions, innermostValue, loadedPlace}
-use Rattle.definition.specs.Value.{sameIdentifier, unlessSame, valueBlockResultToSequence}
-use Rattle.definition.proofs.Steps.{ofPaper, Fine, fine_bind, fine-unless, fine-map}
+use Rattle.definition.specs.Statement.{visit_update}
+use Rattle.definition.specs.Tree.{Value, PLAIN, LOAD, UNDEF, SEQ, LOGICAL, COND, OPTIONAL, Instructions, no_instructions, instruction, Row, row, instr_row}
+use Rattle.definition.specs.Tree.{value_rows, instructions_rows, count_instructions, instr_row}
+use Rattle.definition.specs.Value.{visit_value_block, Ways, begin_visit, ValueBlockResult, ValueTerminalResult, TestBlockResult, VisitValueBlock}
+use Rattle.definition.specs.Value.{instructions_of, wrap_with_sequence, final_value, stored_to_named, all_but_last, last, extract_value_block_result}
+use Rattle.definition.specs.Value.{extract_or_refuse, test_block_ended, visit_test_block, single_instruction, visit_value_block_terminal, then_fallthrough}
+use Rattle.definition.specs.Value.{branch_value, maybe_throw_value, visit_value_block_at, appended, sequenced_instructions, innermost_value, loaded_place}
+use Rattle.definition.specs.Value.{same_identifier, unless_same, value_block_result_to_sequence}
+use Rattle.definition.proofs.Steps.{of_paper, Fine, fine_bind, fine_unless, fine_map}
 
 -- ---- how many rows a value has
 
 abbrev mutual
   pub size_of : Value → ℕ
-  size_of (PLAIN instructionRow) = 1
+  size_of (PLAIN instruction_row) = 1
   size_of (LOAD place) = 1
   size_of (UNDEF span) = 1
-  size_of (SEQ instructions id value) = suc (sizeOfAll instructions + size_of value)
+  size_of (SEQ instructions id value) = suc (size_of_all instructions + size_of value)
   size_of (LOGICAL operator left right) = suc (size_of left + size_of right)
   size_of (COND test consequent alternate) = suc (size_of test + (size_of consequent + size_of alternate))
   size_of (OPTIONAL flag value) = suc (size_of value)
 
-  sizeOfAll : Instructions → ℕ
-  sizeOfAll no-instructions = 0
-  sizeOfAll (instruction id lvalue span value rest) = suc (size_of value + sizeOfAll rest)
+  size_of_all : Instructions → ℕ
+  size_of_all no_instructions = 0
+  size_of_all (instruction id lvalue span value rest) = suc (size_of value + size_of_all rest)
 
 mutual
-  value-rows-size : (v : Value) (after : List Row) → length (valueRows v after) ≡ size_of v + length after
-  value-rows-size (PLAIN r) after = omega arith
-  value-rows-size (LOAD p) after = omega arith
-  value-rows-size (UNDEF s) after = omega arith
-  value-rows-size (SEQ is i v) after =
-      omega (arith, instructions-rows-size is (valueRows v (row 5 (countInstructions is) i 0 0 0 ∷ after)), value-rows-size v (row 5 (countInstructions is) i 0 0 0 ∷ after))
-  value-rows-size (LOGICAL o l r) after = omega (arith, value-rows-size l (valueRows r (row 6 o 0 0 0 0 ∷ after)), value-rows-size r (row 6 o 0 0 0 0 ∷ after))
-  value-rows-size (COND x y z) after =
-      omega (arith, value-rows-size x (valueRows y (valueRows z (row 7 0 0 0 0 0 ∷ after))), value-rows-size y (valueRows z (row 7 0 0 0 0 0 ∷ after)), value-rows-size z (row 7 0 0 0 0 0 ∷ after))
-  value-rows-size (OPTIONAL f v) after = omega (arith, value-rows-size v (row 8 f 0 0 0 0 ∷ after))
+  value_rows_size : (v : Value) (after : List Row) → length (value_rows v after) ≡ size_of v + length after
+  value_rows_size (PLAIN r) after = omega arith
+  value_rows_size (LOAD p) after = omega arith
+  value_rows_size (UNDEF s) after = omega arith
+  value_rows_size (SEQ is i v) after =
+      omega (arith, instructions_rows_size is (value_rows v (row 5 (count_instructions is) i 0 0 0 ∷ after)), value_rows_size v (row 5 (count_instructions is) i 0 0 0 ∷ after))
+  value_rows_size (LOGICAL o l r) after = omega (arith, value_rows_size l (value_rows r (row 6 o 0 0 0 0 ∷ after)), value_rows_size r (row 6 o 0 0 0 0 ∷ after))
+  value_rows_size (COND x y z) after =
+      omega (arith, value_rows_size x (value_rows y (value_rows z (row 7 0 0 0 0 0 ∷ after))), value_rows_size y (value_rows z (row 7 0 0 0 0 0 ∷ after)), value_rows_size z (row 7 0 0 0 0 0 ∷ after))
+  value_rows_size (OPTIONAL f v) after = omega (arith, value_rows_size v (row 8 f 0 0 0 0 ∷ after))
 
-  instructions-rows-size : (is : Instructions) (after : List Row) → length (instructionsRows is after) ≡ sizeOfAll is + length after
-  instructions-rows-size no-instructions after = omega arith
-  instructions-rows-size (instruction i l s v rest) after = omega (arith, value-rows-size v (instrRow i l s ∷ instructionsRows rest after), instructions-rows-size rest after)
+  instructions_rows_size : (is : Instructions) (after : List Row) → length (instructions_rows is after) ≡ size_of_all is + length after
+  instructions_rows_size no_instructions after = omega arith
+  instructions_rows_size (instruction i l s v rest) after = omega (arith, value_rows_size v (instr_row i l s ∷ instructions_rows rest after), instructions_rows_size rest after)
 
-pub value-out-size : (v : Value) → length (valueOut v) ≡ size_of v
-unfolding valueOut
-value-out-size v = omega (arith, value-rows-size v [])
+pub value_out_size : (v : Value) → length (value_out v) ≡ size_of v
+unfolding value_out
+value_out_size v = omega (arith, value_rows_size v [])
 
 -- ---- the parts of a value
 
-instructions-of-size : (t : Table) (rows : List ℕ) (more : Instructions) → sizeOfAll (instructionsOf t rows more) ≡ 2 * length rows + sizeOfAll more
-unfolding instructionsOf
-instructions-of-size t [] more = omega arith
-instructions-of-size t (r ∷ rows) more = omega (arith, instructions-of-size t rows more)
+instructions_of_size : (t : Table) (rows : List ℕ) (more : Instructions) → size_of_all (instructions_of t rows more) ≡ 2 * length rows + size_of_all more
+unfolding instructions_of
+instructions_of_size t [] more = omega arith
+instructions_of_size t (r ∷ rows) more = omega (arith, instructions_of_size t rows more)
 
-wrapped-size : (t : Table) (rows : List ℕ) (id : ℕ) (value : Value) → size_of (wrapWithSequence t rows id value) ≤ suc (2 * length rows + size_of value)
-unfolding wrapWithSequence
-wrapped-size t [] id value = omega arith
-wrapped-size t (r ∷ rows) id value = omega (arith, instructions-of-size t (r ∷ rows) no-instructions)
+wrapped_size : (t : Table) (rows : List ℕ) (id : ℕ) (value : Value) → size_of (wrap_with_sequence t rows id value) ≤ suc (2 * length rows + size_of value)
+unfolding wrap_with_sequence
+wrapped_size t [] id value = omega arith
+wrapped_size t (r ∷ rows) id value = omega (arith, instructions_of_size t (r ∷ rows) no_instructions)
 
-final-value-size : (r : ℕ) (operation : Operation) (named : ℕ) → size_of (finalValue r operation named) ≡ 1
-unfolding finalValue
-final-value-size r other named = refl
-final-value-size r (load-local place) named = refl
-final-value-size r (store-local storedTo storedValue) zero = refl
-final-value-size r (store-local storedTo storedValue) (suc named) = refl
+final_value_size : (r : ℕ) (operation : Operation) (named : ℕ) → size_of (final_value r operation named) ≡ 1
+unfolding final_value
+final_value_size r other named = refl
+final_value_size r (load_local place) named = refl
+final_value_size r (store_local stored_to stored_value) zero = refl
+final_value_size r (store_local stored_to stored_value) (suc named) = refl
 
-all-but-last-length : (r : ℕ) (rows : List ℕ) → length (allButLast r rows) ≡ length rows
-unfolding allButLast
-all-but-last-length r [] = refl
-all-but-last-length r (next ∷ rows) = ap suc (all-but-last-length next rows)
+all_but_last_length : (r : ℕ) (rows : List ℕ) → length (all_but_last r rows) ≡ length rows
+unfolding all_but_last
+all_but_last_length r [] = refl
+all_but_last_length r (next ∷ rows) = ap suc (all_but_last_length next rows)
 
-extract-size : (t : Table) (block r : ℕ) (rows : List ℕ) (visits : ℕ) → size_of (extractValueBlockResult t block r rows visits).value ≤ 2 * suc (length rows)
-unfolding extractValueBlockResult
-extract-size t block r rows visits =
+extract_size : (t : Table) (block r : ℕ) (rows : List ℕ) (visits : ℕ) → size_of (extract_value_block_result t block r rows visits).value ≤ 2 * suc (length rows)
+unfolding extract_value_block_result
+extract_size t block r rows visits =
     let final : ℕ = last r rows in
-    let operation : Operation = (instructionAt t final).operation in
-    let named : ℕ = storedToNamed t operation in
-    omega (arith, wrapped-size t (allButLast r rows) (instructionAt t final).id (finalValue final operation named), final-value-size final operation named, all-but-last-length r rows)
+    let operation : Operation = (instruction_at t final).operation in
+    let named : ℕ = stored_to_named t operation in
+    omega (arith, wrapped_size t (all_but_last r rows) (instruction_at t final).id (final_value final operation named), final_value_size final operation named, all_but_last_length r rows)
 
 -- ---- flattening
 
-appended-size : (is more : Instructions) → sizeOfAll (appended is more) ≡ sizeOfAll is + sizeOfAll more
+appended_size : (is more : Instructions) → size_of_all (appended is more) ≡ size_of_all is + size_of_all more
 unfolding appended
-appended-size no-instructions more = omega arith
-appended-size (instruction i l s v rest) more = omega (arith, appended-size rest more)
+appended_size no_instructions more = omega arith
+appended_size (instruction i l s v rest) more = omega (arith, appended_size rest more)
 
-sequenced-size : (v : Value) (more : Instructions) → sizeOfAll (sequencedInstructions v more) + size_of (innermostValue v) ≤ size_of v + sizeOfAll more
-sequenced-size (PLAIN r) more = omega arith
-sequenced-size (LOAD p) more = omega arith
-sequenced-size (UNDEF s) more = omega arith
-sequenced-size (SEQ is i v) more = omega (arith, appended-size is (sequencedInstructions v more), sequenced-size v more)
-sequenced-size (LOGICAL o l r) more = omega arith
-sequenced-size (COND x y z) more = omega arith
-sequenced-size (OPTIONAL f v) more = omega arith
+sequenced_size : (v : Value) (more : Instructions) → size_of_all (sequenced_instructions v more) + size_of (innermost_value v) ≤ size_of v + size_of_all more
+sequenced_size (PLAIN r) more = omega arith
+sequenced_size (LOAD p) more = omega arith
+sequenced_size (UNDEF s) more = omega arith
+sequenced_size (SEQ is i v) more = omega (arith, appended_size is (sequenced_instructions v more), sequenced_size v more)
+sequenced_size (LOGICAL o l r) more = omega arith
+sequenced_size (COND x y z) more = omega arith
+sequenced_size (OPTIONAL f v) more = omega arith
 
-unless-same-size : (same : Bool) (is : Instructions) → sizeOfAll (unlessSame same is) ≤ sizeOfAll is
-unfolding unlessSame
-unless-same-size true is = omega arith
-unless-same-size false is = le_refl _
+unless_same_size : (same : Bool) (is : Instructions) → size_of_all (unless_same same is) ≤ size_of_all is
+unfolding unless_same
+unless_same_size true is = omega arith
+unless_same_size false is = le_refl _
 
-pub sequence-size : (t : Table) (result : ValueBlockResult) (span : Span) → size_of (valueBlockResultToSequence t result span) ≤ 3 + size_of result.value
-unfolding valueBlockResultToSequence
-sequence-size t result span =
-    let innermost : Value = innermostValue result.value in
-    let same : Bool = sameIdentifier t result.place (loadedPlace t innermost) in
-    let final : Instructions = singleInstruction result.id result.place span innermost in
-    omega (arith, sequenced-size result.value (unlessSame same final), unless-same-size same final)
+pub sequence_size : (t : Table) (result : ValueBlockResult) (span : Span) → size_of (value_block_result_to_sequence t result span) ≤ 3 + size_of result.value
+unfolding value_block_result_to_sequence
+sequence_size t result span =
+    let innermost : Value = innermost_value result.value in
+    let same : Bool = same_identifier t result.place (loaded_place t innermost) in
+    let final : Instructions = single_instruction result.id result.place span innermost in
+    omega (arith, sequenced_size result.value (unless_same same final), unless_same_size same final)
 
 -- ---- what a step of the walk takes, from so many visits on
 
 abbrev pub FewRows : Table → Type 0
-FewRows t = (block : ℕ) → length (instructionRowsAt t block) ≤ 4096
+FewRows t = (block : ℕ) → length (instruction_rows_at t block) ≤ 4096
 
 -- `spare` rows are not paid for
 pub record Took (t : Table) (spare size before after : ℕ) : Type 0 where
@@ -163,142 +163,142 @@ with_rows : {t : Table} {spare spare₁ size size₁ before after : ℕ} → (Fe
 with_rows h a = record { rises = a.rises; most = a.most; paid = λ few. omega (arith, a.paid few, h few) }
 
 -- "92" is given to a MaybeThrow only
-abbrev pub isMaybeThrow : Terminal → Bool
-isMaybeThrow terminal = eqb (code_of terminal) 18
+abbrev pub is_maybe_throw : Terminal → Bool
+is_maybe_throw terminal = eqb (code_of terminal) 18
 
-test-ended-took : (t : Table) (test : ValueBlockResult) (ways : Option Ways) (at before : ℕ) → BlockTook t before test → Fine (TestTook t before) (testBlockEnded test ways at)
-unfolding testBlockEnded
-test-ended-took t test none at before h = tt
-test-ended-took t test (some ways) at before h = h
+test_ended_took : (t : Table) (test : ValueBlockResult) (ways : Option Ways) (at before : ℕ) → BlockTook t before test → Fine (TestTook t before) (test_block_ended test ways at)
+unfolding test_block_ended
+test_ended_took t test none at before h = tt
+test_ended_took t test (some ways) at before h = h
 
-extract-took : (t : Table) (block : ℕ) (rows : List ℕ) (visits code at : ℕ) → T (ofPaper code) → (FewRows t → length rows ≤ 4096)
-    → Fine (EnteredTook t visits) (extractOrRefuse t block rows visits code at)
-unfolding extractOrRefuse
-extract-took t block [] visits code at c few = c
-extract-took t block (r ∷ rows) visits code at c few = unfold extractValueBlockResult in at_rest visits (λ f. omega (arith, extract-size t block r rows visits, few f))
+extract_took : (t : Table) (block : ℕ) (rows : List ℕ) (visits code at : ℕ) → T (of_paper code) → (FewRows t → length rows ≤ 4096)
+    → Fine (EnteredTook t visits) (extract_or_refuse t block rows visits code at)
+unfolding extract_or_refuse
+extract_took t block [] visits code at c few = c
+extract_took t block (r ∷ rows) visits code at c few = unfold extract_value_block_result in at_rest visits (λ f. omega (arith, extract_size t block r rows visits, few f))
 
-branch-value-took : (t : Table) (block test id : ℕ) (rows : List ℕ) (visits : ℕ) → (FewRows t → length rows ≤ 4096) → Fine (EnteredTook t visits) (branchValue t block test id rows visits)
-unfolding branchValue
-branch-value-took t block test id [] visits few = at_rest visits (λ f. omega arith)
-branch-value-took t block test id (r ∷ rows) visits few = unfold extractValueBlockResult in at_rest visits (λ f. omega (arith, extract-size t block r rows visits, few f))
+branch_value_took : (t : Table) (block test id : ℕ) (rows : List ℕ) (visits : ℕ) → (FewRows t → length rows ≤ 4096) → Fine (EnteredTook t visits) (branch_value t block test id rows visits)
+unfolding branch_value
+branch_value_took t block test id [] visits few = at_rest visits (λ f. omega arith)
+branch_value_took t block test id (r ∷ rows) visits few = unfold extract_value_block_result in at_rest visits (λ f. omega (arith, extract_size t block r rows visits, few f))
 
-pub begin-visit-took : (t : Table) (block visits : ℕ) → Fine (λ begun. (visits < 8192) × (begun ≡ suc visits)) (beginVisit t block visits)
-unfolding beginVisit
-begin-visit-took t block visits =
-    fine-unless (λ begun. (visits < 8192) × (begun ≡ suc visits)) _ 31 block visits _ tt (λ h.
-    fine-unless (λ begun. (visits < 8192) × (begun ≡ suc visits)) _ 10 block (suc visits) _ tt (λ _. (leb-false 8192 visits h, refl)))
+pub begin_visit_took : (t : Table) (block visits : ℕ) → Fine (λ begun. (visits < 8192) × (begun ≡ suc visits)) (begin_visit t block visits)
+unfolding begin_visit
+begin_visit_took t block visits =
+    fine_unless (λ begun. (visits < 8192) × (begun ≡ suc visits)) _ 31 block visits _ tt (λ h.
+    fine_unless (λ begun. (visits < 8192) × (begun ≡ suc visits)) _ 10 block (suc visits) _ tt (λ _. (leb-false 8192 visits h, refl)))
 
-module _ (t : Table) (visit : VisitValueBlock) (visit-took : VisitTook t visit) where
+module _ (t : Table) (visit : VisitValueBlock) (visit_took : VisitTook t visit) where
   nested : (block : ℕ) (fallthrough : Option ℕ) (span : Span) (visits : ℕ) → Fine (BlockTook t visits) (visit block fallthrough span visits)
   unfolding VisitTook
-  nested block fallthrough span visits = visit-took block fallthrough span visits
+  nested block fallthrough span visits = visit_took block fallthrough span visits
 
-  test-took : (block : ℕ) (span : Span) (visits at : ℕ) → Fine (TestTook t visits) (visitTestBlock t visit block span visits at)
-  unfolding visitTestBlock
-  test-took block span visits at = fine_bind (BlockTook t visits) (TestTook t visits) _ _ (nested block none span visits) (λ test h. test-ended-took t test _ at visits h)
+  test_took : (block : ℕ) (span : Span) (visits at : ℕ) → Fine (TestTook t visits) (visit_test_block t visit block span visits at)
+  unfolding visit_test_block
+  test_took block span visits at = fine_bind (BlockTook t visits) (TestTook t visits) _ _ (nested block none span visits) (λ test h. test_ended_took t test _ at visits h)
 
-  pub terminal-took : (m : Terminal) (id : ℕ) (span : Span) (visits at : ℕ) → T (not (isMaybeThrow m)) → Fine (TerminalTook t visits) (visitValueBlockTerminal t visit m id span visits at)
-  unfolding visitValueBlockTerminal
-  terminal-took absent id span visits at h = tt
-  terminal-took unreachable id span visits at h = tt
-  terminal-took (throw value) id span visits at h = tt
-  terminal-took (return value) id span visits at h = tt
-  terminal-took (goto block variant) id span visits at h = tt
-  terminal-took (if test consequent alternate fallthrough) id span visits at h = tt
-  terminal-took (branch test consequent alternate) id span visits at h = tt
-  terminal-took (switch test first number fallthrough) id span visits at h = tt
-  terminal-took (do-while loop test fallthrough) id span visits at h = tt
-  terminal-took (while test loop fallthrough) id span visits at h = tt
-  terminal-took (for init test update loop fallthrough) id span visits at h = tt
-  terminal-took (for-of init test loop fallthrough) id span visits at h = tt
-  terminal-took (for-in init loop fallthrough) id span visits at h = tt
-  terminal-took (logical operator test fallthrough) id span visits at h =
-      fine_bind (TestTook t visits) (TerminalTook t visits) _ _ (test-took test span visits at) (λ tested a.
+  pub terminal_took : (m : Terminal) (id : ℕ) (span : Span) (visits at : ℕ) → T (not (is_maybe_throw m)) → Fine (TerminalTook t visits) (visit_value_block_terminal t visit m id span visits at)
+  unfolding visit_value_block_terminal
+  terminal_took absent id span visits at h = tt
+  terminal_took unreachable id span visits at h = tt
+  terminal_took (throw value) id span visits at h = tt
+  terminal_took (return value) id span visits at h = tt
+  terminal_took (goto block variant) id span visits at h = tt
+  terminal_took (if test consequent alternate fallthrough) id span visits at h = tt
+  terminal_took (branch test consequent alternate) id span visits at h = tt
+  terminal_took (switch test first number fallthrough) id span visits at h = tt
+  terminal_took (do_while loop test fallthrough) id span visits at h = tt
+  terminal_took (while test loop fallthrough) id span visits at h = tt
+  terminal_took (for init test update loop fallthrough) id span visits at h = tt
+  terminal_took (for_of init test loop fallthrough) id span visits at h = tt
+  terminal_took (for_in init loop fallthrough) id span visits at h = tt
+  terminal_took (logical operator test fallthrough) id span visits at h =
+      fine_bind (TestTook t visits) (TerminalTook t visits) _ _ (test_took test span visits at) (λ tested a.
       fine_bind (BlockTook t tested.test.visits) (TerminalTook t visits) _ _ (nested _ _ _ _) (λ left b.
       fine_bind (BlockTook t left.visits) (TerminalTook t visits) _ _ (nested _ _ _ _) (λ right c. with_rows (λ _. omega arith) (both a (both b c)))))
-  terminal-took (ternary test fallthrough) id span visits at h =
-      fine_bind (TestTook t visits) (TerminalTook t visits) _ _ (test-took test span visits at) (λ tested a.
+  terminal_took (ternary test fallthrough) id span visits at h =
+      fine_bind (TestTook t visits) (TerminalTook t visits) _ _ (test_took test span visits at) (λ tested a.
       fine_bind (BlockTook t tested.test.visits) (TerminalTook t visits) _ _ (nested _ _ _ _) (λ consequent b.
       fine_bind (BlockTook t consequent.visits) (TerminalTook t visits) _ _ (nested _ _ _ _) (λ alternate c. with_rows (λ _. omega arith) (both a (both b c)))))
-  terminal-took (optional flag test fallthrough) id span visits at h =
-      fine_bind (TestTook t visits) (TerminalTook t visits) _ _ (test-took test span visits at) (λ tested a.
+  terminal_took (optional flag test fallthrough) id span visits at h =
+      fine_bind (TestTook t visits) (TerminalTook t visits) _ _ (test_took test span visits at) (λ tested a.
       fine_bind (BlockTook t tested.test.visits) (TerminalTook t visits) _ _ (nested _ _ _ _) (λ consequent b. with_rows (λ _. omega arith) (both a b)))
-  terminal-took (label block fallthrough) id span visits at h = tt
-  terminal-took (sequence block fallthrough) id span visits at h =
+  terminal_took (label block fallthrough) id span visits at h = tt
+  terminal_took (sequence block fallthrough) id span visits at h =
       fine_bind (BlockTook t visits) (TerminalTook t visits) _ _ (nested _ _ _ _) (λ inner a. with_rows (λ _. omega arith) a)
-  terminal-took (maybe-throw continuation) id span visits at h = absurd h
-  terminal-took (try block handler fallthrough binding) id span visits at h = tt
-  terminal-took (scope pruned block fallthrough number) id span visits at h = tt
+  terminal_took (maybe_throw continuation) id span visits at h = absurd h
+  terminal_took (try block handler fallthrough binding) id span visits at h = tt
+  terminal_took (scope pruned block fallthrough number) id span visits at h = tt
 
-  then-fallthrough-took : (block : Block) (span : Span) (before : ℕ) (terminal : Result ValueTerminalResult)
-      → (FewRows t → length (instructionRows block) ≤ 4096) → Fine (TerminalTook t before) terminal
-      → Fine (EnteredTook t before) (thenFallthrough t visit block span terminal)
-  unfolding thenFallthrough
-  then-fallthrough-took block span before terminal rows h =
+  then_fallthrough_took : (block : Block) (span : Span) (before : ℕ) (terminal : Result ValueTerminalResult)
+      → (FewRows t → length (instruction_rows block) ≤ 4096) → Fine (TerminalTook t before) terminal
+      → Fine (EnteredTook t before) (then_fallthrough t visit block span terminal)
+  unfolding then_fallthrough
+  then_fallthrough_took block span before terminal rows h =
       fine_bind (TerminalTook t before) (EnteredTook t before) terminal _ h (λ init a.
       fine_bind (BlockTook t init.visits) (EnteredTook t before) _ _ (nested _ _ _ _) (λ final b.
-      with_rows (λ few. omega (arith, rows few, instructions-of-size t (instructionRows block) (singleInstruction init.id init.place span init.value))) (both a b)))
+      with_rows (λ few. omega (arith, rows few, instructions_of_size t (instruction_rows block) (single_instruction init.id init.place span init.value))) (both a b)))
 
-  maybe-throw-took : (number continuation : ℕ) (rows : List ℕ) (fallthrough : Option ℕ) (span : Span) (visits : ℕ) (own : Bool) → (FewRows t → length rows ≤ 4096)
-      → Fine (EnteredTook t visits) (maybeThrowValue t visit number continuation rows fallthrough span visits own)
-  unfolding maybeThrowValue
-  maybe-throw-took number continuation rows fallthrough span visits true few = extract-took t continuation rows visits 28 number tt few
-  maybe-throw-took number continuation rows fallthrough span visits false few =
+  maybe_throw_took : (number continuation : ℕ) (rows : List ℕ) (fallthrough : Option ℕ) (span : Span) (visits : ℕ) (own : Bool) → (FewRows t → length rows ≤ 4096)
+      → Fine (EnteredTook t visits) (maybe_throw_value t visit number continuation rows fallthrough span visits own)
+  unfolding maybe_throw_value
+  maybe_throw_took number continuation rows fallthrough span visits true few = extract_took t continuation rows visits 28 number tt few
+  maybe_throw_took number continuation rows fallthrough span visits false few =
       fine_bind (BlockTook t visits) (EnteredTook t visits) _ _ (nested continuation fallthrough span visits) (λ final a.
-      with_rows (λ f. omega (arith, few f, wrapped-size t rows final.id final.value)) a)
+      with_rows (λ f. omega (arith, few f, wrapped_size t rows final.id final.value)) a)
 
-  block-took : (m : Terminal) (number : ℕ) (outer : Option ℕ) (span : Span) (visits : ℕ) → Fine (EnteredTook t visits) (visitValueBlockAt t visit m number (block_at t number) outer span visits)
-  unfolding visitValueBlockAt
-  block-took m number outer span visits = at m
+  block_took : (m : Terminal) (number : ℕ) (outer : Option ℕ) (span : Span) (visits : ℕ) → Fine (EnteredTook t visits) (visit_value_block_at t visit m number (block_at t number) outer span visits)
+  unfolding visit_value_block_at
+  block_took m number outer span visits = at m
     where
-      rows : FewRows t → length (instructionRowsAt t number) ≤ 4096
+      rows : FewRows t → length (instruction_rows_at t number) ≤ 4096
       rows few = few number
 
-      through : (m : Terminal) → T (not (isMaybeThrow m))
-          → Fine (EnteredTook t visits) (thenFallthrough t visit (block_at t number) span
-          (visitValueBlockTerminal t visit m (block_at t number).id (block_at t number).span visits number))
-      through m h = then-fallthrough-took (block_at t number) span visits _ rows (terminal-took m (block_at t number).id (block_at t number).span visits number h)
+      through : (m : Terminal) → T (not (is_maybe_throw m))
+          → Fine (EnteredTook t visits) (then_fallthrough t visit (block_at t number) span
+          (visit_value_block_terminal t visit m (block_at t number).id (block_at t number).span visits number))
+      through m h = then_fallthrough_took (block_at t number) span visits _ rows (terminal_took m (block_at t number).id (block_at t number).span visits number h)
 
-      at : (m : Terminal) → Fine (EnteredTook t visits) (visitValueBlockAt t visit m number (block_at t number) outer span visits)
+      at : (m : Terminal) → Fine (EnteredTook t visits) (visit_value_block_at t visit m number (block_at t number) outer span visits)
       at absent = through absent tt
       at unreachable = through unreachable tt
       at (throw value) = through (throw value) tt
       at (return value) = through (return value) tt
-      at (goto block variant) = extract-took t number (instructionRowsAt t number) visits 24 number tt rows
+      at (goto block variant) = extract_took t number (instruction_rows_at t number) visits 24 number tt rows
       at (if test consequent alternate fallthrough) = through (if test consequent alternate fallthrough) tt
-      at (branch test consequent alternate) = branch-value-took t number test (block_at t number).id (instructionRowsAt t number) visits rows
+      at (branch test consequent alternate) = branch_value_took t number test (block_at t number).id (instruction_rows_at t number) visits rows
       at (switch test first count fallthrough) = through (switch test first count fallthrough) tt
-      at (do-while loop test fallthrough) = through (do-while loop test fallthrough) tt
+      at (do_while loop test fallthrough) = through (do_while loop test fallthrough) tt
       at (while test loop fallthrough) = through (while test loop fallthrough) tt
       at (for init test update loop fallthrough) = through (for init test update loop fallthrough) tt
-      at (for-of init test loop fallthrough) = through (for-of init test loop fallthrough) tt
-      at (for-in init loop fallthrough) = through (for-in init loop fallthrough) tt
+      at (for_of init test loop fallthrough) = through (for_of init test loop fallthrough) tt
+      at (for_in init loop fallthrough) = through (for_in init loop fallthrough) tt
       at (logical operator test fallthrough) = through (logical operator test fallthrough) tt
       at (ternary test fallthrough) = through (ternary test fallthrough) tt
       at (optional flag test fallthrough) = through (optional flag test fallthrough) tt
       at (label block fallthrough) = through (label block fallthrough) tt
       at (sequence block fallthrough) = through (sequence block fallthrough) tt
-      at (maybe-throw continuation) =
-          fine-unless (EnteredTook t visits) _ 10 continuation visits _ tt (λ _. maybe-throw-took number continuation (instructionRowsAt t number) outer span visits _ rows)
+      at (maybe_throw continuation) =
+          fine_unless (EnteredTook t visits) _ 10 continuation visits _ tt (λ _. maybe_throw_took number continuation (instruction_rows_at t number) outer span visits _ rows)
       at (try block handler fallthrough binding) = through (try block handler fallthrough binding) tt
       at (scope false block fallthrough scoped) = through (scope false block fallthrough scoped) tt
       at (scope true block fallthrough scoped) = through (scope true block fallthrough scoped) tt
 
-  pub update-took : (update : Option ℕ) (span : Span) (visits : ℕ) → Fine (λ w. Took t 0 (length (updateOut w.value)) visits w.visits) (visitUpdate visit update span visits)
-  unfolding visitUpdate updateOut
-  update-took none span visits = at_rest visits (λ few. omega arith)
-  update-took (some update) span visits =
-      fine_bind (BlockTook t visits) (λ w. Took t 0 (length (updateOut w.value)) visits w.visits) _ _ (nested update none span visits) (λ r a.
-      with_rows (λ _. omega (arith, value-out-size r.value)) a)
+  pub update_took : (update : Option ℕ) (span : Span) (visits : ℕ) → Fine (λ w. Took t 0 (length (update_out w.value)) visits w.visits) (visit_update visit update span visits)
+  unfolding visit_update update_out
+  update_took none span visits = at_rest visits (λ few. omega arith)
+  update_took (some update) span visits =
+      fine_bind (BlockTook t visits) (λ w. Took t 0 (length (update_out w.value)) visits w.visits) _ _ (nested update none span visits) (λ r a.
+      with_rows (λ _. omega (arith, value_out_size r.value)) a)
 
-pub value-took : (t : Table) (depthLeft : ℕ) → VisitTook t (visitValueBlock t depthLeft)
-unfolding VisitTook visitValueBlock
-value-took t zero block fallthrough span visits = tt
-value-took t (suc depthLeft) block fallthrough span visits =
-    fine_bind (λ begun. (visits < 8192) × (begun ≡ suc visits)) (BlockTook t visits) _ _ (begin-visit-took t block visits) (λ begun b.
-    fine-unless (BlockTook t visits) _ 23 block begun _ tt (λ _.
-    fine-map (EnteredTook t begun) (BlockTook t visits) (visitValueBlockAt t (visitValueBlock t depthLeft) (terminalAt t block) block (block_at t block) fallthrough span begun) (λ r a. record {
+pub value_took : (t : Table) (depth_left : ℕ) → VisitTook t (visit_value_block t depth_left)
+unfolding VisitTook visit_value_block
+value_took t zero block fallthrough span visits = tt
+value_took t (suc depth_left) block fallthrough span visits =
+    fine_bind (λ begun. (visits < 8192) × (begun ≡ suc visits)) (BlockTook t visits) _ _ (begin_visit_took t block visits) (λ begun b.
+    fine_unless (BlockTook t visits) _ 23 block begun _ tt (λ _.
+    fine_map (EnteredTook t begun) (BlockTook t visits) (visit_value_block_at t (visit_value_block t depth_left) (terminal_at t block) block (block_at t block) fallthrough span begun) (λ r a. record {
       rises = omega (arith, a.rises, b);
       most = λ _. a.most (omega (arith, b));
       paid = λ few. omega (arith, a.paid few, b);
-    }) (block-took t (visitValueBlock t depthLeft) (value-took t depthLeft) (terminalAt t block) block fallthrough span begun)))
+    }) (block_took t (visit_value_block t depth_left) (value_took t depth_left) (terminal_at t block) block fallthrough span begun)))

@@ -10,8 +10,8 @@ pub data Rule : Type 0 where
 
 -- a statement that is being built: one of its nested lists contains the jump. Its label is the fallthrough that it took, if it took one; a scope's row has none
 pub data Enclosing : Type 0 where
-  a-loop : (label : Option ℕ) → Enclosing
-  a-switch : (label : Option ℕ) → Enclosing
+  a_loop : (label : Option ℕ) → Enclosing
+  a_switch : (label : Option ℕ) → Enclosing
   another : (label : Option ℕ) → Enclosing
 
 -- the rule, and the statements being built, the innermost first. The control stack does not have all of them: not, say, a switch that did not take its fallthrough
@@ -28,44 +28,44 @@ within enclosing around = record { rule = around.rule; statements = enclosing �
 -- ---- the kind of a break
 
 -- a switch is being built inside of the innermost loop
-unfoldable pub switchInside : List Enclosing → Bool
-switchInside [] = false
-switchInside (a-loop label ∷ outer) = false
-switchInside (a-switch label ∷ outer) = true
-switchInside (another label ∷ outer) = switchInside outer
+unfoldable pub is_switch_inside : List Enclosing → Bool
+is_switch_inside [] = false
+is_switch_inside (a_loop label ∷ outer) = false
+is_switch_inside (a_switch label ∷ outer) = true
+is_switch_inside (another label ∷ outer) = is_switch_inside outer
 
 -- "There a break to a loop is Labeled also when a switch is being built between the jump and that loop, whether or not the switch took its fallthrough."
 -- (Only a break to the innermost loop is Unlabeled. A break to a loop further out is Labeled by paper 01's rule.)
-unfoldable pub kindBy : Rule → (switchBetween : Bool) → Kind → Kind
-kindBy rust switchBetween kind = kind
-kindBy language switchBetween implicit = implicit
-kindBy language switchBetween labeled = labeled
-kindBy language true unlabeled = labeled
-kindBy language false unlabeled = unlabeled
+unfoldable pub kind_by : Rule → (switch_between : Bool) → Kind → Kind
+kind_by rust switch_between kind = kind
+kind_by language switch_between implicit = implicit
+kind_by language switch_between labeled = labeled
+kind_by language true unlabeled = labeled
+kind_by language false unlabeled = unlabeled
 
-unfoldable pub breakKindIn : Around → Kind → Kind
-breakKindIn around kind = kindBy around.rule (switchInside around.statements) kind
+unfoldable pub break_kind_in : Around → Kind → Kind
+break_kind_in around kind = kind_by around.rule (is_switch_inside around.statements) kind
 
 -- ---- the label that a jump names
 
-unfoldable pub isLabel : Option ℕ → (target : ℕ) → Bool
-isLabel none target = false
-isLabel (some label) target = eqb label target
+unfoldable pub is_label : Option ℕ → (target : ℕ) → Bool
+is_label none target = false
+is_label (some label) target = eqb label target
 
 -- "the label of a statement around it"
-unfoldable pub namesStatement : List Enclosing → (target : ℕ) → Bool
-namesStatement [] target = false
-namesStatement (a-loop label ∷ outer) target = isLabel label target || namesStatement outer target
-namesStatement (a-switch label ∷ outer) target = isLabel label target || namesStatement outer target
-namesStatement (another label ∷ outer) target = isLabel label target || namesStatement outer target
+unfoldable pub names_statement : List Enclosing → (target : ℕ) → Bool
+names_statement [] target = false
+names_statement (a_loop label ∷ outer) target = is_label label target || names_statement outer target
+names_statement (a_switch label ∷ outer) target = is_label label target || names_statement outer target
+names_statement (another label ∷ outer) target = is_label label target || names_statement outer target
 
 -- "and a continue the label of the very loop it resolved to": the one with so many loops inside of it
-unfoldable pub namesLoop : List Enclosing → (loops target : ℕ) → Bool
-namesLoop [] loops target = false
-namesLoop (a-loop label ∷ outer) zero target = isLabel label target
-namesLoop (a-loop label ∷ outer) (suc loops) target = namesLoop outer loops target
-namesLoop (a-switch label ∷ outer) loops target = namesLoop outer loops target
-namesLoop (another label ∷ outer) loops target = namesLoop outer loops target
+unfoldable pub names_loop : List Enclosing → (loops target : ℕ) → Bool
+names_loop [] loops target = false
+names_loop (a_loop label ∷ outer) zero target = is_label label target
+names_loop (a_loop label ∷ outer) (suc loops) target = names_loop outer loops target
+names_loop (a_switch label ∷ outer) loops target = names_loop outer loops target
+names_loop (another label ∷ outer) loops target = names_loop outer loops target
 
 -- "29 in the new entry .. exactly when a Labeled jump finds no such label"
 unfoldable pub unnamed : Rule → Kind → (named : Bool) → Bool
@@ -74,8 +74,8 @@ unnamed language implicit named = false
 unnamed language labeled named = not named
 unnamed language unlabeled named = false
 
-unfoldable pub breakUnnamed : Around → Resolution → Bool
-breakUnnamed around found = unnamed around.rule (breakKindIn around found.kind) (namesStatement around.statements found.target)
+unfoldable pub break_unnamed : Around → Resolution → Bool
+break_unnamed around found = unnamed around.rule (break_kind_in around found.kind) (names_statement around.statements found.target)
 
-unfoldable pub continueUnnamed : Around → Resolution → Bool
-continueUnnamed around found = unnamed around.rule found.kind (namesLoop around.statements found.loops found.target)
+unfoldable pub continue_unnamed : Around → Resolution → Bool
+continue_unnamed around found = unnamed around.rule found.kind (names_loop around.statements found.loops found.target)

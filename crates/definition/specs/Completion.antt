@@ -12,25 +12,25 @@ pub data Completion : Type 0 where
   stop : Reason → Completion
 
 -- the labelSet of a statement: its label is the only one, or it has none
-abbrev pub labelSet : Option ℕ → List ℕ
-labelSet none = []
-labelSet (some label) = label ∷ []
+abbrev pub label_set : Option ℕ → List ℕ
+label_set none = []
+label_set (some label) = label ∷ []
 
 abbrev pub contains : List ℕ → ℕ → Bool
 contains [] target = false
 contains (label ∷ labels) target = eqb label target || contains labels target
 
 -- LoopContinues(completion, labelSet), step by step
-unfoldable pub loopContinues : Completion → (labelSet : List ℕ) → Bool
+unfoldable pub loop_continues : Completion → (label_set : List ℕ) → Bool
 -- 1. If completion is a normal completion, return true.
-loopContinues normal labels = true
+loop_continues normal labels = true
 -- 2. If completion is not a continue completion, return false.
-loopContinues (break target id) labels = false
-loopContinues (stop reason) labels = false
+loop_continues (break target id) labels = false
+loop_continues (stop reason) labels = false
 -- 3. If completion.[[Target]] is empty, return true.
-loopContinues (continue none id) labels = true
+loop_continues (continue none id) labels = true
 -- 4. If labelSet contains completion.[[Target]], return true. 5. Return false.
-loopContinues (continue (some target) id) labels = contains labels target
+loop_continues (continue (some target) id) labels = contains labels target
 
 -- BreakableStatement's LabelledEvaluation: a break completion whose [[Target]] is empty becomes normal
 unfoldable pub breakable : Completion → Completion
@@ -44,6 +44,6 @@ breakable (stop reason) = stop reason
 unfoldable pub labelled : Option ℕ → Completion → Completion
 labelled label normal = normal
 labelled label (break none id) = break none id
-labelled label (break (some target) id) = elim (contains (labelSet label) target) [ true ↦ normal | false ↦ break (some target) id ]
+labelled label (break (some target) id) = elim (contains (label_set label) target) [ true ↦ normal | false ↦ break (some target) id ]
 labelled label (continue target id) = continue target id
 labelled label (stop reason) = stop reason

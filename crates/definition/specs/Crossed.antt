@@ -1,6 +1,6 @@
 -- M-107: "the number of loops on the control stack above the one it found". What a jump is resolved on. proofs/Crossed proves it of every break and continue.
 use Rattle.std.specs.Prelude.{◌≡◌, ℕ, ◌<◌, List, [], ◌∷◌, ◌++◌, Bool, true, false}
-use Rattle.definition.specs.Context.{ControlFlowTarget, isLoop, Entry, loopsOn, Resolution}
+use Rattle.definition.specs.Context.{ControlFlowTarget, is_loop, Entry, loops_on, Resolution}
 use Rattle.definition.specs.Tree.{labeled}
 
 abbrev pub NoneFits : (fits : ControlFlowTarget → Bool) → List Entry → Type 0
@@ -16,6 +16,6 @@ pub record Found (fits : ControlFlowTarget → Bool) (stack : List Entry) (found
   pub whole : above ++ (entry ∷ below) ≡ stack
   pub here : fits entry.target ≡ true
   pub none_above : NoneFits fits above
-  pub number : found.loops ≡ loopsOn above
-  pub if-labeled : isLoop entry.target ≡ true → found.kind ≡ labeled → 0 < found.loops
-  pub labeled-if : isLoop entry.target ≡ true → 0 < found.loops → found.kind ≡ labeled
+  pub number : found.loops ≡ loops_on above
+  pub if_labeled : is_loop entry.target ≡ true → found.kind ≡ labeled → 0 < found.loops
+  pub labeled_if : is_loop entry.target ≡ true → 0 < found.loops → found.kind ≡ labeled

@@ -1,32 +1,32 @@
--- Boolean tests of the conditions of specs/Plain and specs/PlainLoops: `is_plain`, paper 01's and M-113's, and `isPlainLoops`, beyond the papers.
+-- Boolean tests of the conditions of specs/Plain and specs/PlainLoops: `is_plain`, paper 01's and M-113's, and `is_plain_loops`, beyond the papers.
 -- proofs/PlainTest and proofs/LoopTest prove that they hold exactly of the tables with these conditions, which are the statement; `plainness` tells which hold.
 use Rattle.std.specs.Prelude.{ℕ, zero, suc, List, [], ◌∷◌, Bool, true, false, not, ◌&&◌, ◌||◌, cond, eqb}
 use Rattle.std.proofs.Math.Option.{Option, none, some}
-use Rattle.table.specs.Table.{Table, Block, Case, Terminal, absent, unreachable, throw, return, goto, if, branch, switch, do-while, while, for, for-of}
-use Rattle.table.specs.Table.{for-in, logical, ternary, optional, label, sequence, maybe-throw, try, scope, Break, Continue, Try, code_of, isUnreachable, terminalAt}
-use Rattle.table.specs.Table.{instructionRowsAt}
+use Rattle.table.specs.Table.{Table, Block, Case, Terminal, absent, unreachable, throw, return, goto, if, branch, switch, do_while, while, for, for_of}
+use Rattle.table.specs.Table.{for_in, logical, ternary, optional, label, sequence, maybe_throw, try, scope, Break, Continue, Try, code_of, is_unreachable, terminal_at}
+use Rattle.table.specs.Table.{instruction_rows_at}
 use Rattle.definition.specs.Completion.{contains}
-use Rattle.definition.specs.Statement.{casesLastFirst}
-use Rattle.definition.specs.Value.{isFallthrough}
-use Rattle.definition.specs.Plain.{Width, paper-01, with-switch, plainCodes, caseBlocksOf, different, is_branch, fallthroughOf, otherNames, endsInStore}
-use Rattle.definition.specs.PlainLoops.{Loop, loop_of, loopCodes, endsInUnnamed, endsInOwnLoad, properBlocksOf, enteredBy, mayBeOpen}
+use Rattle.definition.specs.Statement.{cases_last_first}
+use Rattle.definition.specs.Value.{is_fallthrough}
+use Rattle.definition.specs.Plain.{Width, paper_01, with_switch, plain_codes, case_blocks_of, different, is_branch, fallthrough_of, other_names, ends_in_store}
+use Rattle.definition.specs.PlainLoops.{Loop, loop_of, loop_codes, ends_in_unnamed, ends_in_own_load, proper_blocks_of, entered_by, may_be_open}
 
 -- ---- paper 01 and M-113
 
 -- of every block, and of some block: its number and its terminal
-abbrev pub everyOf : List Block → (ℕ → Terminal → Bool) → Bool
-everyOf [] test = true
-everyOf (block ∷ blocks) test = test 0 block.terminal && everyOf blocks (λ n. test (suc n))
+abbrev pub every_of : List Block → (ℕ → Terminal → Bool) → Bool
+every_of [] test = true
+every_of (block ∷ blocks) test = test 0 block.terminal && every_of blocks (λ n. test (suc n))
 
-abbrev pub someOf : List Block → (ℕ → Terminal → Bool) → Bool
-someOf [] test = false
-someOf (block ∷ blocks) test = test 0 block.terminal || someOf blocks (λ n. test (suc n))
+abbrev pub some_of : List Block → (ℕ → Terminal → Bool) → Bool
+some_of [] test = false
+some_of (block ∷ blocks) test = test 0 block.terminal || some_of blocks (λ n. test (suc n))
 
 -- the terminals that the conditions speak of
 pub data Shape : Type 0 where
-  a-while : (test loop fallthrough : ℕ) → Shape
-  a-branch : (place consequent alternate : ℕ) → Shape
-  a-goto-try : Shape
+  a_while : (test loop fallthrough : ℕ) → Shape
+  a_branch : (place consequent alternate : ℕ) → Shape
+  a_goto_try : Shape
   another : Shape
 
 abbrev pub shape_of : Terminal → Shape
@@ -36,65 +36,65 @@ shape_of (throw v) = another
 shape_of (return v) = another
 shape_of (goto g Break) = another
 shape_of (goto g Continue) = another
-shape_of (goto g Try) = a-goto-try
+shape_of (goto g Try) = a_goto_try
 shape_of (if x y z f) = another
-shape_of (branch x y z) = a-branch x y z
+shape_of (branch x y z) = a_branch x y z
 shape_of (switch x i n f) = another
-shape_of (do-while l x f) = another
-shape_of (while x l f) = a-while x l f
+shape_of (do_while l x f) = another
+shape_of (while x l f) = a_while x l f
 shape_of (for i x u l f) = another
-shape_of (for-of i x l f) = another
-shape_of (for-in i l f) = another
+shape_of (for_of i x l f) = another
+shape_of (for_in i l f) = another
 shape_of (logical o x f) = another
 shape_of (ternary x f) = another
 shape_of (optional o x f) = another
 shape_of (label x f) = another
 shape_of (sequence x f) = another
-shape_of (maybe-throw n) = another
+shape_of (maybe_throw n) = another
 shape_of (try x k f n) = another
 shape_of (scope p x f n) = another
 
-abbrev pub isWhile : (test loop fallthrough : ℕ) → Shape → Bool
-isWhile x l f (a-while x' l' f') = eqb x' x && eqb l' l && eqb f' f
-isWhile x l f (a-branch p c a) = false
-isWhile x l f a-goto-try = false
-isWhile x l f another = false
+abbrev pub is_while : (test loop fallthrough : ℕ) → Shape → Bool
+is_while x l f (a_while x' l' f') = eqb x' x && eqb l' l && eqb f' f
+is_while x l f (a_branch p c a) = false
+is_while x l f a_goto_try = false
+is_while x l f another = false
 
-abbrev pub isBranchTo : (consequent alternate : ℕ) → Shape → Bool
-isBranchTo c a (a-while x l f) = false
-isBranchTo c a (a-branch p c' a') = eqb c' c && eqb a' a
-isBranchTo c a a-goto-try = false
-isBranchTo c a another = false
+abbrev pub is_branch_to : (consequent alternate : ℕ) → Shape → Bool
+is_branch_to c a (a_while x l f) = false
+is_branch_to c a (a_branch p c' a') = eqb c' c && eqb a' a
+is_branch_to c a a_goto_try = false
+is_branch_to c a another = false
 
-abbrev pub notOfLoop : ℕ → Shape → Bool
-notOfLoop f (a-while x l g) = not (eqb f l) && not (eqb f x)
-notOfLoop f (a-branch p c a) = true
-notOfLoop f a-goto-try = true
-notOfLoop f another = true
+abbrev pub not_of_loop : ℕ → Shape → Bool
+not_of_loop f (a_while x l g) = not (eqb f l) && not (eqb f x)
+not_of_loop f (a_branch p c a) = true
+not_of_loop f a_goto_try = true
+not_of_loop f another = true
 
 -- the block that a Goto names
-abbrev pub gotoBlock : Terminal → Option ℕ
-gotoBlock absent = none
-gotoBlock unreachable = none
-gotoBlock (throw v) = none
-gotoBlock (return v) = none
-gotoBlock (goto g v) = some g
-gotoBlock (if x y z f) = none
-gotoBlock (branch x y z) = none
-gotoBlock (switch x i n f) = none
-gotoBlock (do-while l x f) = none
-gotoBlock (while x l f) = none
-gotoBlock (for i x u l f) = none
-gotoBlock (for-of i x l f) = none
-gotoBlock (for-in i l f) = none
-gotoBlock (logical o x f) = none
-gotoBlock (ternary x f) = none
-gotoBlock (optional o x f) = none
-gotoBlock (label x f) = none
-gotoBlock (sequence x f) = none
-gotoBlock (maybe-throw n) = none
-gotoBlock (try x k f n) = none
-gotoBlock (scope p x f n) = none
+abbrev pub goto_block : Terminal → Option ℕ
+goto_block absent = none
+goto_block unreachable = none
+goto_block (throw v) = none
+goto_block (return v) = none
+goto_block (goto g v) = some g
+goto_block (if x y z f) = none
+goto_block (branch x y z) = none
+goto_block (switch x i n f) = none
+goto_block (do_while l x f) = none
+goto_block (while x l f) = none
+goto_block (for i x u l f) = none
+goto_block (for_of i x l f) = none
+goto_block (for_in i l f) = none
+goto_block (logical o x f) = none
+goto_block (ternary x f) = none
+goto_block (optional o x f) = none
+goto_block (label x f) = none
+goto_block (sequence x f) = none
+goto_block (maybe_throw n) = none
+goto_block (try x k f n) = none
+goto_block (scope p x f n) = none
 
 -- of each of some numbers
 abbrev pub all_of : List ℕ → (ℕ → Bool) → Bool
@@ -102,48 +102,48 @@ all_of [] test = true
 all_of (n ∷ ns) test = test n && all_of ns test
 
 -- a terminal whose fallthrough, loop block and test, or Goto's block a case block is not
-abbrev pub notNamed : ℕ → Terminal → Bool
-notNamed k m = not (isFallthrough (fallthroughOf m) k) && (notOfLoop k (shape_of m) && not (isFallthrough (gotoBlock m) k))
+abbrev pub not_named : ℕ → Terminal → Bool
+not_named k m = not (is_fallthrough (fallthrough_of m) k) && (not_of_loop k (shape_of m) && not (is_fallthrough (goto_block m) k))
 
 module _ (t : Table) where
-  abbrev pub noBranches : List ℕ → Bool
-  noBranches [] = true
-  noBranches (n ∷ ns) = not (is_branch (terminalAt t n)) && noBranches ns
+  abbrev pub no_branches : List ℕ → Bool
+  no_branches [] = true
+  no_branches (n ∷ ns) = not (is_branch (terminal_at t n)) && no_branches ns
 
   -- a While's test goes to its loop and its fallthrough; a Branch is some While's test, and does not end in a store
-  abbrev pub shapeTest : ℕ → Shape → Bool
-  shapeTest b (a-while x l f) = isBranchTo l f (shape_of (terminalAt t x))
-  shapeTest b (a-branch p c a) = someOf t.blocks (λ w m. isWhile b c a (shape_of m)) && not (endsInStore t (instructionRowsAt t b))
-  shapeTest b a-goto-try = false
-  shapeTest b another = true
+  abbrev pub shape_test : ℕ → Shape → Bool
+  shape_test b (a_while x l f) = is_branch_to l f (shape_of (terminal_at t x))
+  shape_test b (a_branch p c a) = some_of t.blocks (λ w m. is_while b c a (shape_of m)) && not (ends_in_store t (instruction_rows_at t b))
+  shape_test b a_goto_try = false
+  shape_test b another = true
 
   -- a block's fallthrough is no other block's
-  abbrev pub onlyOf : (block fallthrough : ℕ) → Bool
-  onlyOf b f = everyOf t.blocks (λ c m. eqb b c || not (isFallthrough (fallthroughOf m) f))
+  abbrev pub only_of : (block fallthrough : ℕ) → Bool
+  only_of b f = every_of t.blocks (λ c m. eqb b c || not (is_fallthrough (fallthrough_of m) f))
 
   -- a fallthrough is no other block's, and no loop's
-  abbrev pub fallthroughTest : ℕ → Option ℕ → Bool
-  fallthroughTest b none = true
-  fallthroughTest b (some f) = onlyOf b f && everyOf t.blocks (λ w m. notOfLoop f (shape_of m))
+  abbrev pub fallthrough_test : ℕ → Option ℕ → Bool
+  fallthrough_test b none = true
+  fallthrough_test b (some f) = only_of b f && every_of t.blocks (λ w m. not_of_loop f (shape_of m))
 
   -- a Switch's case blocks differ, and nothing else names them
-  abbrev pub casesTest : List ℕ → Bool
-  casesTest ks = different ks && all_of ks (λ k. everyOf t.blocks (λ w m. notNamed k m))
+  abbrev pub cases_test : List ℕ → Bool
+  cases_test ks = different ks && all_of ks (λ k. every_of t.blocks (λ w m. not_named k m))
 
-  abbrev pub blockTest : Width → ℕ → Terminal → Bool
-  blockTest width b m =
-      contains (plainCodes width) (code_of m) && (noBranches (otherNames m) && (shapeTest b (shape_of m) && (fallthroughTest b (fallthroughOf m) && casesTest (caseBlocksOf t m))))
+  abbrev pub block_test : Width → ℕ → Terminal → Bool
+  block_test width b m =
+      contains (plain_codes width) (code_of m) && (no_branches (other_names m) && (shape_test b (shape_of m) && (fallthrough_test b (fallthrough_of m) && cases_test (case_blocks_of t m))))
 
   abbrev pub is_plain : Width → Bool
-  is_plain width = not (is_branch (terminalAt t t.entry)) && everyOf t.blocks (λ b m. blockTest width b m)
+  is_plain width = not (is_branch (terminal_at t t.entry)) && every_of t.blocks (λ b m. block_test width b m)
 
 -- ---- beyond the papers: with loops, and with Switch as a compiler makes it
 
 -- what the conditions say of a terminal by itself
 pub data Part : Type 0 where
-  part-for : (init test : ℕ) → (update : Option ℕ) → Part
-  part-switch : (first number fallthrough : ℕ) → Part
-  part-branch part-goto-try no_part : Part
+  part_for : (init test : ℕ) → (update : Option ℕ) → Part
+  part_switch : (first number fallthrough : ℕ) → Part
+  part_branch part_goto_try no_part : Part
 
 abbrev pub part_of : Terminal → Part
 part_of absent = no_part
@@ -152,77 +152,77 @@ part_of (throw v) = no_part
 part_of (return v) = no_part
 part_of (goto g Break) = no_part
 part_of (goto g Continue) = no_part
-part_of (goto g Try) = part-goto-try
+part_of (goto g Try) = part_goto_try
 part_of (if x y z f) = no_part
-part_of (branch x y z) = part-branch
-part_of (switch x i n f) = part-switch i n f
-part_of (do-while l x f) = no_part
+part_of (branch x y z) = part_branch
+part_of (switch x i n f) = part_switch i n f
+part_of (do_while l x f) = no_part
 part_of (while x l f) = no_part
-part_of (for i x u l f) = part-for i x u
-part_of (for-of i x l f) = no_part
-part_of (for-in i l f) = no_part
+part_of (for i x u l f) = part_for i x u
+part_of (for_of i x l f) = no_part
+part_of (for_in i l f) = no_part
 part_of (logical o x f) = no_part
 part_of (ternary x f) = no_part
 part_of (optional o x f) = no_part
 part_of (label x f) = no_part
 part_of (sequence x f) = no_part
-part_of (maybe-throw n) = no_part
+part_of (maybe_throw n) = no_part
 part_of (try x k f n) = no_part
 part_of (scope p x f n) = no_part
 
 -- no loop's loop block, and no block that continues one
-abbrev pub notInLoop : ℕ → Option Loop → Bool
-notInLoop f none = true
-notInLoop f (some loop) = not (eqb f loop.body) && not (eqb f loop.again)
+abbrev pub not_in_loop : ℕ → Option Loop → Bool
+not_in_loop f none = true
+not_in_loop f (some loop) = not (eqb f loop.body) && not (eqb f loop.again)
 
 -- the last case, the first of these, is the fallthrough
-abbrev pub lastIsOwn : (fallthrough : ℕ) → List Case → Bool
-lastIsOwn f [] = false
-lastIsOwn f (case ∷ cases) = eqb case.block f
+abbrev pub last_is_own : (fallthrough : ℕ) → List Case → Bool
+last_is_own f [] = false
+last_is_own f (case ∷ cases) = eqb case.block f
 
 module _ (t : Table) where
-  abbrev pub allReached : List ℕ → Bool
-  allReached ns = all_of ns (λ n. not (isUnreachable (terminalAt t n)))
+  abbrev pub all_reached : List ℕ → Bool
+  all_reached ns = all_of ns (λ n. not (is_unreachable (terminal_at t n)))
 
   -- a For's init or update: it ends in a Goto to the test, and its last instruction is no StoreLocal to an unnamed identifier
-  abbrev pub goesOn : (block test : ℕ) → Bool
-  goesOn b x = isFallthrough (gotoBlock (terminalAt t b)) x && not (endsInUnnamed t (instructionRowsAt t b))
+  abbrev pub goes_on : (block test : ℕ) → Bool
+  goes_on b x = is_fallthrough (goto_block (terminal_at t b)) x && not (ends_in_unnamed t (instruction_rows_at t b))
 
-  abbrev pub updateTest : (test : ℕ) → Option ℕ → Bool
-  updateTest x none = true
-  updateTest x (some u) = goesOn u x
+  abbrev pub update_test : (test : ℕ) → Option ℕ → Bool
+  update_test x none = true
+  update_test x (some u) = goes_on u x
 
-  abbrev pub partTest : ℕ → Part → Bool
-  partTest b (part-for i x u) = goesOn i x && (not (endsInOwnLoad t (instructionRowsAt t i)) && updateTest x u)
-  partTest b (part-switch i n f) = not (isUnreachable (terminalAt t f)) || not (lastIsOwn f (casesLastFirst t i n))
-  partTest b part-branch = not (endsInUnnamed t (instructionRowsAt t b))
-  partTest b part-goto-try = false
-  partTest b no_part = true
+  abbrev pub part_test : ℕ → Part → Bool
+  part_test b (part_for i x u) = goes_on i x && (not (ends_in_own_load t (instruction_rows_at t i)) && update_test x u)
+  part_test b (part_switch i n f) = not (is_unreachable (terminal_at t f)) || not (last_is_own f (cases_last_first t i n))
+  part_test b part_branch = not (ends_in_unnamed t (instruction_rows_at t b))
+  part_test b part_goto_try = false
+  part_test b no_part = true
 
   -- a loop's test goes to its loop block and its fallthrough, which are no Branch blocks
-  abbrev pub loopTest : Option Loop → Bool
-  loopTest none = true
-  loopTest (some loop) = isBranchTo loop.body loop.fallthrough (shape_of (terminalAt t loop.test)) && noBranches t (loop.body ∷ loop.fallthrough ∷ [])
+  abbrev pub loop_test : Option Loop → Bool
+  loop_test none = true
+  loop_test (some loop) = is_branch_to loop.body loop.fallthrough (shape_of (terminal_at t loop.test)) && no_branches t (loop.body ∷ loop.fallthrough ∷ [])
 
   -- a fallthrough is no other block's, is no loop block and continues no loop, and is reached unless its terminal asks
-  abbrev pub endTest : ℕ → Terminal → Option ℕ → Bool
-  endTest b m none = true
-  endTest b m (some f) = onlyOf t b f && (everyOf t.blocks (λ w n. notInLoop f (loop_of n)) && (not (isUnreachable (terminalAt t f)) || mayBeOpen m))
+  abbrev pub end_test : ℕ → Terminal → Option ℕ → Bool
+  end_test b m none = true
+  end_test b m (some f) = only_of t b f && (every_of t.blocks (λ w n. not_in_loop f (loop_of n)) && (not (is_unreachable (terminal_at t f)) || may_be_open m))
 
   -- a case block, not the Switch's own fallthrough: no Branch, reached, no fallthrough
-  abbrev pub properTest : ℕ → Bool
-  properTest k = not (is_branch (terminalAt t k)) && (not (isUnreachable (terminalAt t k)) && everyOf t.blocks (λ w m. not (isFallthrough (fallthroughOf m) k)))
+  abbrev pub proper_test : ℕ → Bool
+  proper_test k = not (is_branch (terminal_at t k)) && (not (is_unreachable (terminal_at t k)) && every_of t.blocks (λ w m. not (is_fallthrough (fallthrough_of m) k)))
 
-  abbrev pub loopBlockTest : Width → ℕ → Terminal → Bool
-  loopBlockTest width b m =
-      contains (loopCodes width) (code_of m) && (noBranches t (otherNames m) && (allReached (enteredBy m)
-      && (partTest b (part_of m) && (loopTest (loop_of m) && (endTest b m (fallthroughOf m) && all_of (properBlocksOf t m) properTest)))))
+  abbrev pub loop_block_test : Width → ℕ → Terminal → Bool
+  loop_block_test width b m =
+      contains (loop_codes width) (code_of m) && (no_branches t (other_names m) && (all_reached (entered_by m)
+      && (part_test b (part_of m) && (loop_test (loop_of m) && (end_test b m (fallthrough_of m) && all_of (proper_blocks_of t m) proper_test)))))
 
-  abbrev pub isPlainLoops : Width → Bool
-  isPlainLoops width =
-      not (is_branch (terminalAt t t.entry)) && (not (isUnreachable (terminalAt t t.entry)) && everyOf t.blocks (λ b m. loopBlockTest width b m))
+  abbrev pub is_plain_loops : Width → Bool
+  is_plain_loops width =
+      not (is_branch (terminal_at t t.entry)) && (not (is_unreachable (terminal_at t t.entry)) && every_of t.blocks (λ b m. loop_block_test width b m))
 
 -- ---- which of the laws speaks of a table: 1 paper 01's, else 2 M-113's, else 3 the one beyond the papers, else 0
 
 abbrev pub plainness : Table → ℕ
-plainness t = cond (is_plain t paper-01) 1 (cond (is_plain t with-switch) 2 (cond (isPlainLoops t with-switch) 3 0))
+plainness t = cond (is_plain t paper_01) 1 (cond (is_plain t with_switch) 2 (cond (is_plain_loops t with_switch) 3 0))

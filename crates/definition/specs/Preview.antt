@@ -14,18 +14,18 @@ pub record Preview : Type 0 where
   pub visits : ℕ
   pub lines : ℕ
 
-unfoldable pub previewOf : Report → Preview
-previewOf (accepted rows lines visits) = record { code = 0; at = 0; rows = length rows; visits = visits; lines = length lines }
-previewOf (rejected code at visits) = record { code = code; at = at; rows = 0; visits = visits; lines = 0 }
+unfoldable pub preview_of : Report → Preview
+preview_of (accepted rows lines visits) = record { code = 0; at = 0; rows = length rows; visits = visits; lines = length lines }
+preview_of (rejected code at visits) = record { code = code; at = at; rows = 0; visits = visits; lines = 0 }
 
-unfoldable pub previewAfter : Rule → Verdict → List ℕ → Preview
-previewAfter rule (check.refused code at) words = record { code = code; at = at; rows = 0; visits = 0; lines = 0 }
-previewAfter rule check.accepted words = previewOf (report rule (table_of words))
+unfoldable pub preview_after : Rule → Verdict → List ℕ → Preview
+preview_after rule (check.refused code at) words = record { code = code; at = at; rows = 0; visits = 0; lines = 0 }
+preview_after rule check.accepted words = preview_of (report rule (table_of words))
 
 -- "There is one preview for each entry of M-102."
 unfoldable pub previewed : Rule → (words : List ℕ) → Preview
-previewed rule words = previewAfter rule (checked words) words
+previewed rule words = preview_after rule (checked words) words
 
 -- the same five of a build
-abbrev pub numbersOf : Outcome → Preview
-numbersOf outcome = record { code = outcome.code; at = outcome.at; rows = outcome.rows; visits = outcome.visits; lines = outcome.lines }
+abbrev pub numbers_of : Outcome → Preview
+numbers_of outcome = record { code = outcome.code; at = outcome.at; rows = outcome.rows; visits = outcome.visits; lines = outcome.lines }

@@ -3,7 +3,7 @@
 use Rattle.std.specs.Prelude.{◌≡◌, ℕ, ◌≤◌, ◌<◌, ◌*◌, List, [], ◌∷◌, Bool, true, false, ◌||◌, eqb, length, take}
 use Rattle.std.proofs.Math.Option.{Option, none, some}
 use Rattle.table.specs.Words.{largest}
-use Rattle.definition.specs.Tree.{Value, valueRows, statementRows, blockRows, Statement, INSTR, IF, SWITCH, DOWHILE, WHILE, FOR, FOROF, FORIN, LABEL, TRY}
+use Rattle.definition.specs.Tree.{Value, value_rows, statement_rows, block_rows, Statement, INSTR, IF, SWITCH, DOWHILE, WHILE, FOR, FOROF, FORIN, LABEL, TRY}
 use Rattle.definition.specs.Tree.{SCOPE, RETURN, THROW, BREAK, CONTINUE, Statements, done, ◌▸◌, Cases, no_cases, CASE, Row, row, rows}
 use Rattle.definition.specs.Build.{Outcome, words_of}
 
@@ -60,11 +60,11 @@ pub data Part : Type 0 where
   block : Statements → Part
   case : (test : ℕ) → Statements → Part
 
-abbrev pub partRows : Part → List Row → List Row
-partRows (value v) after = valueRows v after
-partRows (statement s) after = statementRows s after
-partRows (block b) after = blockRows b after
-partRows (case test b) after = blockRows b (row 11 test 0 0 0 0 ∷ after)
+abbrev pub part_rows : Part → List Row → List Row
+part_rows (value v) after = value_rows v after
+part_rows (statement s) after = statement_rows s after
+part_rows (block b) after = block_rows b after
+part_rows (case test b) after = block_rows b (row 11 test 0 0 0 0 ∷ after)
 
 abbrev pub WellFormedPart : Part → Type 0
 WellFormedPart (value v) = Unit {0}
@@ -76,9 +76,9 @@ WellFormedPart (case test b) = WellFormed b
 abbrev pub Forest : Type 0
 Forest = List Part
 
-abbrev pub forestRows : Forest → List Row → List Row
-forestRows [] after = after
-forestRows (part ∷ before) after = forestRows before (partRows part after)
+abbrev pub forest_rows : Forest → List Row → List Row
+forest_rows [] after = after
+forest_rows (part ∷ before) after = forest_rows before (part_rows part after)
 
 abbrev pub WellFormedForest : Forest → Type 0
 WellFormedForest [] = Unit {0}
@@ -86,17 +86,17 @@ WellFormedForest (part ∷ before) = WellFormedPart part × WellFormedForest bef
 
 -- rows that are read as these parts
 pub record ReadAsForest (list : List Row) (forest : Forest) : Type 0 where
-  pub well-formed : WellFormedForest forest
-  pub same_rows : forestRows forest [] ≡ list
+  pub well_formed : WellFormedForest forest
+  pub same_rows : forest_rows forest [] ≡ list
 
 -- rows that are read as this tree
 pub record ReadAs (list : List Row) (root : Statements) : Type 0 where
-  pub well-formed : WellFormed root
+  pub well_formed : WellFormed root
   pub same_rows : rows root ≡ list
 
 -- the tree whose rows stand in the lent buffer of an outcome
 pub record TreeOf (outcome : Outcome) (root : Statements) : Type 0 where
-  pub well-formed : WellFormed root
+  pub well_formed : WellFormed root
   pub number : length (rows root) ≡ outcome.rows
   pub held : words_of (rows root) ≡ take (outcome.rows * 6) outcome.buffer
 

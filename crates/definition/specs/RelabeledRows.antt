@@ -4,6 +4,6 @@ use Rattle.std.specs.Prelude.{ℕ, List, [], ◌∷◌}
 use Rattle.definition.specs.Tree.{Row, row}
 
 pub data RelabeledRows : List Row → List Row → Type 0 where
-  no-row-left : RelabeledRows [] []
-  the-same-row : (one : Row) {rest rest' : List Row} → RelabeledRows rest rest' → RelabeledRows (one ∷ rest) (one ∷ rest')
-  a-break-row : (target id loops : ℕ) {rest rest' : List Row} → RelabeledRows rest rest' → RelabeledRows (row 24 target id 2 loops 0 ∷ rest) (row 24 target id 1 loops 0 ∷ rest')
+  no_row_left : RelabeledRows [] []
+  the_same_row : (one : Row) {rest rest' : List Row} → RelabeledRows rest rest' → RelabeledRows (one ∷ rest) (one ∷ rest')
+  a_break_row : (target id loops : ℕ) {rest rest' : List Row} → RelabeledRows rest rest' → RelabeledRows (row 24 target id 2 loops 0 ∷ rest) (row 24 target id 1 loops 0 ∷ rest')

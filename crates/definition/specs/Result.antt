@@ -11,17 +11,17 @@ unfoldable pub ◌>>=◌ : {A B : Type 0} → Result A → (A → Result B) → 
 ◌>>=◌ (ok a) next = next a
 ◌>>=◌ (refused code at visits) next = refused code at visits
 
-unfoldable pub refuseIf : Bool → (code at visits : ℕ) → Result (Unit {0})
-refuseIf true code at visits = refused code at visits
-refuseIf false code at visits = ok tt
+unfoldable pub refuse_if : Bool → (code at visits : ℕ) → Result (Unit {0})
+refuse_if true code at visits = refused code at visits
+refuse_if false code at visits = ok tt
 
 -- "Four Rust messages never occur and are proved so": three are refusals of the definition with numbers of their own, which no table gives
 -- (proofs/Never). The fourth, an unknown target type, cannot be written: a target's type is a constructor.
-abbrev pub alreadyScheduled : ℕ
-alreadyScheduled = 90
+abbrev pub already_scheduled : ℕ
+already_scheduled = 90
 
-abbrev pub unscheduleOutOfOrder : ℕ
-unscheduleOutOfOrder = 91
+abbrev pub unschedule_out_of_order : ℕ
+unschedule_out_of_order = 91
 
-abbrev pub maybeThrowInValueTerminal : ℕ
-maybeThrowInValueTerminal = 92
+abbrev pub maybe_throw_in_value_terminal : ℕ
+maybe_throw_in_value_terminal = 92

@@ -11,24 +11,24 @@ Answers = List ℕ
 pub data Reason : Type 0 where
   returned : (value id : ℕ) → Reason
   threw : (value id : ℕ) → Reason
-  no-answer-left : Reason
+  no_answer_left : Reason
   -- a block that is missing, or a terminal or statement that is in no plain table or its tree
   not_plain : Reason
   -- a jump, by its id, with no statement around it to act on
   no_target : (id : ℕ) → Reason
-  end-of-tree : Reason
+  end_of_tree : Reason
   -- M-113: an answer at a Switch that is the place of no case
-  no-such-case : Reason
+  no_such_case : Reason
 
 -- a return, a throw, or no answer left
-abbrev pub isGood : Reason → Bool
-isGood (returned value id) = true
-isGood (threw value id) = true
-isGood no-answer-left = true
-isGood not_plain = false
-isGood (no_target id) = false
-isGood end-of-tree = false
-isGood no-such-case = false
+abbrev pub is_good : Reason → Bool
+is_good (returned value id) = true
+is_good (threw value id) = true
+is_good no_answer_left = true
+is_good not_plain = false
+is_good (no_target id) = false
+is_good end_of_tree = false
+is_good no_such_case = false
 
 -- A run: the instruction rows performed, in order, the answers left, and the reason for stopping;
 -- `unfinished` where the block run is given fewer steps than it needs

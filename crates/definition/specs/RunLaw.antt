@@ -6,10 +6,10 @@ use Rattle.definition.specs.Tree.{Statements}
 use Rattle.definition.specs.Around.{language}
 use Rattle.definition.specs.Build.{Outcome, built}
 use Rattle.definition.specs.Reading.{OneTree}
-use Rattle.definition.specs.Run.{Answers, Reason, no-such-case, isGood, stopped}
-use Rattle.definition.specs.BlockRun.{blockRun}
-use Rattle.definition.specs.TreeRun.{treeRun}
-use Rattle.definition.specs.Plain.{with-switch, Plain}
+use Rattle.definition.specs.Run.{Answers, Reason, no_such_case, is_good, stopped}
+use Rattle.definition.specs.BlockRun.{block_run}
+use Rattle.definition.specs.TreeRun.{tree_run}
+use Rattle.definition.specs.Plain.{with_switch, Plain}
 
 -- over these answers both runs stop: the same rows performed in the same order, the same answers taken, and the same reason, which is
 -- a return or a throw, with its value and id, or no answer left
@@ -20,10 +20,10 @@ pub record Agree (t : Table) (root : Statements) (answers : Answers) : Type 0 wh
   pub reason : Reason
   -- the block run stops after so many steps, and more steps change nothing
   pub steps : ℕ
-  pub block_run : (more : ℕ) → blockRun t (more + steps) t.entry answers ≡ stopped performed left reason
-  pub tree-run : treeRun root answers ≡ stopped performed left reason
-  pub answers-taken : taken ++ left ≡ answers
-  pub good : isGood reason ≡ true
+  pub block_stops : (more : ℕ) → block_run t (more + steps) t.entry answers ≡ stopped performed left reason
+  pub tree_stops : tree_run root answers ≡ stopped performed left reason
+  pub answers_taken : taken ++ left ≡ answers
+  pub good : is_good reason ≡ true
 
 -- of words and what their build gave: the rows in the lent buffer are read as one tree, and over every finite list of answers its run agrees
 -- with the run of the blocks
@@ -33,7 +33,7 @@ pub record RunLaw (words : List ℕ) (outcome : Outcome) : Type 0 where
 
 -- M-113: "only lists whose answers name an existing case are spoken of": the block run comes to no other answer
 abbrev pub Spoken : Table → Answers → Type 0
-Spoken t answers = (steps : ℕ) (performed : List ℕ) (left : Answers) → blockRun t steps t.entry answers ≡ stopped performed left no-such-case → ⊥
+Spoken t answers = (steps : ℕ) (performed : List ℕ) (left : Answers) → block_run t steps t.entry answers ≡ stopped performed left no_such_case → ⊥
 
 -- "For an accepted table both runs then agree as in the run law."
 pub record SwitchLaw (words : List ℕ) (outcome : Outcome) : Type 0 where
@@ -43,5 +43,5 @@ pub record SwitchLaw (words : List ℕ) (outcome : Outcome) : Type 0 where
 -- M-113, the claim: "Widen plain tables, for the language entry of M-102, by Switch"
 abbrev pub LawOfSwitches : Type 0
 LawOfSwitches =
-    (words : List ℕ) (lent lentIndex : ℕ) → (built language words lent lentIndex).code ≡ 0 → Plain with-switch (table_of words)
-    → SwitchLaw words (built language words lent lentIndex)
+    (words : List ℕ) (lent lent_index : ℕ) → (built language words lent lent_index).code ≡ 0 → Plain with_switch (table_of words)
+    → SwitchLaw words (built language words lent lent_index)

@@ -65,8 +65,8 @@ abbrev pub scoped : List ℕ
 scoped = table 3 (empty (Scope 1 2 5) 1 ++ empty (Goto 2 Break) 2 ++ empty (Return 0) 4)
 
 -- "0 If(0,1,1,2), 1 and 2 Return"
-abbrev pub same-ways : List ℕ
-same-ways = table 3 (empty (If 0 1 1 2) 1 ++ empty (Return 0) 2 ++ empty (Return 0) 4)
+abbrev pub same_ways : List ℕ
+same_ways = table 3 (empty (If 0 1 1 2) 1 ++ empty (Return 0) 2 ++ empty (Return 0) 4)
 
 -- paper 02, M-108: a block with a span, and its one instruction with another
 abbrev pub spanned : (from to from' to' : ℕ) → List ℕ
@@ -106,33 +106,33 @@ CONTINUE target id kind loops = 25 ∷ target ∷ id ∷ kind ∷ loops ∷ 0 �
 pub record Sample : Type 0 where
   pub words : List ℕ
   pub lent : ℕ
-  pub lentIndex : ℕ
+  pub lent_index : ℕ
   pub outcome : Outcome
 
 -- accepted: the buffers hold the rows and the lines, then zeros
-abbrev pub accepts : (words : List ℕ) → (lent lentIndex rows visits lines : ℕ) → (rowWords lineWords : List ℕ) → Sample
-accepts words lent lentIndex rows visits lines rowWords lineWords = record {
+abbrev pub accepts : (words : List ℕ) → (lent lent_index rows visits lines : ℕ) → (row_words line_words : List ℕ) → Sample
+accepts words lent lent_index rows visits lines row_words line_words = record {
   words = words;
   lent = lent;
-  lentIndex = lentIndex;
+  lent_index = lent_index;
   outcome = record {
     code = 0;
     at = 0;
     rows = rows;
     visits = visits;
     lines = lines;
-    buffer = rowWords ++ replicate (lent - rows * 6) 0;
-    index = lineWords ++ replicate (lentIndex - lines * 3) 0;
+    buffer = row_words ++ replicate (lent - rows * 6) 0;
+    index = line_words ++ replicate (lent_index - lines * 3) 0;
   };
 }
 
 -- refused: all zeros
-abbrev pub refuses : (words : List ℕ) → (lent lentIndex code at rows visits : ℕ) → Sample
-refuses words lent lentIndex code at rows visits = record {
+abbrev pub refuses : (words : List ℕ) → (lent lent_index code at rows visits : ℕ) → Sample
+refuses words lent lent_index code at rows visits = record {
   words = words;
   lent = lent;
-  lentIndex = lentIndex;
-  outcome = record { code = code; at = at; rows = rows; visits = visits; lines = 0; buffer = replicate lent 0; index = replicate lentIndex 0 };
+  lent_index = lent_index;
+  outcome = record { code = code; at = at; rows = rows; visits = visits; lines = 0; buffer = replicate lent 0; index = replicate lent_index 0 };
 }
 
 -- label, first row, closing row
@@ -151,11 +151,11 @@ samples =
     ∷ refuses W-own-test 36 3 15 1 0 1
     ∷ refuses W-endless-test 36 3 30 1 0 128
     ∷ accepts scoped 27 2 4 3 0 (BLOCK 0 ++ SCOPE 5 ++ RETURN 0 4 ++ BLOCK 2) []
-    ∷ refuses same-ways 24 6 11 1 0 3
+    ∷ refuses same_ways 24 6 11 1 0 3
     ∷ accepts (spanned 0 5 3 9) 24 0 4 1 0 (PLAIN 0 ++ INSTR 5 0 3 9 ++ RETURN 0 7 ++ BLOCK 2) []
     ∷ refuses (spanned 5 4 3 9) 24 0 4 16 0 0
     ∷ refuses (spanned 0 5 2 1) 24 0 4 23 0 0
     ∷ []
 
-abbrev pub builtFor : Rule → Sample → Outcome
-builtFor rule sample = built rule sample.words sample.lent sample.lentIndex
+abbrev pub built_for : Rule → Sample → Outcome
+built_for rule sample = built rule sample.words sample.lent sample.lent_index

@@ -12,7 +12,7 @@ pub data Kind : Type 0 where
 -- "values ops 1 to 3 and 5 to 8"; SEQ's instructions are INSTRs
 mutual
   pub data Value : Type 0 where
-    PLAIN : (instructionRow : ℕ) → Value
+    PLAIN : (instruction_row : ℕ) → Value
     LOAD : (place : ℕ) → Value
     UNDEF : (span : Span) → Value
     SEQ : (instructions : Instructions) → (id : ℕ) → (value : Value) → Value
@@ -21,7 +21,7 @@ mutual
     OPTIONAL : (flag : ℕ) → (value : Value) → Value
 
   pub data Instructions : Type 0 where
-    no-instructions : Instructions
+    no_instructions : Instructions
     instruction : (id lvalue : ℕ) (span : Span) → (value : Value) → (rest : Instructions) → Instructions
 
 -- "statements 4, 10 and 12 to 25". A BLOCK is a list of statements; SWITCH has its cases last first, as the rows have them.
@@ -59,102 +59,102 @@ pub data Row : Type 0 where
   row : (op a b c d e : ℕ) → Row
 
 -- the rows that have a span: its ends are two columns (paper 02, M-108). Nothing else takes a span apart
-abbrev pub undefRow : Span → Row
-undefRow span = row 3 span.from span.to 0 0 0
+abbrev pub undef_row : Span → Row
+undef_row span = row 3 span.from span.to 0 0 0
 
-abbrev pub instrRow : (id lvalue : ℕ) → Span → Row
-instrRow id lvalue span = row 4 id lvalue span.from span.to 0
+abbrev pub instr_row : (id lvalue : ℕ) → Span → Row
+instr_row id lvalue span = row 4 id lvalue span.from span.to 0
 
-abbrev pub forOfRow : (id label : ℕ) → Span → Row
-forOfRow id label span = row 16 id label span.from span.to 0
+abbrev pub for_of_row : (id label : ℕ) → Span → Row
+for_of_row id label span = row 16 id label span.from span.to 0
 
-abbrev pub forInRow : (id label : ℕ) → Span → Row
-forInRow id label span = row 17 id label span.from span.to 0
+abbrev pub for_in_row : (id label : ℕ) → Span → Row
+for_in_row id label span = row 17 id label span.from span.to 0
 
 -- "Label 65,535 is none", and so is a TRY's binding
-abbrev pub orNone : Option ℕ → ℕ
-orNone none = largest
-orNone (some n) = n
+abbrev pub or_none : Option ℕ → ℕ
+or_none none = largest
+or_none (some n) = n
 
-abbrev pub flagOf : Bool → ℕ
-flagOf true = 1
-flagOf false = 0
+abbrev pub flag_of : Bool → ℕ
+flag_of true = 1
+flag_of false = 0
 
-abbrev pub kindNumber : Kind → ℕ
-kindNumber implicit = 0
-kindNumber labeled = 1
-kindNumber unlabeled = 2
+abbrev pub kind_number : Kind → ℕ
+kind_number implicit = 0
+kind_number labeled = 1
+kind_number unlabeled = 2
 
 -- FOR's column "update present", of the update's block or its value
-abbrev pub updatePresent : {A : Type 0} → Option A → ℕ
-updatePresent none = 0
-updatePresent (some update) = 1
+abbrev pub update_present : {A : Type 0} → Option A → ℕ
+update_present none = 0
+update_present (some update) = 1
 
-abbrev pub countInstructions : Instructions → ℕ
-countInstructions no-instructions = 0
-countInstructions (instruction id lvalue span value rest) = suc (countInstructions rest)
+abbrev pub count_instructions : Instructions → ℕ
+count_instructions no_instructions = 0
+count_instructions (instruction id lvalue span value rest) = suc (count_instructions rest)
 
-abbrev pub countStatements : Statements → ℕ
-countStatements done = 0
-countStatements (statement ▸ rest) = suc (countStatements rest)
+abbrev pub count_statements : Statements → ℕ
+count_statements done = 0
+count_statements (statement ▸ rest) = suc (count_statements rest)
 
-abbrev pub countCases : Cases → ℕ
-countCases no_cases = 0
-countCases (CASE test body rest) = suc (countCases rest)
+abbrev pub count_cases : Cases → ℕ
+count_cases no_cases = 0
+count_cases (CASE test body rest) = suc (count_cases rest)
 
 -- each function gives the rows of a part, and behind them the rows `after`
 abbrev mutual
-  pub valueRows : Value → List Row → List Row
-  valueRows (PLAIN instructionRow) after = row 1 instructionRow 0 0 0 0 ∷ after
-  valueRows (LOAD place) after = row 2 place 0 0 0 0 ∷ after
-  valueRows (UNDEF span) after = undefRow span ∷ after
-  valueRows (SEQ instructions id value) after = instructionsRows instructions (valueRows value (row 5 (countInstructions instructions) id 0 0 0 ∷ after))
-  valueRows (LOGICAL operator left right) after = valueRows left (valueRows right (row 6 operator 0 0 0 0 ∷ after))
-  valueRows (COND test consequent alternate) after = valueRows test (valueRows consequent (valueRows alternate (row 7 0 0 0 0 0 ∷ after)))
-  valueRows (OPTIONAL flag value) after = valueRows value (row 8 flag 0 0 0 0 ∷ after)
+  pub value_rows : Value → List Row → List Row
+  value_rows (PLAIN instruction_row) after = row 1 instruction_row 0 0 0 0 ∷ after
+  value_rows (LOAD place) after = row 2 place 0 0 0 0 ∷ after
+  value_rows (UNDEF span) after = undef_row span ∷ after
+  value_rows (SEQ instructions id value) after = instructions_rows instructions (value_rows value (row 5 (count_instructions instructions) id 0 0 0 ∷ after))
+  value_rows (LOGICAL operator left right) after = value_rows left (value_rows right (row 6 operator 0 0 0 0 ∷ after))
+  value_rows (COND test consequent alternate) after = value_rows test (value_rows consequent (value_rows alternate (row 7 0 0 0 0 0 ∷ after)))
+  value_rows (OPTIONAL flag value) after = value_rows value (row 8 flag 0 0 0 0 ∷ after)
 
-  pub instructionsRows : Instructions → List Row → List Row
-  instructionsRows no-instructions after = after
-  instructionsRows (instruction id lvalue span value rest) after = valueRows value (instrRow id lvalue span ∷ instructionsRows rest after)
+  pub instructions_rows : Instructions → List Row → List Row
+  instructions_rows no_instructions after = after
+  instructions_rows (instruction id lvalue span value rest) after = value_rows value (instr_row id lvalue span ∷ instructions_rows rest after)
 
-abbrev pub updateRows : Option Value → List Row → List Row
-updateRows none after = after
-updateRows (some value) after = valueRows value after
+abbrev pub update_rows : Option Value → List Row → List Row
+update_rows none after = after
+update_rows (some value) after = value_rows value after
 
 abbrev mutual
-  pub statementRows : Statement → List Row → List Row
-  statementRows (INSTR id lvalue span value) after = valueRows value (instrRow id lvalue span ∷ after)
-  statementRows (IF test id label consequent present alternate) after =
-      blockRows consequent (elim present [ true ↦ blockRows alternate (row 10 test 1 id (orNone label) 0 ∷ after) | false ↦ row 10 test 0 id (orNone label) 0 ∷ after ])
-  statementRows (SWITCH test id label cases) after = casesRows cases (row 12 test (countCases cases) id (orNone label) 0 ∷ after)
-  statementRows (DOWHILE id label body test) after = blockRows body (valueRows test (row 13 id (orNone label) 0 0 0 ∷ after))
-  statementRows (WHILE id label test body) after = valueRows test (blockRows body (row 14 id (orNone label) 0 0 0 ∷ after))
-  statementRows (FOR id label init test update body) after =
-      valueRows init (valueRows test (updateRows update (blockRows body (row 15 id (orNone label) (updatePresent update) 0 0 ∷ after))))
-  statementRows (FOROF id label span init test body) after = valueRows init (valueRows test (blockRows body (forOfRow id (orNone label) span ∷ after)))
-  statementRows (FORIN id label span init body) after = valueRows init (blockRows body (forInRow id (orNone label) span ∷ after))
-  statementRows (LABEL id label body) after = blockRows body (row 18 id (orNone label) 0 0 0 ∷ after)
-  statementRows (TRY id label binding body handler) after = blockRows body (blockRows handler (row 19 id (orNone label) (orNone binding) 0 0 ∷ after))
-  statementRows (SCOPE true scope body) after = blockRows body (row 21 scope 0 0 0 0 ∷ after)
-  statementRows (SCOPE false scope body) after = blockRows body (row 20 scope 0 0 0 0 ∷ after)
-  statementRows (RETURN value id) after = row 22 value id 0 0 0 ∷ after
-  statementRows (THROW value id) after = row 23 value id 0 0 0 ∷ after
-  statementRows (BREAK target id kind loops) after = row 24 target id (kindNumber kind) loops 0 ∷ after
-  statementRows (CONTINUE target id kind loops) after = row 25 target id (kindNumber kind) loops 0 ∷ after
+  pub statement_rows : Statement → List Row → List Row
+  statement_rows (INSTR id lvalue span value) after = value_rows value (instr_row id lvalue span ∷ after)
+  statement_rows (IF test id label consequent present alternate) after =
+      block_rows consequent (elim present [ true ↦ block_rows alternate (row 10 test 1 id (or_none label) 0 ∷ after) | false ↦ row 10 test 0 id (or_none label) 0 ∷ after ])
+  statement_rows (SWITCH test id label cases) after = cases_rows cases (row 12 test (count_cases cases) id (or_none label) 0 ∷ after)
+  statement_rows (DOWHILE id label body test) after = block_rows body (value_rows test (row 13 id (or_none label) 0 0 0 ∷ after))
+  statement_rows (WHILE id label test body) after = value_rows test (block_rows body (row 14 id (or_none label) 0 0 0 ∷ after))
+  statement_rows (FOR id label init test update body) after =
+      value_rows init (value_rows test (update_rows update (block_rows body (row 15 id (or_none label) (update_present update) 0 0 ∷ after))))
+  statement_rows (FOROF id label span init test body) after = value_rows init (value_rows test (block_rows body (for_of_row id (or_none label) span ∷ after)))
+  statement_rows (FORIN id label span init body) after = value_rows init (block_rows body (for_in_row id (or_none label) span ∷ after))
+  statement_rows (LABEL id label body) after = block_rows body (row 18 id (or_none label) 0 0 0 ∷ after)
+  statement_rows (TRY id label binding body handler) after = block_rows body (block_rows handler (row 19 id (or_none label) (or_none binding) 0 0 ∷ after))
+  statement_rows (SCOPE true scope body) after = block_rows body (row 21 scope 0 0 0 0 ∷ after)
+  statement_rows (SCOPE false scope body) after = block_rows body (row 20 scope 0 0 0 0 ∷ after)
+  statement_rows (RETURN value id) after = row 22 value id 0 0 0 ∷ after
+  statement_rows (THROW value id) after = row 23 value id 0 0 0 ∷ after
+  statement_rows (BREAK target id kind loops) after = row 24 target id (kind_number kind) loops 0 ∷ after
+  statement_rows (CONTINUE target id kind loops) after = row 25 target id (kind_number kind) loops 0 ∷ after
 
-  pub statementsRows : Statements → List Row → List Row
-  statementsRows done after = after
-  statementsRows (statement ▸ rest) after = statementRows statement (statementsRows rest after)
+  pub statements_rows : Statements → List Row → List Row
+  statements_rows done after = after
+  statements_rows (statement ▸ rest) after = statement_rows statement (statements_rows rest after)
 
   -- "9 BLOCK number of statements"
-  pub blockRows : Statements → List Row → List Row
-  blockRows done after = row 9 0 0 0 0 0 ∷ after
-  blockRows (statement ▸ rest) after = statementRows statement (statementsRows rest (row 9 (suc (countStatements rest)) 0 0 0 0 ∷ after))
+  pub block_rows : Statements → List Row → List Row
+  block_rows done after = row 9 0 0 0 0 0 ∷ after
+  block_rows (statement ▸ rest) after = statement_rows statement (statements_rows rest (row 9 (suc (count_statements rest)) 0 0 0 0 ∷ after))
 
-  pub casesRows : Cases → List Row → List Row
-  casesRows no_cases after = after
-  casesRows (CASE test body rest) after = blockRows body (row 11 test 0 0 0 0 ∷ casesRows rest after)
+  pub cases_rows : Cases → List Row → List Row
+  cases_rows no_cases after = after
+  cases_rows (CASE test body rest) after = block_rows body (row 11 test 0 0 0 0 ∷ cases_rows rest after)
 
 -- "The last row is the root BLOCK."
 abbrev pub rows : Statements → List Row
-rows root = blockRows root []
+rows root = block_rows root []

@@ -3,26 +3,26 @@
 use Rattle.std.specs.Prelude.{ℕ, zero, suc, List, [], ◌∷◌, Bool, true, false, ◌&&◌, get_or, eqb, leb}
 use Rattle.std.proofs.Math.Option.{Option, none, some}
 use Rattle.table.specs.declared.columns.Span.{Span}
-use Rattle.table.specs.Table.{Table, Block, Terminal, Instruction, Operation, absent, unreachable, throw, return, goto, if, branch, switch, do-while, while, for}
-use Rattle.table.specs.Table.{for-of, for-in, logical, ternary, optional, sequence, maybe-throw, try, scope, other, load-local, store-local, isAbsent, isGoto, block_at}
-use Rattle.table.specs.Table.{terminalAt, instructionAt, instructionRows, label}
-use Rattle.definition.specs.Result.{Result, ok, refused, ◌>>=◌, refuseIf, maybeThrowInValueTerminal}
-use Rattle.definition.specs.Tree.{Value, PLAIN, LOAD, UNDEF, SEQ, LOGICAL, COND, OPTIONAL, Instructions, no-instructions, instruction}
+use Rattle.table.specs.Table.{Table, Block, Terminal, Instruction, Operation, absent, unreachable, throw, return, goto, if, branch, switch, do_while, while, for}
+use Rattle.table.specs.Table.{for_of, for_in, logical, ternary, optional, sequence, maybe_throw, try, scope, other, load_local, store_local, is_absent, is_goto, block_at}
+use Rattle.table.specs.Table.{terminal_at, instruction_at, instruction_rows, label}
+use Rattle.definition.specs.Result.{Result, ok, refused, ◌>>=◌, refuse_if, maybe_throw_in_value_terminal}
+use Rattle.definition.specs.Tree.{Value, PLAIN, LOAD, UNDEF, SEQ, LOGICAL, COND, OPTIONAL, Instructions, no_instructions, instruction}
 
 -- ---- visits
 
 -- "Depth at most 128, visits at most 8,192."
-abbrev pub mostDepth : ℕ
-mostDepth = 128
+abbrev pub most_depth : ℕ
+most_depth = 128
 
-abbrev pub mostVisits : ℕ
-mostVisits = 8192
+abbrev pub most_visits : ℕ
+most_visits = 8192
 
 -- "Order at a visit: 30, 31, 10": 30 is given where no depth is left, before this. A visit refused 10 counts
-unfoldable pub beginVisit : Table → (block visits : ℕ) → Result ℕ
-beginVisit t block visits =
-    refuseIf (leb mostVisits visits) 31 block visits >>= λ _.
-    refuseIf (isAbsent (terminalAt t block)) 10 block (suc visits) >>= λ _.
+unfoldable pub begin_visit : Table → (block visits : ℕ) → Result ℕ
+begin_visit t block visits =
+    refuse_if (leb most_visits visits) 31 block visits >>= λ _.
+    refuse_if (is_absent (terminal_at t block)) 10 block (suc visits) >>= λ _.
     ok (suc visits)
 
 -- ---- the value of instruction rows
@@ -48,62 +48,62 @@ is_empty [] = true
 is_empty (row ∷ rows) = false
 
 -- the instructions of some rows, and then more: "PLAIN instruction row, whatever its code"
-unfoldable pub instructionsOf : Table → List ℕ → Instructions → Instructions
-instructionsOf t [] more = more
-instructionsOf t (row ∷ rows) more = instruction (instructionAt t row).id (instructionAt t row).lvalue (instructionAt t row).span (PLAIN row) (instructionsOf t rows more)
+unfoldable pub instructions_of : Table → List ℕ → Instructions → Instructions
+instructions_of t [] more = more
+instructions_of t (row ∷ rows) more = instruction (instruction_at t row).id (instruction_at t row).lvalue (instruction_at t row).span (PLAIN row) (instructions_of t rows more)
 
 -- the Rust's wrap_with_sequence: no SEQ where there is no instruction
-unfoldable pub wrapWithSequence : Table → List ℕ → (id : ℕ) → Value → Value
-wrapWithSequence t [] id value = value
-wrapWithSequence t (row ∷ rows) id value = SEQ (instructionsOf t (row ∷ rows) no-instructions) id value
+unfoldable pub wrap_with_sequence : Table → List ℕ → (id : ℕ) → Value → Value
+wrap_with_sequence t [] id value = value
+wrap_with_sequence t (row ∷ rows) id value = SEQ (instructions_of t (row ∷ rows) no_instructions) id value
 
 -- "Last instruction StoreLocal to an unnamed identifier: the value is a LOAD of the place whose value is stored (q), and the result's place
--- is the one stored to (p)." `named` is what `storedToNamed` gives
-unfoldable pub finalValue : (row : ℕ) → Operation → (named : ℕ) → Value
-finalValue row other named = PLAIN row
-finalValue row (load-local place) named = PLAIN row
-finalValue row (store-local storedTo storedValue) zero = LOAD storedValue
-finalValue row (store-local storedTo storedValue) (suc named) = PLAIN row
+-- is the one stored to (p)." `named` is what `stored_to_named` gives
+unfoldable pub final_value : (row : ℕ) → Operation → (named : ℕ) → Value
+final_value row other named = PLAIN row
+final_value row (load_local place) named = PLAIN row
+final_value row (store_local stored_to stored_value) zero = LOAD stored_value
+final_value row (store_local stored_to stored_value) (suc named) = PLAIN row
 
-unfoldable pub finalPlace : Operation → (named lvalue : ℕ) → ℕ
-finalPlace other named lvalue = lvalue
-finalPlace (load-local place) named lvalue = lvalue
-finalPlace (store-local storedTo storedValue) zero lvalue = storedTo
-finalPlace (store-local storedTo storedValue) (suc named) lvalue = lvalue
+unfoldable pub final_place : Operation → (named lvalue : ℕ) → ℕ
+final_place other named lvalue = lvalue
+final_place (load_local place) named lvalue = lvalue
+final_place (store_local stored_to stored_value) zero lvalue = stored_to
+final_place (store_local stored_to stored_value) (suc named) lvalue = lvalue
 
 -- 0 for a store to an unnamed identifier, and for nothing else
-unfoldable pub storedToNamed : Table → Operation → ℕ
-storedToNamed t other = 1
-storedToNamed t (load-local place) = 1
-storedToNamed t (store-local storedTo storedValue) = get_or t.named (get_or t.places storedTo 0) 0
+unfoldable pub stored_to_named : Table → Operation → ℕ
+stored_to_named t other = 1
+stored_to_named t (load_local place) = 1
+stored_to_named t (store_local stored_to stored_value) = get_or t.named (get_or t.places stored_to 0) 0
 
 -- of the rows row ∷ rows: all but the last, and the last
-unfoldable pub allButLast : ℕ → List ℕ → List ℕ
-allButLast row [] = []
-allButLast row (next ∷ rows) = row ∷ allButLast next rows
+unfoldable pub all_but_last : ℕ → List ℕ → List ℕ
+all_but_last row [] = []
+all_but_last row (next ∷ rows) = row ∷ all_but_last next rows
 
 unfoldable pub last : ℕ → List ℕ → ℕ
 last row [] = row
 last row (next ∷ rows) = last next rows
 
 -- the Rust's extract_value_block_result, of the rows row ∷ rows
-unfoldable pub extractValueBlockResult : Table → (block row : ℕ) → List ℕ → (visits : ℕ) → ValueBlockResult
-extractValueBlockResult t block row rows visits =
+unfoldable pub extract_value_block_result : Table → (block row : ℕ) → List ℕ → (visits : ℕ) → ValueBlockResult
+extract_value_block_result t block row rows visits =
     let final : ℕ = last row rows in
-    let instr : Instruction = instructionAt t final in
-    let named : ℕ = storedToNamed t instr.operation in
+    let instr : Instruction = instruction_at t final in
+    let named : ℕ = stored_to_named t instr.operation in
     record {
       block = block;
-      place = finalPlace instr.operation named instr.lvalue;
-      value = wrapWithSequence t (allButLast row rows) instr.id (finalValue final instr.operation named);
+      place = final_place instr.operation named instr.lvalue;
+      value = wrap_with_sequence t (all_but_last row rows) instr.id (final_value final instr.operation named);
       id = instr.id;
       visits = visits;
     }
 
 -- the same of rows that may be none, which is refused
-unfoldable pub extractOrRefuse : Table → (block : ℕ) → List ℕ → (visits code at : ℕ) → Result ValueBlockResult
-extractOrRefuse t block [] visits code at = refused code at visits
-extractOrRefuse t block (row ∷ rows) visits code at = ok (extractValueBlockResult t block row rows visits)
+unfoldable pub extract_or_refuse : Table → (block : ℕ) → List ℕ → (visits code at : ℕ) → Result ValueBlockResult
+extract_or_refuse t block [] visits code at = refused code at visits
+extract_or_refuse t block (row ∷ rows) visits code at = ok (extract_value_block_result t block row rows visits)
 
 -- ---- tests and value terminals. `visit` is the value walk one level deeper
 
@@ -116,72 +116,72 @@ pub record Ways : Type 0 where
   pub consequent : ℕ
   pub alternate : ℕ
 
-abbrev pub branchWays : Terminal → Option Ways
-branchWays absent = none
-branchWays unreachable = none
-branchWays (throw value) = none
-branchWays (return value) = none
-branchWays (goto block variant) = none
-branchWays (if test consequent alternate fallthrough) = none
-branchWays (branch test consequent alternate) = some (record { consequent = consequent; alternate = alternate })
-branchWays (switch test first number fallthrough) = none
-branchWays (do-while loop test fallthrough) = none
-branchWays (while test loop fallthrough) = none
-branchWays (for init test update loop fallthrough) = none
-branchWays (for-of init test loop fallthrough) = none
-branchWays (for-in init loop fallthrough) = none
-branchWays (logical operator test fallthrough) = none
-branchWays (ternary test fallthrough) = none
-branchWays (optional flag test fallthrough) = none
-branchWays (label block fallthrough) = none
-branchWays (sequence block fallthrough) = none
-branchWays (maybe-throw continuation) = none
-branchWays (try block handler fallthrough binding) = none
-branchWays (scope pruned block fallthrough number) = none
+abbrev pub branch_ways : Terminal → Option Ways
+branch_ways absent = none
+branch_ways unreachable = none
+branch_ways (throw value) = none
+branch_ways (return value) = none
+branch_ways (goto block variant) = none
+branch_ways (if test consequent alternate fallthrough) = none
+branch_ways (branch test consequent alternate) = some (record { consequent = consequent; alternate = alternate })
+branch_ways (switch test first number fallthrough) = none
+branch_ways (do_while loop test fallthrough) = none
+branch_ways (while test loop fallthrough) = none
+branch_ways (for init test update loop fallthrough) = none
+branch_ways (for_of init test loop fallthrough) = none
+branch_ways (for_in init loop fallthrough) = none
+branch_ways (logical operator test fallthrough) = none
+branch_ways (ternary test fallthrough) = none
+branch_ways (optional flag test fallthrough) = none
+branch_ways (label block fallthrough) = none
+branch_ways (sequence block fallthrough) = none
+branch_ways (maybe_throw continuation) = none
+branch_ways (try block handler fallthrough binding) = none
+branch_ways (scope pruned block fallthrough number) = none
 
 pub record TestBlockResult : Type 0 where
   pub test : ValueBlockResult
   pub ways : Ways
 
 -- "25 test not ended by Branch", at the block with the value terminal
-unfoldable pub testBlockEnded : ValueBlockResult → Option Ways → (at : ℕ) → Result TestBlockResult
-testBlockEnded test none at = refused 25 at test.visits
-testBlockEnded test (some ways) at = ok (record { test = test; ways = ways })
+unfoldable pub test_block_ended : ValueBlockResult → Option Ways → (at : ℕ) → Result TestBlockResult
+test_block_ended test none at = refused 25 at test.visits
+test_block_ended test (some ways) at = ok (record { test = test; ways = ways })
 
-unfoldable pub visitTestBlock : Table → VisitValueBlock → (block : ℕ) (span : Span) (visits at : ℕ) → Result TestBlockResult
-visitTestBlock t visit block span visits at = visit block none span visits >>= λ test. testBlockEnded test (branchWays (terminalAt t test.block)) at
+unfoldable pub visit_test_block : Table → VisitValueBlock → (block : ℕ) (span : Span) (visits at : ℕ) → Result TestBlockResult
+visit_test_block t visit block span visits at = visit block none span visits >>= λ test. test_block_ended test (branch_ways (terminal_at t test.block)) at
 
-abbrev pub singleInstruction : (id lvalue : ℕ) (span : Span) → Value → Instructions
-singleInstruction id lvalue span value = instruction id lvalue span value no-instructions
+abbrev pub single_instruction : (id lvalue : ℕ) (span : Span) → Value → Instructions
+single_instruction id lvalue span value = instruction id lvalue span value no_instructions
 
 -- the value terminal at the end of the block `at`, with that block's id and span. "26 Label, 27 another kind, in a value block"
-unfoldable pub visitValueBlockTerminal : Table → VisitValueBlock → Terminal → (id : ℕ) (span : Span) (visits at : ℕ) → Result ValueTerminalResult
-visitValueBlockTerminal t visit absent id span visits at = refused 27 at visits
-visitValueBlockTerminal t visit unreachable id span visits at = refused 27 at visits
-visitValueBlockTerminal t visit (throw value) id span visits at = refused 27 at visits
-visitValueBlockTerminal t visit (return value) id span visits at = refused 27 at visits
-visitValueBlockTerminal t visit (goto block variant) id span visits at = refused 27 at visits
-visitValueBlockTerminal t visit (if test consequent alternate fallthrough) id span visits at = refused 27 at visits
-visitValueBlockTerminal t visit (branch test consequent alternate) id span visits at = refused 27 at visits
-visitValueBlockTerminal t visit (switch test first number fallthrough) id span visits at = refused 27 at visits
-visitValueBlockTerminal t visit (do-while loop test fallthrough) id span visits at = refused 27 at visits
-visitValueBlockTerminal t visit (while test loop fallthrough) id span visits at = refused 27 at visits
-visitValueBlockTerminal t visit (for init test update loop fallthrough) id span visits at = refused 27 at visits
-visitValueBlockTerminal t visit (for-of init test loop fallthrough) id span visits at = refused 27 at visits
-visitValueBlockTerminal t visit (for-in init loop fallthrough) id span visits at = refused 27 at visits
-visitValueBlockTerminal t visit (logical operator test fallthrough) id span visits at =
-    visitTestBlock t visit test span visits at >>= λ tested.
+unfoldable pub visit_value_block_terminal : Table → VisitValueBlock → Terminal → (id : ℕ) (span : Span) (visits at : ℕ) → Result ValueTerminalResult
+visit_value_block_terminal t visit absent id span visits at = refused 27 at visits
+visit_value_block_terminal t visit unreachable id span visits at = refused 27 at visits
+visit_value_block_terminal t visit (throw value) id span visits at = refused 27 at visits
+visit_value_block_terminal t visit (return value) id span visits at = refused 27 at visits
+visit_value_block_terminal t visit (goto block variant) id span visits at = refused 27 at visits
+visit_value_block_terminal t visit (if test consequent alternate fallthrough) id span visits at = refused 27 at visits
+visit_value_block_terminal t visit (branch test consequent alternate) id span visits at = refused 27 at visits
+visit_value_block_terminal t visit (switch test first number fallthrough) id span visits at = refused 27 at visits
+visit_value_block_terminal t visit (do_while loop test fallthrough) id span visits at = refused 27 at visits
+visit_value_block_terminal t visit (while test loop fallthrough) id span visits at = refused 27 at visits
+visit_value_block_terminal t visit (for init test update loop fallthrough) id span visits at = refused 27 at visits
+visit_value_block_terminal t visit (for_of init test loop fallthrough) id span visits at = refused 27 at visits
+visit_value_block_terminal t visit (for_in init loop fallthrough) id span visits at = refused 27 at visits
+visit_value_block_terminal t visit (logical operator test fallthrough) id span visits at =
+    visit_test_block t visit test span visits at >>= λ tested.
     visit tested.ways.consequent (some fallthrough) span tested.test.visits >>= λ left.
     visit tested.ways.alternate (some fallthrough) span left.visits >>= λ right.
     ok (record {
-      value = LOGICAL operator (SEQ (singleInstruction tested.test.id tested.test.place span tested.test.value) left.id left.value) right.value;
+      value = LOGICAL operator (SEQ (single_instruction tested.test.id tested.test.place span tested.test.value) left.id left.value) right.value;
       place = left.place;
       fallthrough = fallthrough;
       id = id;
       visits = right.visits;
     })
-visitValueBlockTerminal t visit (ternary test fallthrough) id span visits at =
-    visitTestBlock t visit test span visits at >>= λ tested.
+visit_value_block_terminal t visit (ternary test fallthrough) id span visits at =
+    visit_test_block t visit test span visits at >>= λ tested.
     visit tested.ways.consequent (some fallthrough) span tested.test.visits >>= λ consequent.
     visit tested.ways.alternate (some fallthrough) span consequent.visits >>= λ alternate.
     ok (record {
@@ -191,153 +191,153 @@ visitValueBlockTerminal t visit (ternary test fallthrough) id span visits at =
       id = id;
       visits = alternate.visits;
     })
-visitValueBlockTerminal t visit (optional flag test fallthrough) id span visits at =
-    visitTestBlock t visit test span visits at >>= λ tested.
+visit_value_block_terminal t visit (optional flag test fallthrough) id span visits at =
+    visit_test_block t visit test span visits at >>= λ tested.
     visit tested.ways.consequent (some fallthrough) span tested.test.visits >>= λ consequent.
     ok (record {
-      value = OPTIONAL flag (SEQ (singleInstruction tested.test.id tested.test.place (block_at t tested.test.block).span tested.test.value) consequent.id consequent.value);
+      value = OPTIONAL flag (SEQ (single_instruction tested.test.id tested.test.place (block_at t tested.test.block).span tested.test.value) consequent.id consequent.value);
       place = consequent.place;
       fallthrough = fallthrough;
       id = id;
       visits = consequent.visits;
     })
-visitValueBlockTerminal t visit (label block fallthrough) id span visits at = refused 26 at visits
-visitValueBlockTerminal t visit (sequence block fallthrough) id span visits at =
+visit_value_block_terminal t visit (label block fallthrough) id span visits at = refused 26 at visits
+visit_value_block_terminal t visit (sequence block fallthrough) id span visits at =
     visit block (some fallthrough) span visits >>= λ inner.
     ok (record { value = inner.value; place = inner.place; fallthrough = fallthrough; id = id; visits = inner.visits })
-visitValueBlockTerminal t visit (maybe-throw continuation) id span visits at = refused maybeThrowInValueTerminal at visits
-visitValueBlockTerminal t visit (try block handler fallthrough binding) id span visits at = refused 27 at visits
-visitValueBlockTerminal t visit (scope pruned block fallthrough number) id span visits at = refused 27 at visits
+visit_value_block_terminal t visit (maybe_throw continuation) id span visits at = refused maybe_throw_in_value_terminal at visits
+visit_value_block_terminal t visit (try block handler fallthrough binding) id span visits at = refused 27 at visits
+visit_value_block_terminal t visit (scope pruned block fallthrough number) id span visits at = refused 27 at visits
 
 -- ---- a block in a value walk
 
 -- a value terminal's value becomes an instruction, and the value is that of its fallthrough. The instruction has the span passed down
-unfoldable pub thenFallthrough : Table → VisitValueBlock → Block → (span : Span) → Result ValueTerminalResult → Result ValueBlockResult
-thenFallthrough t visit block span terminal =
+unfoldable pub then_fallthrough : Table → VisitValueBlock → Block → (span : Span) → Result ValueTerminalResult → Result ValueBlockResult
+then_fallthrough t visit block span terminal =
     terminal >>= λ init. visit init.fallthrough none span init.visits >>= λ final.
     ok (record {
       block = final.block;
       place = final.place;
-      value = SEQ (instructionsOf t (instructionRows block) (singleInstruction init.id init.place span init.value)) final.id final.value;
+      value = SEQ (instructions_of t (instruction_rows block) (single_instruction init.id init.place span init.value)) final.id final.value;
       id = final.id;
       visits = final.visits;
     })
 
 -- a Branch: its last instruction, or a LOAD of its test where it has none
-unfoldable pub branchValue : Table → (number test id : ℕ) → List ℕ → (visits : ℕ) → Result ValueBlockResult
-branchValue t number test id [] visits = ok (record { block = number; place = test; value = LOAD test; id = id; visits = visits })
-branchValue t number test id (row ∷ rows) visits = ok (extractValueBlockResult t number row rows visits)
+unfoldable pub branch_value : Table → (number test id : ℕ) → List ℕ → (visits : ℕ) → Result ValueBlockResult
+branch_value t number test id [] visits = ok (record { block = number; place = test; value = LOAD test; id = id; visits = visits })
+branch_value t number test id (row ∷ rows) visits = ok (extract_value_block_result t number row rows visits)
 
-unfoldable pub isEmptyGoto : Block → Bool
-isEmptyGoto block = is_empty (instructionRows block) && isGoto block.terminal
+unfoldable pub is_empty_goto : Block → Bool
+is_empty_goto block = is_empty (instruction_rows block) && is_goto block.terminal
 
 -- "A value block ending in MaybeThrow whose continuation is an empty Goto block takes its own last instruction as value.
 -- With no instruction the Rust panics; here 28." The result's block is the continuation
-unfoldable pub maybeThrowValue : Table → VisitValueBlock → (number continuation : ℕ) → List ℕ → Option ℕ → (span : Span) (visits : ℕ) → Bool → Result ValueBlockResult
-maybeThrowValue t visit number continuation rows fallthrough span visits true = extractOrRefuse t continuation rows visits 28 number
-maybeThrowValue t visit number continuation rows fallthrough span visits false =
+unfoldable pub maybe_throw_value : Table → VisitValueBlock → (number continuation : ℕ) → List ℕ → Option ℕ → (span : Span) (visits : ℕ) → Bool → Result ValueBlockResult
+maybe_throw_value t visit number continuation rows fallthrough span visits true = extract_or_refuse t continuation rows visits 28 number
+maybe_throw_value t visit number continuation rows fallthrough span visits false =
     visit continuation fallthrough span visits >>= λ final.
-    ok (record { block = final.block; place = final.place; value = wrapWithSequence t rows final.id final.value; id = final.id; visits = final.visits })
+    ok (record { block = final.block; place = final.place; value = wrap_with_sequence t rows final.id final.value; id = final.id; visits = final.visits })
 
 -- of a block that ends in a value terminal, or in one that a value block must not have: the terminal, and then its fallthrough
-abbrev pub terminalThenFallthrough : Table → VisitValueBlock → Terminal → ℕ → Block → (span : Span) (visits : ℕ) → Result ValueBlockResult
-terminalThenFallthrough t visit terminal number block span visits =
-    thenFallthrough t visit block span (visitValueBlockTerminal t visit terminal block.id block.span visits number)
+abbrev pub terminal_then_fallthrough : Table → VisitValueBlock → Terminal → ℕ → Block → (span : Span) (visits : ℕ) → Result ValueBlockResult
+terminal_then_fallthrough t visit terminal number block span visits =
+    then_fallthrough t visit block span (visit_value_block_terminal t visit terminal block.id block.span visits number)
 
 -- by the terminal of the block `number`, which is present and not `outer`, the fallthrough that must not be reached.
 -- "24 empty Goto value block (named)". "That continuation is looked up first, before any visit: 10 if missing."
-unfoldable pub visitValueBlockAt : Table → VisitValueBlock → Terminal → ℕ → Block → (outer : Option ℕ) → (span : Span) (visits : ℕ) → Result ValueBlockResult
-visitValueBlockAt t visit absent number block outer span visits = terminalThenFallthrough t visit absent number block span visits
-visitValueBlockAt t visit unreachable number block outer span visits = terminalThenFallthrough t visit unreachable number block span visits
-visitValueBlockAt t visit (throw value) number block outer span visits = terminalThenFallthrough t visit (throw value) number block span visits
-visitValueBlockAt t visit (return value) number block outer span visits = terminalThenFallthrough t visit (return value) number block span visits
-visitValueBlockAt t visit (goto target variant) number block outer span visits = extractOrRefuse t number (instructionRows block) visits 24 number
-visitValueBlockAt t visit (if test consequent alternate fallthrough) number block outer span visits = terminalThenFallthrough t visit (if test consequent alternate fallthrough) number block span visits
-visitValueBlockAt t visit (branch test consequent alternate) number block outer span visits = branchValue t number test block.id (instructionRows block) visits
-visitValueBlockAt t visit (switch test first cases fallthrough) number block outer span visits = terminalThenFallthrough t visit (switch test first cases fallthrough) number block span visits
-visitValueBlockAt t visit (do-while loop test fallthrough) number block outer span visits = terminalThenFallthrough t visit (do-while loop test fallthrough) number block span visits
-visitValueBlockAt t visit (while test loop fallthrough) number block outer span visits = terminalThenFallthrough t visit (while test loop fallthrough) number block span visits
-visitValueBlockAt t visit (for init test update loop fallthrough) number block outer span visits = terminalThenFallthrough t visit (for init test update loop fallthrough) number block span visits
-visitValueBlockAt t visit (for-of init test loop fallthrough) number block outer span visits = terminalThenFallthrough t visit (for-of init test loop fallthrough) number block span visits
-visitValueBlockAt t visit (for-in init loop fallthrough) number block outer span visits = terminalThenFallthrough t visit (for-in init loop fallthrough) number block span visits
-visitValueBlockAt t visit (logical operator test fallthrough) number block outer span visits = terminalThenFallthrough t visit (logical operator test fallthrough) number block span visits
-visitValueBlockAt t visit (ternary test fallthrough) number block outer span visits = terminalThenFallthrough t visit (ternary test fallthrough) number block span visits
-visitValueBlockAt t visit (optional flag test fallthrough) number block outer span visits = terminalThenFallthrough t visit (optional flag test fallthrough) number block span visits
-visitValueBlockAt t visit (label body fallthrough) number block outer span visits = terminalThenFallthrough t visit (label body fallthrough) number block span visits
-visitValueBlockAt t visit (sequence body fallthrough) number block outer span visits = terminalThenFallthrough t visit (sequence body fallthrough) number block span visits
-visitValueBlockAt t visit (maybe-throw continuation) number block outer span visits =
-    refuseIf (isAbsent (terminalAt t continuation)) 10 continuation visits >>= λ _.
-    maybeThrowValue t visit number continuation (instructionRows block) outer span visits (isEmptyGoto (block_at t continuation))
-visitValueBlockAt t visit (try body handler fallthrough binding) number block outer span visits = terminalThenFallthrough t visit (try body handler fallthrough binding) number block span visits
-visitValueBlockAt t visit (scope pruned body fallthrough scoped) number block outer span visits = terminalThenFallthrough t visit (scope pruned body fallthrough scoped) number block span visits
+unfoldable pub visit_value_block_at : Table → VisitValueBlock → Terminal → ℕ → Block → (outer : Option ℕ) → (span : Span) (visits : ℕ) → Result ValueBlockResult
+visit_value_block_at t visit absent number block outer span visits = terminal_then_fallthrough t visit absent number block span visits
+visit_value_block_at t visit unreachable number block outer span visits = terminal_then_fallthrough t visit unreachable number block span visits
+visit_value_block_at t visit (throw value) number block outer span visits = terminal_then_fallthrough t visit (throw value) number block span visits
+visit_value_block_at t visit (return value) number block outer span visits = terminal_then_fallthrough t visit (return value) number block span visits
+visit_value_block_at t visit (goto target variant) number block outer span visits = extract_or_refuse t number (instruction_rows block) visits 24 number
+visit_value_block_at t visit (if test consequent alternate fallthrough) number block outer span visits = terminal_then_fallthrough t visit (if test consequent alternate fallthrough) number block span visits
+visit_value_block_at t visit (branch test consequent alternate) number block outer span visits = branch_value t number test block.id (instruction_rows block) visits
+visit_value_block_at t visit (switch test first cases fallthrough) number block outer span visits = terminal_then_fallthrough t visit (switch test first cases fallthrough) number block span visits
+visit_value_block_at t visit (do_while loop test fallthrough) number block outer span visits = terminal_then_fallthrough t visit (do_while loop test fallthrough) number block span visits
+visit_value_block_at t visit (while test loop fallthrough) number block outer span visits = terminal_then_fallthrough t visit (while test loop fallthrough) number block span visits
+visit_value_block_at t visit (for init test update loop fallthrough) number block outer span visits = terminal_then_fallthrough t visit (for init test update loop fallthrough) number block span visits
+visit_value_block_at t visit (for_of init test loop fallthrough) number block outer span visits = terminal_then_fallthrough t visit (for_of init test loop fallthrough) number block span visits
+visit_value_block_at t visit (for_in init loop fallthrough) number block outer span visits = terminal_then_fallthrough t visit (for_in init loop fallthrough) number block span visits
+visit_value_block_at t visit (logical operator test fallthrough) number block outer span visits = terminal_then_fallthrough t visit (logical operator test fallthrough) number block span visits
+visit_value_block_at t visit (ternary test fallthrough) number block outer span visits = terminal_then_fallthrough t visit (ternary test fallthrough) number block span visits
+visit_value_block_at t visit (optional flag test fallthrough) number block outer span visits = terminal_then_fallthrough t visit (optional flag test fallthrough) number block span visits
+visit_value_block_at t visit (label body fallthrough) number block outer span visits = terminal_then_fallthrough t visit (label body fallthrough) number block span visits
+visit_value_block_at t visit (sequence body fallthrough) number block outer span visits = terminal_then_fallthrough t visit (sequence body fallthrough) number block span visits
+visit_value_block_at t visit (maybe_throw continuation) number block outer span visits =
+    refuse_if (is_absent (terminal_at t continuation)) 10 continuation visits >>= λ _.
+    maybe_throw_value t visit number continuation (instruction_rows block) outer span visits (is_empty_goto (block_at t continuation))
+visit_value_block_at t visit (try body handler fallthrough binding) number block outer span visits = terminal_then_fallthrough t visit (try body handler fallthrough binding) number block span visits
+visit_value_block_at t visit (scope pruned body fallthrough scoped) number block outer span visits = terminal_then_fallthrough t visit (scope pruned body fallthrough scoped) number block span visits
 
 -- whether a visit reaches the fallthrough that it must not reach, if there is one
-abbrev pub isFallthrough : Option ℕ → ℕ → Bool
-isFallthrough none block = false
-isFallthrough (some fallthrough) block = eqb fallthrough block
+abbrev pub is_fallthrough : Option ℕ → ℕ → Bool
+is_fallthrough none block = false
+is_fallthrough (some fallthrough) block = eqb fallthrough block
 
--- the value walk with `depthLeft` levels of depth left. "Order at a visit: 30, 31, 10, then 11 or 23"
-unfoldable pub visitValueBlock : Table → (depthLeft : ℕ) → VisitValueBlock
-unfolding visitValueBlockAt
-visitValueBlock t zero block fallthrough span visits = refused 30 block visits
-visitValueBlock t (suc depthLeft) block fallthrough span visits =
-    beginVisit t block visits >>= λ begun.
-    refuseIf (isFallthrough fallthrough block) 23 block begun >>= λ _.
-    visitValueBlockAt t (visitValueBlock t depthLeft) (terminalAt t block) block (block_at t block) fallthrough span begun
+-- the value walk with `depth_left` levels of depth left. "Order at a visit: 30, 31, 10, then 11 or 23"
+unfoldable pub visit_value_block : Table → (depth_left : ℕ) → VisitValueBlock
+unfolding visit_value_block_at
+visit_value_block t zero block fallthrough span visits = refused 30 block visits
+visit_value_block t (suc depth_left) block fallthrough span visits =
+    begin_visit t block visits >>= λ begun.
+    refuse_if (is_fallthrough fallthrough block) 23 block begun >>= λ _.
+    visit_value_block_at t (visit_value_block t depth_left) (terminal_at t block) block (block_at t block) fallthrough span begun
 
 -- ---- value_block_result_to_sequence: "flattened through every trailing sequence"
 
 unfoldable pub appended : Instructions → Instructions → Instructions
-appended no-instructions more = more
+appended no_instructions more = more
 appended (instruction id lvalue span value rest) more = instruction id lvalue span value (appended rest more)
 
 -- the instructions of all trailing sequences of a value, and then more
-abbrev pub sequencedInstructions : Value → Instructions → Instructions
-sequencedInstructions (PLAIN row) more = more
-sequencedInstructions (LOAD place) more = more
-sequencedInstructions (UNDEF span) more = more
-sequencedInstructions (SEQ instructions id value) more = appended instructions (sequencedInstructions value more)
-sequencedInstructions (LOGICAL operator left right) more = more
-sequencedInstructions (COND test consequent alternate) more = more
-sequencedInstructions (OPTIONAL flag value) more = more
+abbrev pub sequenced_instructions : Value → Instructions → Instructions
+sequenced_instructions (PLAIN row) more = more
+sequenced_instructions (LOAD place) more = more
+sequenced_instructions (UNDEF span) more = more
+sequenced_instructions (SEQ instructions id value) more = appended instructions (sequenced_instructions value more)
+sequenced_instructions (LOGICAL operator left right) more = more
+sequenced_instructions (COND test consequent alternate) more = more
+sequenced_instructions (OPTIONAL flag value) more = more
 
 -- what the trailing sequences end in
-abbrev pub innermostValue : Value → Value
-innermostValue (PLAIN row) = PLAIN row
-innermostValue (LOAD place) = LOAD place
-innermostValue (UNDEF span) = UNDEF span
-innermostValue (SEQ instructions id value) = innermostValue value
-innermostValue (LOGICAL operator left right) = LOGICAL operator left right
-innermostValue (COND test consequent alternate) = COND test consequent alternate
-innermostValue (OPTIONAL flag value) = OPTIONAL flag value
+abbrev pub innermost_value : Value → Value
+innermost_value (PLAIN row) = PLAIN row
+innermost_value (LOAD place) = LOAD place
+innermost_value (UNDEF span) = UNDEF span
+innermost_value (SEQ instructions id value) = innermost_value value
+innermost_value (LOGICAL operator left right) = LOGICAL operator left right
+innermost_value (COND test consequent alternate) = COND test consequent alternate
+innermost_value (OPTIONAL flag value) = OPTIONAL flag value
 
-abbrev pub loadedBy : Operation → Option ℕ
-loadedBy other = none
-loadedBy (load-local place) = some place
-loadedBy (store-local storedTo storedValue) = none
+abbrev pub loaded_by : Operation → Option ℕ
+loaded_by other = none
+loaded_by (load_local place) = some place
+loaded_by (store_local stored_to stored_value) = none
 
 -- the place that a value loads: an input LoadLocal's, or that of a LOAD that the walk made
-abbrev pub loadedPlace : Table → Value → Option ℕ
-loadedPlace t (PLAIN row) = loadedBy (instructionAt t row).operation
-loadedPlace t (LOAD place) = some place
-loadedPlace t (UNDEF span) = none
-loadedPlace t (SEQ instructions id value) = none
-loadedPlace t (LOGICAL operator left right) = none
-loadedPlace t (COND test consequent alternate) = none
-loadedPlace t (OPTIONAL flag value) = none
+abbrev pub loaded_place : Table → Value → Option ℕ
+loaded_place t (PLAIN row) = loaded_by (instruction_at t row).operation
+loaded_place t (LOAD place) = some place
+loaded_place t (UNDEF span) = none
+loaded_place t (SEQ instructions id value) = none
+loaded_place t (LOGICAL operator left right) = none
+loaded_place t (COND test consequent alternate) = none
+loaded_place t (OPTIONAL flag value) = none
 
 -- identifiers are compared, not places
-unfoldable pub sameIdentifier : Table → (place : ℕ) → Option ℕ → Bool
-sameIdentifier t place none = false
-sameIdentifier t place (some loaded) = eqb (get_or t.places loaded 0) (get_or t.places place 0)
+unfoldable pub same_identifier : Table → (place : ℕ) → Option ℕ → Bool
+same_identifier t place none = false
+same_identifier t place (some loaded) = eqb (get_or t.places loaded 0) (get_or t.places place 0)
 
-unfoldable pub unlessSame : Bool → Instructions → Instructions
-unlessSame true instructions = no-instructions
-unlessSame false instructions = instructions
+unfoldable pub unless_same : Bool → Instructions → Instructions
+unless_same true instructions = no_instructions
+unless_same false instructions = instructions
 
 -- "A final load of the result's own identifier is dropped."
-unfoldable pub valueBlockResultToSequence : Table → ValueBlockResult → (span : Span) → Value
-valueBlockResultToSequence t result span =
-    let innermost : Value = innermostValue result.value in
-    let final : Instructions = singleInstruction result.id result.place span innermost in
-    SEQ (sequencedInstructions result.value (unlessSame (sameIdentifier t result.place (loadedPlace t innermost)) final)) result.id (UNDEF span)
+unfoldable pub value_block_result_to_sequence : Table → ValueBlockResult → (span : Span) → Value
+value_block_result_to_sequence t result span =
+    let innermost : Value = innermost_value result.value in
+    let final : Instructions = single_instruction result.id result.place span innermost in
+    SEQ (sequenced_instructions result.value (unless_same (same_identifier t result.place (loaded_place t innermost)) final)) result.id (UNDEF span)

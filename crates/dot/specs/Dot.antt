@@ -8,22 +8,22 @@ use Rattle.text.specs.Placed.{Placing, refusal, placed}
 use Rattle.table.specs.Lines.{Line, lines}
 
 -- "`n0 -> n1;`", LF
-unfoldable pub lineText : Line → List ℕ
-lineText line = ascii "n" ++ (decimal line.from ++ (ascii " -> n" ++ (decimal line.to ++ ascii ";\n")))
+unfoldable pub line_text : Line → List ℕ
+line_text line = ascii "n" ++ (decimal line.from ++ (ascii " -> n" ++ (decimal line.to ++ ascii ";\n")))
 
-unfoldable pub linesText : List Line → List ℕ
-linesText [] = []
-linesText (line ∷ lines) = lineText line ++ linesText lines
+unfoldable pub lines_text : List Line → List ℕ
+lines_text [] = []
+lines_text (line ∷ lines) = line_text line ++ lines_text lines
 
 -- "`digraph g {`, then one line .. then `}`, each with LF"
-unfoldable pub graphText : Table → List ℕ
-graphText t = ascii "digraph g {\n" ++ (linesText (lines t) ++ ascii "}\n")
+unfoldable pub graph_text : Table → List ℕ
+graph_text t = ascii "digraph g {\n" ++ (lines_text (lines t) ++ ascii "}\n")
 
 -- "1 to 4 as in the build, then 44, at 0, when the text doesn't fit"
-unfoldable pub afterCheck : (lent : ℕ) → Verdict → (words : List ℕ) → Placing
-afterCheck lent (refused code at) words = refusal code at lent
-afterCheck lent accepted words = placed 44 lent (graphText (table_of words))
+unfoldable pub after_check : (lent : ℕ) → Verdict → (words : List ℕ) → Placing
+after_check lent (refused code at) words = refusal code at lent
+after_check lent accepted words = placed 44 lent (graph_text (table_of words))
 
 -- the drawing of any words, for a lent buffer of this many bytes
 unfoldable pub drawn : (words : List ℕ) → (lent : ℕ) → Placing
-drawn words lent = afterCheck lent (checked words) words
+drawn words lent = after_check lent (checked words) words

@@ -3,7 +3,7 @@ ghost use Rattle.std.specs.Prelude.{◌≡◌, [], ◌≤◌, length};
 ghost use Rattle.text.specs.Printed.{printed};
 ghost use Rattle.text.specs.Prints.{printing, WrittenText};
 ghost use Rattle.text.specs.declared.write.Written.TheVariants.{Bytes};
-ghost use Rattle.dot.specs.Prints.{drawingText, drawnText};
+ghost use Rattle.dot.specs.Prints.{drawing_text, drawn_text};
 
 use crate::dot;
 use text::read::{Answer, read};
@@ -18,7 +18,7 @@ fn write_refusal(out: &mut [u8], code: u32, at: u32) -> Written
 
 // Draws a table in the bytes that are printed of it.
 fn draw_words(words: &[u32], out: &mut [u8]) -> Written
-    ensures { WrittenText 77 (drawingText (length out.old) words.now) (length out.old) result out.new }
+    ensures { WrittenText 77 (drawing_text (length out.old) words.now) (length out.old) result out.new }
 {
     let drawn = dot(words, out);
     if drawn.code != 0 {
@@ -29,8 +29,8 @@ fn draw_words(words: &[u32], out: &mut [u8]) -> Written
 
 // Reads a file and draws its table; or writes why the file is refused. 77 bytes are enough for any refusal.
 pub fn draw_file(file: &[u8], out: &mut [u8]) -> Written
-    ensures out_after { record { answer = result; bytes = out.new } ≡ printing (length out.old) (drawnText (length out.old) file.now) }
-    ensures value { 77 ≤ length out.old → result ≡ Bytes (length (drawnText (length out.old) file.now)) }
+    ensures out_after { record { answer = result; bytes = out.new } ≡ printing (length out.old) (drawn_text (length out.old) file.now) }
+    ensures value { 77 ≤ length out.old → result ≡ Bytes (length (drawn_text (length out.old) file.now)) }
 {
     let mut words = [0u32; 16384];
     let answer = read(file, &mut words);

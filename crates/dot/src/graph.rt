@@ -1,11 +1,11 @@
 // The lines of a table, row by row. Bounds for the sums: 28 bytes a line (numbers of ten digits), 1,029 lines a row, 1,024 rows.
 ghost use Rattle.std.specs.Prelude.{◌+◌, ◌^◌, ◌<◌, ◌≤◌};
-ghost use Rattle.table.specs.Words.{blockCount};
+ghost use Rattle.table.specs.Words.{block_count};
 ghost use Rattle.table.specs.Table.{table_of};
 ghost use Rattle.table.specs.Promise.{Promise};
 ghost use Rattle.text.specs.Printed.{Wrote};
-ghost use Rattle.table.specs.Lines.{named_at, linesTo, lines};
-ghost use Rattle.dot.specs.Dot.{linesText, graphText};
+ghost use Rattle.table.specs.Lines.{named_at, lines_to, lines};
+ghost use Rattle.dot.specs.Dot.{lines_text, graph_text};
 
 use crate::write::{write_bytes, write_line};
 use table::lines::{named_at, target};
@@ -14,9 +14,9 @@ use table::words::block_count;
 // A line for each block that the row names.
 fn write_row(words: &[u32], text: &mut [u8], start: usize, row: u32) -> usize
     requires promise { Promise words.now }
-    requires row_bound { row < blockCount words.now }
+    requires row_bound { row < block_count words.now }
     requires start_bound { start + 28812 < 2 ^ 64 }
-    ensures wrote { Wrote text.old start (linesText (linesTo row (named_at (table_of words.now) row))) text.new result }
+    ensures wrote { Wrote text.old start (lines_text (lines_to row (named_at (table_of words.now) row))) text.new result }
     ensures upper_bound { result ≤ start + 28812 }
 {
     let named = named_at(words, row);
@@ -33,7 +33,7 @@ fn write_row(words: &[u32], text: &mut [u8], start: usize, row: u32) -> usize
 fn write_rows(words: &[u32], text: &mut [u8], start: usize) -> usize
     requires promise { Promise words.now }
     requires start_bound { start + 29503488 < 2 ^ 64 }
-    ensures wrote { Wrote text.old start (linesText (lines (table_of words.now))) text.new result }
+    ensures wrote { Wrote text.old start (lines_text (lines (table_of words.now))) text.new result }
     ensures upper_bound { result ≤ start + 29503488 }
 {
     let rows = block_count(words);
@@ -48,7 +48,7 @@ fn write_rows(words: &[u32], text: &mut [u8], start: usize) -> usize
 
 pub fn write_graph(words: &[u32], text: &mut [u8]) -> usize
     requires { Promise words.now }
-    ensures { Wrote text.old 0 (graphText (table_of words.now)) text.new result }
+    ensures { Wrote text.old 0 (graph_text (table_of words.now)) text.new result }
 {
     let first = write_bytes(text, 0, b"digraph g {\n");
     let last = write_rows(words, text, first);

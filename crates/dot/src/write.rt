@@ -2,7 +2,7 @@
 ghost use Rattle.std.specs.Prelude.{[], ◌∷◌, ◌+◌, ◌^◌, ◌<◌, ◌≤◌, length};
 ghost use Rattle.text.specs.Decimal.{decimal};
 ghost use Rattle.text.specs.Printed.{Wrote};
-ghost use Rattle.dot.specs.Dot.{lineText};
+ghost use Rattle.dot.specs.Dot.{line_text};
 
 fn put(text: &mut [u8], at: usize, byte: u8) -> usize
     requires { at + 1 < 2 ^ 64 }
@@ -59,7 +59,7 @@ pub fn write_line(text: &mut [u8], start: usize, from: u32, to: u32) -> usize
     requires from_bound { from < 1024 }
     requires to_bound { to < 1024 }
     requires start_bound { start + 28 < 2 ^ 64 }
-    ensures wrote { Wrote text.old start (lineText (record { from = from; to = to })) text.new result }
+    ensures wrote { Wrote text.old start (line_text (record { from = from; to = to })) text.new result }
     ensures upper_bound { result ≤ start + 28 }
 {
     let name = write_bytes(text, start, b"n");

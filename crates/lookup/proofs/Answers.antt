@@ -8,30 +8,30 @@ use lib.ListN.{length, take, drop}
 use lib.Seq.{slice}
 use lib.Dec.{leb, ltb}
 use borrow.Author.Tests.{lt-ltb, le-ltb, le-leb, lt-leb, ltb-true, ltb-false, leb-true, leb-false}
-use Rattle.lookup.specs.Lookup.{lines_read, lineWord, firstWith, refusal, partUnless, part_of, found_at, found, Part, partFound, looked}
+use Rattle.lookup.specs.Lookup.{lines_read, line_word, first_with, refusal, part_unless, part_of, found_at, found, Part, part_found, looked}
 use Rattle.lookup.specs.declared.Line.{Line}
 use Rattle.lookup.specs.declared.Line.TheVariants.{At, Nowhere}
 use Rattle.lookup.specs.declared.Found.{Found}
-use Rattle.lookup.proofs.Searches.{First, NoneHas, Searched, searched, first-is, none_is}
+use Rattle.lookup.proofs.Searches.{First, NoneHas, Searched, searched, first_is, none_is}
 
 -- ---- a line's rows
 
 module _ (first closing tree : ℕ) where
-  pub first-after : closing < first → part_of first closing tree ≡ refusal 43
+  pub first_after : closing < first → part_of first closing tree ≡ refusal 43
   unfolding part_of
-  first-after h = ap (λ (y : Bool). partUnless (y || leb (tree / 6) closing) first closing) (lt-ltb closing first h)
+  first_after h = ap (λ (y : Bool). part_unless (y || leb (tree / 6) closing) first closing) (lt-ltb closing first h)
 
-  pub closing-beyond : first ≤ closing → tree / 6 ≤ closing → part_of first closing tree ≡ refusal 43
+  pub closing_beyond : first ≤ closing → tree / 6 ≤ closing → part_of first closing tree ≡ refusal 43
   unfolding part_of
-  closing-beyond a b =
-      ap (λ (y : Bool). partUnless (y || leb (tree / 6) closing) first closing) (le-ltb closing first a)
-      ∙ ap (λ (y : Bool). partUnless (false || y) first closing) (le-leb (tree / 6) closing b)
+  closing_beyond a b =
+      ap (λ (y : Bool). part_unless (y || leb (tree / 6) closing) first closing) (le-ltb closing first a)
+      ∙ ap (λ (y : Bool). part_unless (false || y) first closing) (le-leb (tree / 6) closing b)
 
   pub part_in : first ≤ closing → closing < tree / 6 → part_of first closing tree ≡ record { code = 0; at = 0; begin = first * 6; end = (closing + 1) * 6 }
   unfolding part_of
   part_in a b =
-      ap (λ (y : Bool). partUnless (y || leb (tree / 6) closing) first closing) (le-ltb closing first a)
-      ∙ ap (λ (y : Bool). partUnless (false || y) first closing) (lt-leb (tree / 6) closing b)
+      ap (λ (y : Bool). part_unless (y || leb (tree / 6) closing) first closing) (le-ltb closing first a)
+      ∙ ap (λ (y : Bool). part_unless (false || y) first closing) (lt-leb (tree / 6) closing b)
 
 -- the three cases of a line
 pub data Cut (first closing tree : ℕ) : Type 0 where
@@ -52,21 +52,21 @@ pub record Within (part : Found) (tree : ℕ) : Type 0 where
   pub order : part.begin ≤ part.end
   pub most : part.end ≤ tree
 
-pub part-within : (first closing tree : ℕ) → Within (part_of first closing tree) tree
-part-within first closing tree = by (cut first closing tree)
+pub part_within : (first closing tree : ℕ) → Within (part_of first closing tree) tree
+part_within first closing tree = by (cut first closing tree)
   where
     by : Cut first closing tree → Within (part_of first closing tree) tree
-    by (after h) = rw (first-after first closing tree h) (record { order = omega arith; most = omega arith })
-    by (beyond a b) = rw (closing-beyond first closing tree a b) (record { order = omega arith; most = omega arith })
+    by (after h) = rw (first_after first closing tree h) (record { order = omega arith; most = omega arith })
+    by (beyond a b) = rw (closing_beyond first closing tree a b) (record { order = omega arith; most = omega arith })
     by (inside a b) = rw (part_in first closing tree a b) (record { order = omega arith; most = omega arith })
 
 pub within : (index : List ℕ) (number label tree : ℕ) → Within (found index number label tree) tree
 unfolding found found_at
-within index number label tree = by (firstWith index label 0 (lines_read index number))
+within index number label tree = by (first_with index label 0 (lines_read index number))
   where
     by : (o : Line) → Within (found_at index tree o) tree
     by Nowhere = record { order = omega arith; most = omega arith }
-    by (At i) = part-within (lineWord index i 1) (lineWord index i 2) tree
+    by (At i) = part_within (line_word index i 1) (line_word index i 2) tree
 
 -- ---- the lookup
 
@@ -76,72 +76,72 @@ module _ (index : List ℕ) (number label tree : ℕ) where
   read = lines_read index number
 
   -- "42 in a lookup exactly when no line has the label"
-  pub none-42 : NoneHas index label 0 read → found index number label tree ≡ refusal 42
+  pub none_42 : NoneHas index label 0 read → found index number label tree ≡ refusal 42
   unfolding found found_at
-  none-42 h = ap (found_at index tree) (none_is index label read h)
+  none_42 h = ap (found_at index tree) (none_is index label read h)
 
   -- the first line that has it, and no other, says where the rows are
-  pub by_first : (i : ℕ) → First index label 0 read i → found index number label tree ≡ part_of (lineWord index i 1) (lineWord index i 2) tree
+  pub by_first : (i : ℕ) → First index label 0 read i → found index number label tree ≡ part_of (line_word index i 1) (line_word index i 2) tree
   unfolding found found_at
-  by_first i h = ap (found_at index tree) (first-is index label read i h)
+  by_first i h = ap (found_at index tree) (first_is index label read i h)
 
-  pub only-42 : (found index number label tree).code ≡ 42 → NoneHas index label 0 read
+  pub only_42 : (found index number label tree).code ≡ 42 → NoneHas index label 0 read
   unfolding found found_at
-  only-42 = by (firstWith index label 0 read) (searched index label 0 read)
+  only_42 = by (first_with index label 0 read) (searched index label 0 read)
     where
-      not-42 : (first closing : ℕ) → (part_of first closing tree).code ≡ 42 → ⊥
-      not-42 first closing e = on (cut first closing tree)
+      not_42 : (first closing : ℕ) → (part_of first closing tree).code ≡ 42 → ⊥
+      not_42 first closing e = on (cut first closing tree)
         where
           on : Cut first closing tree → ⊥
-          on (after h) = omega (arith, rw (first-after first closing tree h) at e)
-          on (beyond a b) = omega (arith, rw (closing-beyond first closing tree a b) at e)
+          on (after h) = omega (arith, rw (first_after first closing tree h) at e)
+          on (beyond a b) = omega (arith, rw (closing_beyond first closing tree a b) at e)
           on (inside a b) = omega (arith, rw (part_in first closing tree a b) at e)
 
       by : (o : Line) → Searched index label 0 read o → (found_at index tree o).code ≡ 42 → NoneHas index label 0 read
       by Nowhere q e = q
-      by (At i) q e = absurd (not-42 (lineWord index i 1) (lineWord index i 2) e)
+      by (At i) q e = absurd (not_42 (line_word index i 1) (line_word index i 2) e)
 
 -- "a refused lookup gives an empty part", and one that is not refused some rows
 abbrev pub EmptyIfRefused : Found → Type 0
 EmptyIfRefused part = ((part.code ≡ 0 → ⊥) → (part.begin ≡ 0) × (part.end ≡ 0)) × (part.code ≡ 0 → part.begin < part.end)
 
-refused-part : (code : ℕ) → (code ≡ 0 → ⊥) → EmptyIfRefused (refusal code)
-refused-part code f = ((λ g. (refl, refl)), (λ e. absurd (f e)))
+refused_part : (code : ℕ) → (code ≡ 0 → ⊥) → EmptyIfRefused (refusal code)
+refused_part code f = ((λ g. (refl, refl)), (λ e. absurd (f e)))
 
-pub empty-if-refused : (index : List ℕ) (number label tree : ℕ) → EmptyIfRefused (found index number label tree)
+pub empty_if_refused : (index : List ℕ) (number label tree : ℕ) → EmptyIfRefused (found index number label tree)
 unfolding found found_at
-empty-if-refused index number label tree = by (firstWith index label 0 (lines_read index number))
+empty_if_refused index number label tree = by (first_with index label 0 (lines_read index number))
   where
     on : (first closing : ℕ) → Cut first closing tree → EmptyIfRefused (part_of first closing tree)
-    on first closing (after h) = rw (first-after first closing tree h) (refused-part 43 (λ e. omega (arith, e)))
-    on first closing (beyond a b) = rw (closing-beyond first closing tree a b) (refused-part 43 (λ e. omega (arith, e)))
+    on first closing (after h) = rw (first_after first closing tree h) (refused_part 43 (λ e. omega (arith, e)))
+    on first closing (beyond a b) = rw (closing_beyond first closing tree a b) (refused_part 43 (λ e. omega (arith, e)))
     on first closing (inside a b) = rw (part_in first closing tree a b) ((λ f. absurd (f refl)), (λ e. omega (arith, a)))
 
     by : (o : Line) → EmptyIfRefused (found_at index tree o)
-    by Nowhere = refused-part 42 (λ e. omega (arith, e))
-    by (At i) = on (lineWord index i 1) (lineWord index i 2) (cut (lineWord index i 1) (lineWord index i 2) tree)
+    by Nowhere = refused_part 42 (λ e. omega (arith, e))
+    by (At i) = on (line_word index i 1) (line_word index i 2) (cut (line_word index i 1) (line_word index i 2) tree)
 
 -- the same for what `find` gave
 pub found_within : (index : List ℕ) (number label : ℕ) {tree : ℕ} {given : Found} → given ≡ found index number label tree → Within given tree
 found_within index number label {tree} e = rw e (within index number label tree)
 
 -- the elements from index f up to before index t, either way round
-take-nil : (n : ℕ) → take {A = ℕ} n [] ≡ []
-take-nil zero = refl
-take-nil (suc n) = refl
+take_nil : (n : ℕ) → take {A = ℕ} n [] ≡ []
+take_nil zero = refl
+take_nil (suc n) = refl
 
-range-slice : (f t : ℕ) (l : List ℕ) → f ≤ t → take (t - f) (drop f l) ≡ slice f t l
-range-slice zero t l h =
+range_slice : (f t : ℕ) (l : List ℕ) → f ≤ t → take (t - f) (drop f l) ≡ slice f t l
+range_slice zero t l h =
     let all : t - 0 ≡ t = omega arith in
     ap (λ (n : ℕ). take n l) all
-range-slice (suc f) zero l h = absurd (omega (arith, h))
-range-slice (suc f) (suc t) [] h = take-nil (suc t - suc f)
-range-slice (suc f) (suc t) (x ∷ l) h =
+range_slice (suc f) zero l h = absurd (omega (arith, h))
+range_slice (suc f) (suc t) [] h = take_nil (suc t - suc f)
+range_slice (suc f) (suc t) (x ∷ l) h =
     let less : suc t - suc f ≡ t - f = omega arith in
-    ap (λ (n : ℕ). take n (drop f l)) less ∙ range-slice f t l (omega (arith, h))
+    ap (λ (n : ℕ). take n (drop f l)) less ∙ range_slice f t l (omega (arith, h))
 
-pub part-found : (index : List ℕ) (number label : ℕ) (tree : List ℕ) {given : Found} → given ≡ found index number label (length tree)
+pub part_found_lem : (index : List ℕ) (number label : ℕ) (tree : List ℕ) {given : Found} → given ≡ found index number label (length tree)
     → record { code = given.code; at = given.at; words = take (given.end - given.begin) (drop given.begin tree) } ≡ looked index number label tree
-part-found index number label tree {given} e =
-    ap (λ (words : List ℕ). record { code = given.code; at = given.at; words = words }) (range-slice given.begin given.end tree (found_within index number label e).order)
-    ∙ ap (partFound tree) e
+part_found_lem index number label tree {given} e =
+    ap (λ (words : List ℕ). record { code = given.code; at = given.at; words = words }) (range_slice given.begin given.end tree (found_within index number label e).order)
+    ∙ ap (part_found tree) e

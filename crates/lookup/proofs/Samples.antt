@@ -2,7 +2,7 @@
 use Prim.Native.Nat.{ℕ}
 use mathlib.Core.Path.{◌≡◌, refl}
 use mathlib.Core.List.{List, [], ◌∷◌, map}
-use Rattle.lookup.specs.Lookup.{lines_read, firstWith, refusal, part_of, found_at, found}
+use Rattle.lookup.specs.Lookup.{lines_read, first_with, refusal, part_of, found_at, found}
 use Rattle.lookup.specs.declared.Found.{Found}
 
 pub record Sample : Type 0 where
@@ -50,6 +50,6 @@ samples =
     ∷ sample (4294967295 ∷ 4294967295 ∷ 4294967295 ∷ []) 4294967295 4294967295 48 (refusal 43)
     ∷ []
 
-pub the-samples : map (λ s. found s.index s.number s.label s.tree) samples ≡ map (λ s. s.answer) samples
-unfolding lines_read firstWith part_of found_at found
-the-samples = refl
+pub the_samples : map (λ s. found s.index s.number s.label s.tree) samples ≡ map (λ s. s.answer) samples
+unfolding lines_read first_with part_of found_at found
+the_samples = refl

@@ -7,7 +7,7 @@ use mathlib.Core.Bool.{Bool, true, false}
 use lib.ListN.{length}
 use lib.Dec.{eqb, ltb}
 use borrow.Author.Tests.{lt-ltb, le-ltb, eqb-true, eqb-false, ltb-true, ltb-false}
-use Rattle.lookup.specs.Lookup.{lines_read, lineWord, firstWith}
+use Rattle.lookup.specs.Lookup.{lines_read, line_word, first_with}
 use Rattle.lookup.specs.declared.Line.{Line}
 use Rattle.lookup.specs.declared.Line.TheVariants.{At, Nowhere}
 
@@ -17,18 +17,18 @@ module _ (index : List ℕ) (number : ℕ) where
   abbrev fewer : Bool → ℕ
   fewer y = elim y [ true ↦ number | false ↦ length index / 3 ]
 
-  pub as-told : number < length index / 3 → number ≡ lines_read index number
+  pub as_told : number < length index / 3 → number ≡ lines_read index number
   unfolding lines_read
-  as-told h = ap fewer (sym (lt-ltb number (length index / 3) h))
+  as_told h = ap fewer (sym (lt-ltb number (length index / 3) h))
 
-  pub as-held : length index / 3 ≤ number → length index / 3 ≡ lines_read index number
+  pub as_held : length index / 3 ≤ number → length index / 3 ≡ lines_read index number
   unfolding lines_read
-  as-held h = ap fewer (sym (le-ltb number (length index / 3) h))
+  as_held h = ap fewer (sym (le-ltb number (length index / 3) h))
 
   -- "reads no line beyond it or beyond the buffer"
-  pub read-few : (lines_read index number ≤ number) × (lines_read index number * 3 ≤ length index)
+  pub read_few : (lines_read index number ≤ number) × (lines_read index number * 3 ≤ length index)
   unfolding lines_read
-  read-few = by (ltb number (length index / 3)) refl
+  read_few = by (ltb number (length index / 3)) refl
     where
       by : (y : Bool) → ltb number (length index / 3) ≡ y → (fewer y ≤ number) × (fewer y * 3 ≤ length index)
       by true e = let h = ltb-true number (length index / 3) e in (omega arith, omega arith)
@@ -40,29 +40,29 @@ module _ (index : List ℕ) (number : ℕ) where
 pub record First (index : List ℕ) (label line left i : ℕ) : Type 0 where
   pub from : line ≤ i
   pub read : i < line + left
-  pub has : lineWord index i 0 ≡ label
-  pub none_before : (j : ℕ) → line ≤ j → j < i → lineWord index j 0 ≡ label → ⊥
+  pub has : line_word index i 0 ≡ label
+  pub none_before : (j : ℕ) → line ≤ j → j < i → line_word index j 0 ≡ label → ⊥
 
 abbrev pub NoneHas : (index : List ℕ) → (label line left : ℕ) → Type 0
-NoneHas index label line left = (j : ℕ) → line ≤ j → j < line + left → lineWord index j 0 ≡ label → ⊥
+NoneHas index label line left = (j : ℕ) → line ≤ j → j < line + left → line_word index j 0 ≡ label → ⊥
 
 abbrev pub Searched : (index : List ℕ) → (label line left : ℕ) → Line → Type 0
 Searched index label line left Nowhere = NoneHas index label line left
 Searched index label line left (At i) = First index label line left i
 
-pub searched : (index : List ℕ) (label line left : ℕ) → Searched index label line left (firstWith index label line left)
-unfolding firstWith
+pub searched : (index : List ℕ) (label line left : ℕ) → Searched index label line left (first_with index label line left)
+unfolding first_with
 searched index label line zero = λ j a b e. omega (arith, a, b)
-searched index label line (suc left) = at (eqb (lineWord index line 0) label) refl (firstWith index label (suc line) left) (searched index label (suc line) left)
+searched index label line (suc left) = at (eqb (line_word index line 0) label) refl (first_with index label (suc line) left) (searched index label (suc line) left)
   where
     below : (j : ℕ) → line ≤ j → (line ≡ j → ⊥) → suc line ≤ j
     below j a n = omega (arith, a, n)
 
-    other : (j : ℕ) → eqb (lineWord index line 0) label ≡ false → lineWord index j 0 ≡ label → line ≡ j → ⊥
-    other j f e q = eqb-false (lineWord index line 0) label f (ap (λ (k : ℕ). lineWord index k 0) q ∙ e)
+    other : (j : ℕ) → eqb (line_word index line 0) label ≡ false → line_word index j 0 ≡ label → line ≡ j → ⊥
+    other j f e q = eqb-false (line_word index line 0) label f (ap (λ (k : ℕ). line_word index k 0) q ∙ e)
 
-    at : (y : Bool) → eqb (lineWord index line 0) label ≡ y → (o : Line) → Searched index label (suc line) left o → Searched index label line (suc left) (elim y [ true ↦ At line | false ↦ o ])
-    at true f o h = record { from = omega arith; read = omega arith; has = eqb-true (lineWord index line 0) label f; none_before = λ j a b e. omega (arith, a, b) }
+    at : (y : Bool) → eqb (line_word index line 0) label ≡ y → (o : Line) → Searched index label (suc line) left o → Searched index label line (suc left) (elim y [ true ↦ At line | false ↦ o ])
+    at true f o h = record { from = omega arith; read = omega arith; has = eqb-true (line_word index line 0) label f; none_before = λ j a b e. omega (arith, a, b) }
     at false f Nowhere h = λ j a b e. h j (below j a (other j f e)) (omega (arith, b)) e
     at false f (At i) h = record {
       from = omega (arith, h.from);
@@ -72,8 +72,8 @@ searched index label line (suc left) = at (eqb (lineWord index line 0) label) re
     }
 
 -- there is one first line
-pub first-is : (index : List ℕ) (label left i : ℕ) → First index label 0 left i → firstWith index label 0 left ≡ At i
-first-is index label left i h = at (firstWith index label 0 left) (searched index label 0 left)
+pub first_is : (index : List ℕ) (label left i : ℕ) → First index label 0 left i → first_with index label 0 left ≡ At i
+first_is index label left i h = at (first_with index label 0 left) (searched index label 0 left)
   where
     three : (k : ℕ) → (k < i → ⊥) → (i < k → ⊥) → k ≡ i
     three k a b = omega (arith, a, b)
@@ -83,16 +83,16 @@ first-is index label left i h = at (firstWith index label 0 left) (searched inde
     at (At k) q = ap At (three k (λ l. h.none_before k (omega arith) l q.has) (λ l. q.none_before i (omega arith) l h.has))
 
 -- none has it
-pub none_is : (index : List ℕ) (label left : ℕ) → NoneHas index label 0 left → firstWith index label 0 left ≡ Nowhere
-none_is index label left h = at (firstWith index label 0 left) (searched index label 0 left)
+pub none_is : (index : List ℕ) (label left : ℕ) → NoneHas index label 0 left → first_with index label 0 left ≡ Nowhere
+none_is index label left h = at (first_with index label 0 left) (searched index label 0 left)
   where
     at : (o : Line) → Searched index label 0 left o → o ≡ Nowhere
     at Nowhere q = refl
     at (At i) q = absurd (h i q.from q.read q.has)
 
 -- the line found is one of those read
-pub found-read : (index : List ℕ) (label left i : ℕ) → At i ≡ firstWith index label 0 left → i < left
-found-read index label left i = at (firstWith index label 0 left) (searched index label 0 left)
+pub found_read : (index : List ℕ) (label left i : ℕ) → At i ≡ first_with index label 0 left → i < left
+found_read index label left i = at (first_with index label 0 left) (searched index label 0 left)
   where
     same : (k : ℕ) → At i ≡ At k → i ≡ k
     same k e = cc

@@ -10,34 +10,34 @@ unfoldable pub lines_read : (index : List ℕ) → (number : ℕ) → ℕ
 lines_read index number = elim (ltb number (length index / 3)) [ true ↦ number | false ↦ length index / 3 ]
 
 -- word 0, 1 or 2 of a line: "label, first row of the statement, closing row"
-abbrev pub lineWord : (index : List ℕ) → (line word : ℕ) → ℕ
-lineWord index line word = get_or index (line * 3 + word) 0
+abbrev pub line_word : (index : List ℕ) → (line word : ℕ) → ℕ
+line_word index line word = get_or index (line * 3 + word) 0
 
 -- "the first line that has the label", among the `left` lines from this line on
-unfoldable pub firstWith : (index : List ℕ) → (label line left : ℕ) → Line
-firstWith index label line zero = Nowhere
-firstWith index label line (suc left) = elim (eqb (lineWord index line 0) label) [ true ↦ At line | false ↦ firstWith index label (suc line) left ]
+unfoldable pub first_with : (index : List ℕ) → (label line left : ℕ) → Line
+first_with index label line zero = Nowhere
+first_with index label line (suc left) = elim (eqb (line_word index line 0) label) [ true ↦ At line | false ↦ first_with index label (suc line) left ]
 
 -- "Answers, all at 0"; "a refused lookup gives an empty part"
 abbrev pub refusal : (code : ℕ) → Found
 refusal code = record { code = code; at = 0; begin = 0; end = 0 }
 
-abbrev pub partUnless : (bad : Bool) → (first closing : ℕ) → Found
-partUnless true first closing = refusal 43
-partUnless false first closing = record { code = 0; at = 0; begin = first * 6; end = (closing + 1) * 6 }
+abbrev pub part_unless : (bad : Bool) → (first closing : ℕ) → Found
+part_unless true first closing = refusal 43
+part_unless false first closing = record { code = 0; at = 0; begin = first * 6; end = (closing + 1) * 6 }
 
 -- "43 when the line found has its first row after its closing row or a closing row beyond the whole rows of the tree buffer handed in"
 unfoldable pub part_of : (first closing tree : ℕ) → Found
-part_of first closing tree = partUnless (ltb closing first || leb (tree / 6) closing) first closing
+part_of first closing tree = part_unless (ltb closing first || leb (tree / 6) closing) first closing
 
 -- "42 in a lookup exactly when no line has the label"
 unfoldable pub found_at : (index : List ℕ) → (tree : ℕ) → Line → Found
 found_at index tree Nowhere = refusal 42
-found_at index tree (At line) = part_of (lineWord index line 1) (lineWord index line 2) tree
+found_at index tree (At line) = part_of (line_word index line 1) (line_word index line 2) tree
 
 -- where the part begins and ends, in words of a tree buffer of `tree` words
 unfoldable pub found : (index : List ℕ) → (number label tree : ℕ) → Found
-found index number label tree = found_at index tree (firstWith index label 0 (lines_read index number))
+found index number label tree = found_at index tree (first_with index label 0 (lines_read index number))
 
 -- "gives back the statement's own rows as a part of the caller's tree buffer"
 pub record Part : Type 0 where
@@ -45,8 +45,8 @@ pub record Part : Type 0 where
   pub at : ℕ
   pub words : List ℕ
 
-abbrev pub partFound : (tree : List ℕ) → Found → Part
-partFound tree found = record { code = found.code; at = found.at; words = slice found.begin found.end tree }
+abbrev pub part_found : (tree : List ℕ) → Found → Part
+part_found tree found = record { code = found.code; at = found.at; words = slice found.begin found.end tree }
 
 abbrev pub looked : (index : List ℕ) → (number label : ℕ) → (tree : List ℕ) → Part
-looked index number label tree = partFound tree (found index number label (length tree))
+looked index number label tree = part_found tree (found index number label (length tree))

@@ -1,6 +1,6 @@
 // M-101: a statement is found by its label, in the lines that the build writes beside the tree.
 ghost use Rattle.std.specs.Prelude.{◌≡◌, ◌+◌, ◌*◌, ◌≤◌, length};
-ghost use Rattle.lookup.specs.Lookup.{lines_read, lineWord, firstWith, part_of, refusal, found, looked};
+ghost use Rattle.lookup.specs.Lookup.{lines_read, line_word, first_with, part_of, refusal, found, looked};
 
 // Code (0 found), at, and the part of the tree buffer: from the word `begin` to before the word `end`.
 #[derive(Drop)]
@@ -30,7 +30,7 @@ fn lines_read(index: &[u32], lines: u32) -> usize
 // The first of `count` lines that has the label.
 fn first_with(index: &[u32], count: usize, label: u32) -> Line
     requires { count * 3 ≤ length index.now }
-    ensures { result ≡ firstWith index.now label 0 count }
+    ensures { result ≡ first_with index.now label 0 count }
 {
     let mut line = 0;
     while line < count {
@@ -57,7 +57,7 @@ fn refuse(code: u32) -> Found
 // The rows that a line names. Both numbers are compared before they are multiplied, since a caller's line may have any words.
 fn part_at(index: &[u32], line: usize, tree: &[u32]) -> Found
     requires { line * 3 + 3 ≤ length index.now }
-    ensures { result ≡ part_of (lineWord index.now line 1) (lineWord index.now line 2) (length tree.now) }
+    ensures { result ≡ part_of (line_word index.now line 1) (line_word index.now line 2) (length tree.now) }
 {
     let first = index[line * 3 + 1] as usize;
     let closing = index[line * 3 + 2] as usize;

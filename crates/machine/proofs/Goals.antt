@@ -5,54 +5,54 @@ use mathlib.Core.Option.{Option, none, some}
 use mathlib.Core.Bool.{Bool, true, false}
 use Rattle.definition.specs.Tree.{Kind, implicit, labeled, unlabeled, Statement, BREAK}
 use Rattle.definition.specs.Context.{has, Context, Resolution}
-use Rattle.definition.specs.Around.{Rule, rust, language, Around, switchInside, kindBy, unnamed, breakKindIn, breakUnnamed, continueUnnamed}
+use Rattle.definition.specs.Around.{Rule, rust, language, Around, is_switch_inside, kind_by, unnamed, break_kind_in, break_unnamed, continue_unnamed}
 use Rattle.machine.specs.Survey.{Survey, unseen, survey}
-use Rattle.definition.specs.Result.{Result, ok, refuseIf, ◌>>=◌}
-use Rattle.definition.specs.Statement.{breakToScope, breakResolved, continueResolved}
-use Rattle.machine.specs.Goal.{Goal, breakGoal, continueGoal, goals, surveyedBreak, surveyedContinue, breakTo, continueTo}
-use Rattle.machine.proofs.Surveys.{survey-kind, survey-break, survey-continue}
+use Rattle.definition.specs.Result.{Result, ok, refuse_if, ◌>>=◌}
+use Rattle.definition.specs.Statement.{break_to_scope, break_resolved, continue_resolved}
+use Rattle.machine.specs.Goal.{Goal, break_goal, continue_goal, goals, surveyed_break, surveyed_continue, break_to, continue_to}
+use Rattle.machine.proofs.Surveys.{survey_kind, survey_break, survey_continue}
 
 -- 22 is asked of the kind that the stack gave: the rule changes no Implicit
-scope-kind : (rule : Rule) (y : Bool) (k : Kind) (at v : ℕ) → breakToScope k at v ≡ breakToScope (kindBy rule y k) at v
-unfolding breakToScope kindBy
-scope-kind rust y k at v = refl
-scope-kind language y implicit at v = refl
-scope-kind language y labeled at v = refl
-scope-kind language true unlabeled at v = refl
-scope-kind language false unlabeled at v = refl
+scope_kind : (rule : Rule) (y : Bool) (k : Kind) (at v : ℕ) → break_to_scope k at v ≡ break_to_scope (kind_by rule y k) at v
+unfolding break_to_scope kind_by
+scope_kind rust y k at v = refl
+scope_kind language y implicit at v = refl
+scope_kind language y labeled at v = refl
+scope_kind language true unlabeled at v = refl
+scope_kind language false unlabeled at v = refl
 
-pub break-goal : (around : Around) (at block id : ℕ) (cx : Context) (found : Option Resolution)
-    → breakResolved around at block id cx found ≡ breakTo at block id cx (goals (breakGoal around) found)
-unfolding breakResolved breakTo breakKindIn
-break-goal around at block id cx none = refl
-break-goal around at block id cx (some found) =
-    ap (λ (scoped : Result (Option Statement)). elim (has cx.scopeFallthroughs found.target) [
+pub break_goal_lem : (around : Around) (at block id : ℕ) (cx : Context) (found : Option Resolution)
+    → break_resolved around at block id cx found ≡ break_to at block id cx (goals (break_goal around) found)
+unfolding break_resolved break_to break_kind_in
+break_goal_lem around at block id cx none = refl
+break_goal_lem around at block id cx (some found) =
+    ap (λ (scoped : Result (Option Statement)). elim (has cx.scope_fallthroughs found.target) [
       | true ↦ scoped
-      | false ↦ refuseIf (breakUnnamed around found) 29 at cx.visits >>= λ _. ok (some (BREAK found.target id (breakKindIn around found.kind) found.loops))
+      | false ↦ refuse_if (break_unnamed around found) 29 at cx.visits >>= λ _. ok (some (BREAK found.target id (break_kind_in around found.kind) found.loops))
     ])
-    (scope-kind around.rule (switchInside around.statements) found.kind at cx.visits)
+    (scope_kind around.rule (is_switch_inside around.statements) found.kind at cx.visits)
 
-pub continue-goal : (around : Around) (at block id : ℕ) (cx : Context) (found : Option Resolution)
-    → continueResolved around at block id cx found ≡ continueTo at block id cx (goals (continueGoal around) found)
-unfolding continueResolved continueTo
-continue-goal around at block id cx none = refl
-continue-goal around at block id cx (some found) = refl
+pub continue_goal_lem : (around : Around) (at block id : ℕ) (cx : Context) (found : Option Resolution)
+    → continue_resolved around at block id cx found ≡ continue_to at block id cx (goals (continue_goal around) found)
+unfolding continue_resolved continue_to
+continue_goal_lem around at block id cx none = refl
+continue_goal_lem around at block id cx (some found) = refl
 
 -- ---- the pass over all the statements around
 
-pub break-surveyed : (around : Around) (found : Resolution)
-    → breakGoal around found ≡ surveyedBreak around.rule (survey found.target around.statements (unseen found.loops)) found
-break-surveyed around found = rw (← (survey-break around found), ← (survey-kind around found)) refl
+pub break_surveyed : (around : Around) (found : Resolution)
+    → break_goal around found ≡ surveyed_break around.rule (survey found.target around.statements (unseen found.loops)) found
+break_surveyed around found = rw (← (survey_break around found), ← (survey_kind around found)) refl
 
-pub continue-surveyed : (around : Around) (found : Resolution)
-    → continueGoal around found ≡ surveyedContinue around.rule (survey found.target around.statements (unseen found.loops)) found
-continue-surveyed around found = rw (← (survey-continue around found)) refl
+pub continue_surveyed : (around : Around) (found : Resolution)
+    → continue_goal around found ≡ surveyed_continue around.rule (survey found.target around.statements (unseen found.loops)) found
+continue_surveyed around found = rw (← (survey_continue around found)) refl
 
 -- in the entry that equals the Rust nothing around is asked
-pub break-rust : (around : Around) (seen : Survey) (found : Resolution) → around.rule ≡ rust → breakGoal around found ≡ surveyedBreak around.rule seen found
-unfolding breakKindIn breakUnnamed kindBy unnamed
-break-rust around seen found e = rw e refl
+pub break_rust : (around : Around) (seen : Survey) (found : Resolution) → around.rule ≡ rust → break_goal around found ≡ surveyed_break around.rule seen found
+unfolding break_kind_in break_unnamed kind_by unnamed
+break_rust around seen found e = rw e refl
 
-pub continue-rust : (around : Around) (seen : Survey) (found : Resolution) → around.rule ≡ rust → continueGoal around found ≡ surveyedContinue around.rule seen found
-unfolding continueUnnamed unnamed
-continue-rust around seen found e = rw e refl
+pub continue_rust : (around : Around) (seen : Survey) (found : Resolution) → around.rule ≡ rust → continue_goal around found ≡ surveyed_continue around.rule seen found
+unfolding continue_unnamed unnamed
+continue_rust around seen found e = rw e refl

@@ -6,7 +6,7 @@ use Rattle.definition.specs.Context.{Context}
 use Rattle.machine.specs.Machine.{Frame, State, visiting, ended, choosing, popping, making, going, step, begin}
 
 pub data Reached (rule : Rule) (t : Table) : State → Type 0 where
-  at-begin : Reached rule t (begin t)
+  at_begin : Reached rule t (begin t)
   by_turn : {state next : State} → Reached rule t state → step rule t state ≡ going next → Reached rule t next
 
 abbrev pub context_of : State → Context
@@ -16,9 +16,9 @@ context_of (choosing frame frames out cx) = cx
 context_of (popping frame frames out cx) = cx
 context_of (making body frame frames out cx) = cx
 
-abbrev pub framesOf : State → List Frame
-framesOf (visiting block frames out count cx) = frames
-framesOf (ended frames out count cx) = frames
-framesOf (choosing frame frames out cx) = frame ∷ frames
-framesOf (popping frame frames out cx) = frame ∷ frames
-framesOf (making body frame frames out cx) = frame ∷ frames
+abbrev pub frames_of : State → List Frame
+frames_of (visiting block frames out count cx) = frames
+frames_of (ended frames out count cx) = frames
+frames_of (choosing frame frames out cx) = frame ∷ frames
+frames_of (popping frame frames out cx) = frame ∷ frames
+frames_of (making body frame frames out cx) = frame ∷ frames

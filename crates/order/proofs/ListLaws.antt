@@ -9,44 +9,44 @@ use lib.Seq.{take_all, take-length, get_or-take}
 use lib.Dec.{eqb}
 use borrow.Author.Tests.{eq-eqb, ne_eqb}
 use Rattle.definition.specs.Completion.{contains}
-use Rattle.renaming.specs.Order.{all_below, noneTwice, isPermutation}
-use Rattle.renaming.proofs.Permutations.{both-and, Permutes, permutes, place_in, in_place, once-at}
+use Rattle.renaming.specs.Order.{all_below, none_twice, is_permutation}
+use Rattle.renaming.proofs.Permutations.{both_and, Permutes, permutes, place_in, in_place, once_at}
 use Rattle.order.specs.Queue.{Queue, Numbers}
-use Rattle.order.proofs.QueueLaws.{found-long, is_found, numbers_of}
+use Rattle.order.proofs.QueueLaws.{found_long, is_found, numbers_of}
 
 -- it is none where a permutation cannot be
-refuted : (n : ℕ) (list : List ℕ) → (Permutes n list → ⊥) → false ≡ isPermutation n list
-refuted n list f = by (isPermutation n list) refl
+refuted : (n : ℕ) (list : List ℕ) → (Permutes n list → ⊥) → false ≡ is_permutation n list
+refuted n list f = by (is_permutation n list) refl
   where
-    by : (y : Bool) → isPermutation n list ≡ y → false ≡ isPermutation n list
+    by : (y : Bool) → is_permutation n list ≡ y → false ≡ is_permutation n list
     by true e = absurd (f (permutes n list e))
     by false e = sym e
 
-pub wrong-length : (n : ℕ) (list : List ℕ) → (length list ≡ n → ⊥) → false ≡ isPermutation n list
-wrong-length n list f = refuted n list (λ p. f p.long)
+pub wrong_length : (n : ℕ) (list : List ℕ) → (length list ≡ n → ⊥) → false ≡ is_permutation n list
+wrong_length n list f = refuted n list (λ p. f p.long)
 
-pub no_block : (n : ℕ) (list : List ℕ) (i : ℕ) → i < length list → n ≤ get_or list i 0 → false ≡ isPermutation n list
+pub no_block : (n : ℕ) (list : List ℕ) (i : ℕ) → i < length list → n ≤ get_or list i 0 → false ≡ is_permutation n list
 no_block n list i h l = refuted n list (λ p. omega (arith, p.below (get_or list i 0) (in_place list i 0 h)))
 
 module _ {list new : List ℕ} {i : ℕ} (q : Queue list new i) where
-  pub stands-twice : (n : ℕ) → i < length list → get_or list i 0 < length list → (get_or new (get_or list i 0) 0 ≡ 65535 → ⊥) → false ≡ isPermutation n list
-  stands-twice n h inside f = refuted n list twice
+  pub stands_twice : (n : ℕ) → i < length list → get_or list i 0 < length list → (get_or new (get_or list i 0) 0 ≡ 65535 → ⊥) → false ≡ is_permutation n list
+  stands_twice n h inside f = refuted n list twice
     where
       twice : Permutes n list → ⊥
       twice p =
           let s = place_in (get_or list i 0) 0 (take i list) (is_found q (get_or list i 0) inside f) in
-          let less : s.0 < i = omega (arith, s.2, found-long q) in
+          let less : s.0 < i = omega (arith, s.2, found_long q) in
           let same : get_or list s.0 0 ≡ get_or list i 0 = sym (get_or-take i list s.0 0 less) ∙ s.3 0 in
-          let e : s.0 ≡ i = once-at list s.0 i 0 p.once (omega arith) h same in
+          let e : s.0 ≡ i = once_at list s.0 i 0 p.once (omega arith) h same in
           omega (arith, e)
 
-  pub stands-once : (n : ℕ) → length list ≡ n → length list ≤ i → true ≡ isPermutation n list
-  unfolding isPermutation
-  stands-once n long all =
+  pub stands_once : (n : ℕ) → length list ≡ n → length list ≤ i → true ≡ is_permutation n list
+  unfolding is_permutation
+  stands_once n long all =
       let e : take i list ≡ list = take_all i list all in
       let below : all_below n list ≡ true = rw (← long) (rw e at q.below) in
-      let once : noneTwice list ≡ true = rw e at q.once in
-      sym (both-and (eq-eqb (length list) n long) (both-and below once))
+      let once : none_twice list ≡ true = rw e at q.once in
+      sym (both_and (eq-eqb (length list) n long) (both_and below once))
 
-  pub all-numbers : (n : ℕ) → length list ≡ n → length list ≤ i → Numbers list new
-  all-numbers n long all = numbers_of q (take_all i list all) (rw long (permutes n list (sym (stands-once n long all))))
+  pub all_numbers : (n : ℕ) → length list ≡ n → length list ≤ i → Numbers list new
+  all_numbers n long all = numbers_of q (take_all i list all) (rw long (permutes n list (sym (stands_once n long all))))

@@ -9,27 +9,27 @@ use lib.ListN.{length, get_or, set, length-set}
 use lib.Seq.{get_or-set_same, get_or-set_other, ext_get_or}
 use lib.Dec.{ltb}
 use borrow.Author.Tests.{lt-ltb, le-ltb, ltb-true, ltb-false}
-use Rattle.table.specs.Words.{word, entryWord, blockCount, instructionCount, caseCount, placeCount, identifierCount, blocksBegin, instructionsBegin, casesBegin}
-use Rattle.table.specs.Words.{placesBegin, identifiersBegin, wordsNeeded, code_at, blockWord, instructionWord, caseWord, placeWord, identifierWord}
+use Rattle.table.specs.Words.{word, entry_word, block_count, instruction_count, case_count, place_count, identifier_count, blocks_begin, instructions_begin, cases_begin}
+use Rattle.table.specs.Words.{places_begin, identifiers_begin, words_needed, code_at, block_word, instruction_word, case_word, place_word, identifier_word}
 use Rattle.table.specs.Promise.{Promise}
-use Rattle.renaming.specs.Renaming.{namesBlock, renamedIf, renamedBlockRow, renamedCaseRow, renamed, RenamedWords}
-use Rattle.renaming.proofs.Permutations.{by_equal, pick_true, pick-false}
-use Rattle.renaming.proofs.WordLaws.{by_rows, renamed-is, instruction-word, case-word, place-word, identifier-word}
-use Rattle.order.specs.Write.{number_in, columnsOf, renumbered, Writing, Copied}
+use Rattle.renaming.specs.Renaming.{names_block, renamed_if, renamed_block_row, renamed_case_row, renamed, RenamedWords}
+use Rattle.renaming.proofs.Permutations.{by_equal, pick_true, pick_false}
+use Rattle.renaming.proofs.WordLaws.{by_rows, renamed_is, instruction_word_lem, case_word_lem, place_word_lem, identifier_word_lem}
+use Rattle.order.specs.Write.{number_in, columns_of, renumbered, Writing, Copied}
 
 -- ---- where the tables begin
 
 pub record Sizes (ws : List ℕ) : Type 0 where
   pub head : 6 ≤ length ws
-  pub blocks : blockCount ws ≤ 1024
-  pub rows : instructionsBegin ws ≡ 6 + blockCount ws * 11
-  pub instructions : casesBegin ws ≡ instructionsBegin ws + instructionCount ws * 7
-  pub cases : placesBegin ws ≡ casesBegin ws + caseCount ws * 2
-  pub end : length ws ≡ placesBegin ws + placeCount ws + identifierCount ws
+  pub blocks : block_count ws ≤ 1024
+  pub rows : instructions_begin ws ≡ 6 + block_count ws * 11
+  pub instructions : cases_begin ws ≡ instructions_begin ws + instruction_count ws * 7
+  pub cases : places_begin ws ≡ cases_begin ws + case_count ws * 2
+  pub end : length ws ≡ places_begin ws + place_count ws + identifier_count ws
   pub short : length ws ≤ 50182
 
 pub sizes : {ws : List ℕ} → Promise ws → Sizes ws
-unfolding wordsNeeded identifiersBegin placesBegin casesBegin instructionsBegin blocksBegin
+unfolding words_needed identifiers_begin places_begin cases_begin instructions_begin blocks_begin
 sizes p =
     record {
       head = p.sized.limited.head;
@@ -44,101 +44,101 @@ sizes p =
 -- ---- numbers
 
 module _ (blocks : ℕ) (numbers : List ℕ) (b : ℕ) where
-  pub number-there : b < blocks → number_in blocks numbers b ≡ get_or numbers b 0
+  pub number_there : b < blocks → number_in blocks numbers b ≡ get_or numbers b 0
   unfolding number_in
-  number-there h = pick_true (ltb b blocks) (get_or numbers b 0) b (lt-ltb b blocks h)
+  number_there h = pick_true (ltb b blocks) (get_or numbers b 0) b (lt-ltb b blocks h)
 
-  pub number-beyond : blocks ≤ b → number_in blocks numbers b ≡ b
+  pub number_beyond : blocks ≤ b → number_in blocks numbers b ≡ b
   unfolding number_in
-  number-beyond h = pick-false (ltb b blocks) (get_or numbers b 0) b (le-ltb b blocks h)
+  number_beyond h = pick_false (ltb b blocks) (get_or numbers b 0) b (le-ltb b blocks h)
 
 -- ---- the words
 
-column-named : (new : ℕ → ℕ) (ws : List ℕ) (b k : ℕ) → k < 11 → get_or (renamedBlockRow new ws b) k 0 ≡ renamedIf (get_or (columnsOf (code_at ws b)) k false) new (blockWord ws b k)
-unfolding renamedBlockRow columnsOf
-column-named new ws b zero h = refl
-column-named new ws b (suc zero) h = refl
-column-named new ws b (suc (suc zero)) h = refl
-column-named new ws b (suc (suc (suc zero))) h = refl
-column-named new ws b (suc (suc (suc (suc zero)))) h = refl
-column-named new ws b (suc (suc (suc (suc (suc zero))))) h = refl
-column-named new ws b (suc (suc (suc (suc (suc (suc zero)))))) h = refl
-column-named new ws b (suc (suc (suc (suc (suc (suc (suc zero))))))) h = refl
-column-named new ws b (suc (suc (suc (suc (suc (suc (suc (suc zero)))))))) h = refl
-column-named new ws b (suc (suc (suc (suc (suc (suc (suc (suc (suc zero))))))))) h = refl
-column-named new ws b (suc (suc (suc (suc (suc (suc (suc (suc (suc (suc zero)))))))))) h = refl
-column-named new ws b (suc (suc (suc (suc (suc (suc (suc (suc (suc (suc (suc k))))))))))) h = absurd (omega arith)
+column_named : (new : ℕ → ℕ) (ws : List ℕ) (b k : ℕ) → k < 11 → get_or (renamed_block_row new ws b) k 0 ≡ renamed_if (get_or (columns_of (code_at ws b)) k false) new (block_word ws b k)
+unfolding renamed_block_row columns_of
+column_named new ws b zero h = refl
+column_named new ws b (suc zero) h = refl
+column_named new ws b (suc (suc zero)) h = refl
+column_named new ws b (suc (suc (suc zero))) h = refl
+column_named new ws b (suc (suc (suc (suc zero)))) h = refl
+column_named new ws b (suc (suc (suc (suc (suc zero))))) h = refl
+column_named new ws b (suc (suc (suc (suc (suc (suc zero)))))) h = refl
+column_named new ws b (suc (suc (suc (suc (suc (suc (suc zero))))))) h = refl
+column_named new ws b (suc (suc (suc (suc (suc (suc (suc (suc zero)))))))) h = refl
+column_named new ws b (suc (suc (suc (suc (suc (suc (suc (suc (suc zero))))))))) h = refl
+column_named new ws b (suc (suc (suc (suc (suc (suc (suc (suc (suc (suc zero)))))))))) h = refl
+column_named new ws b (suc (suc (suc (suc (suc (suc (suc (suc (suc (suc (suc k))))))))))) h = absurd (omega arith)
 
 module _ (ws names rows : List ℕ) (p : Promise ws) where
   abbrev new : ℕ → ℕ
-  new = number_in (blockCount ws) names
+  new = number_in (block_count ws) names
 
   abbrev old : ℕ → ℕ
-  old = number_in (blockCount ws) rows
+  old = number_in (block_count ws) rows
 
   abbrev there : List ℕ
   there = renumbered ws names rows
 
-  pub is-renamed : RenamedWords (number_in (blockCount ws) names) (number_in (blockCount ws) rows) ws (renumbered ws names rows)
+  pub is_renamed : RenamedWords (number_in (block_count ws) names) (number_in (block_count ws) rows) ws (renumbered ws names rows)
   unfolding renumbered
-  is-renamed = renamed-is new old ws p.sized
+  is_renamed = renamed_is new old ws p.sized
 
-  pub entry-is : new (get_or ws 0 0) ≡ get_or there 0 0
-  unfolding entryWord word
-  entry-is = sym is-renamed.entry
+  pub entry_is : new (get_or ws 0 0) ≡ get_or there 0 0
+  unfolding entry_word word
+  entry_is = sym is_renamed.entry
 
-  pub head-same : (k : ℕ) → 1 ≤ k → k < 6 → get_or ws k 0 ≡ get_or there k 0
-  unfolding blockCount instructionCount caseCount placeCount identifierCount word
-  head-same zero l h = absurd (omega arith)
-  head-same (suc zero) l h = sym is-renamed.blocks
-  head-same (suc (suc zero)) l h = sym is-renamed.instructions
-  head-same (suc (suc (suc zero))) l h = sym is-renamed.cases
-  head-same (suc (suc (suc (suc zero)))) l h = sym is-renamed.places
-  head-same (suc (suc (suc (suc (suc zero))))) l h = sym is-renamed.identifiers
-  head-same (suc (suc (suc (suc (suc (suc k)))))) l h = absurd (omega arith)
+  pub head_same : (k : ℕ) → 1 ≤ k → k < 6 → get_or ws k 0 ≡ get_or there k 0
+  unfolding block_count instruction_count case_count place_count identifier_count word
+  head_same zero l h = absurd (omega arith)
+  head_same (suc zero) l h = sym is_renamed.blocks
+  head_same (suc (suc zero)) l h = sym is_renamed.instructions
+  head_same (suc (suc (suc zero))) l h = sym is_renamed.cases
+  head_same (suc (suc (suc (suc zero)))) l h = sym is_renamed.places
+  head_same (suc (suc (suc (suc (suc zero))))) l h = sym is_renamed.identifiers
+  head_same (suc (suc (suc (suc (suc (suc k)))))) l h = absurd (omega arith)
 
-  column-at : (row : ℕ) → row < blockCount ws → (k : ℕ) → k < 11 → blockWord there row k ≡ renamedIf (get_or (columnsOf (code_at ws (get_or rows row 0))) k false) new (blockWord ws (get_or rows row 0) k)
-  column-at row h k l =
-      is-renamed.block row h k l
-      ∙ (column-named new ws (old row) k l
-      ∙ ap (λ (b : ℕ). renamedIf (get_or (columnsOf (code_at ws b)) k false) new (blockWord ws b k)) (number-there (blockCount ws) rows row h))
+  column_at : (row : ℕ) → row < block_count ws → (k : ℕ) → k < 11 → block_word there row k ≡ renamed_if (get_or (columns_of (code_at ws (get_or rows row 0))) k false) new (block_word ws (get_or rows row 0) k)
+  column_at row h k l =
+      is_renamed.block row h k l
+      ∙ (column_named new ws (old row) k l
+      ∙ ap (λ (b : ℕ). renamed_if (get_or (columns_of (code_at ws b)) k false) new (block_word ws b k)) (number_there (block_count ws) rows row h))
 
   -- a column of a block's row
-  pub column-is : (row : ℕ) → row < blockCount ws → (k : ℕ) → k < 11
-      → renamedIf (get_or (columnsOf (code_at ws (get_or rows row 0))) k false) new (get_or ws (6 + get_or rows row 0 * 11 + k) 0) ≡ get_or there (6 + row * 11 + k) 0
-  unfolding blockWord blocksBegin word
-  column-is row h k l = sym (column-at row h k l)
+  pub column_is : (row : ℕ) → row < block_count ws → (k : ℕ) → k < 11
+      → renamed_if (get_or (columns_of (code_at ws (get_or rows row 0))) k false) new (get_or ws (6 + get_or rows row 0 * 11 + k) 0) ≡ get_or there (6 + row * 11 + k) 0
+  unfolding block_word blocks_begin word
+  column_is row h k l = sym (column_at row h k l)
 
-  pub instructions-same : (k : ℕ) → instructionsBegin ws ≤ k → k < casesBegin ws → get_or ws k 0 ≡ get_or there k 0
-  unfolding instructionWord word
-  instructions-same k l h =
-      by_rows 7 (λ j. get_or ws j 0 ≡ get_or there j 0) (instructionsBegin ws) (instructionCount ws) (omega arith) (λ i h k l. sym (instruction-word new old ws there is-renamed i h k l)) k l
+  pub instructions_same : (k : ℕ) → instructions_begin ws ≤ k → k < cases_begin ws → get_or ws k 0 ≡ get_or there k 0
+  unfolding instruction_word word
+  instructions_same k l h =
+      by_rows 7 (λ j. get_or ws j 0 ≡ get_or there j 0) (instructions_begin ws) (instruction_count ws) (omega arith) (λ i h k l. sym (instruction_word_lem new old ws there is_renamed i h k l)) k l
       (omega (arith, (sizes p).instructions))
 
   -- a case row
-  pub test-is : (i : ℕ) → i < caseCount ws → get_or ws (casesBegin ws + i * 2) 0 ≡ get_or there (casesBegin ws + i * 2) 0
-  unfolding caseWord renamedCaseRow word
-  test-is i h =
-      let z : casesBegin ws + i * 2 ≡ casesBegin ws + i * 2 + 0 = omega arith in
-      subst (λ (j : ℕ). get_or ws j 0 ≡ get_or there j 0) (sym z) (sym (case-word new old ws there is-renamed i h 0 (omega arith)))
+  pub test_is : (i : ℕ) → i < case_count ws → get_or ws (cases_begin ws + i * 2) 0 ≡ get_or there (cases_begin ws + i * 2) 0
+  unfolding case_word renamed_case_row word
+  test_is i h =
+      let z : cases_begin ws + i * 2 ≡ cases_begin ws + i * 2 + 0 = omega arith in
+      subst (λ (j : ℕ). get_or ws j 0 ≡ get_or there j 0) (sym z) (sym (case_word_lem new old ws there is_renamed i h 0 (omega arith)))
 
-  pub case-is : (i : ℕ) → i < caseCount ws → new (get_or ws (casesBegin ws + i * 2 + 1) 0) ≡ get_or there (casesBegin ws + i * 2 + 1) 0
-  unfolding caseWord renamedCaseRow word
-  case-is i h = sym (case-word new old ws there is-renamed i h 1 (omega arith))
+  pub case_is : (i : ℕ) → i < case_count ws → new (get_or ws (cases_begin ws + i * 2 + 1) 0) ≡ get_or there (cases_begin ws + i * 2 + 1) 0
+  unfolding case_word renamed_case_row word
+  case_is i h = sym (case_word_lem new old ws there is_renamed i h 1 (omega arith))
 
-  pub tail-same : (k : ℕ) → placesBegin ws ≤ k → k < length ws → get_or ws k 0 ≡ get_or there k 0
-  unfolding placeWord identifierWord identifiersBegin word
-  tail-same k l h = by (ltb k (placesBegin ws + placeCount ws)) refl
+  pub tail_same : (k : ℕ) → places_begin ws ≤ k → k < length ws → get_or ws k 0 ≡ get_or there k 0
+  unfolding place_word identifier_word identifiers_begin word
+  tail_same k l h = by (ltb k (places_begin ws + place_count ws)) refl
     where
-      by : (y : Bool) → ltb k (placesBegin ws + placeCount ws) ≡ y → get_or ws k 0 ≡ get_or there k 0
+      by : (y : Bool) → ltb k (places_begin ws + place_count ws) ≡ y → get_or ws k 0 ≡ get_or there k 0
       by true e =
-          let z : placesBegin ws + (k - placesBegin ws) ≡ k = omega arith in
-          subst (λ (j : ℕ). get_or ws j 0 ≡ get_or there j 0) z (sym (place-word new old ws there is-renamed (k - placesBegin ws) (omega (arith, ltb-true k (placesBegin ws + placeCount ws) e))))
+          let z : places_begin ws + (k - places_begin ws) ≡ k = omega arith in
+          subst (λ (j : ℕ). get_or ws j 0 ≡ get_or there j 0) z (sym (place_word_lem new old ws there is_renamed (k - places_begin ws) (omega (arith, ltb-true k (places_begin ws + place_count ws) e))))
       by false e =
-          let z : placesBegin ws + placeCount ws + (k - (placesBegin ws + placeCount ws)) ≡ k = omega (arith, ltb-false k (placesBegin ws + placeCount ws) e) in
+          let z : places_begin ws + place_count ws + (k - (places_begin ws + place_count ws)) ≡ k = omega (arith, ltb-false k (places_begin ws + place_count ws) e) in
           subst (λ (j : ℕ). get_or ws j 0 ≡ get_or there j 0) z
-          (sym (identifier-word new old ws there is-renamed (k - (placesBegin ws + placeCount ws))
-          (omega (arith, ltb-false k (placesBegin ws + placeCount ws) e, (sizes p).end))))
+          (sym (identifier_word_lem new old ws there is_renamed (k - (places_begin ws + place_count ws))
+          (omega (arith, ltb-false k (places_begin ws + place_count ws) e, (sizes p).end))))
 
 -- ---- what is written
 
@@ -163,29 +163,29 @@ module _ {ws names rows out : List ℕ} {end : ℕ} (w : Writing ws names rows o
   at e = rw e at w
 
   pub whole : length ws ≤ end → out ≡ renumbered ws names rows
-  whole h = ext_get_or 0 out (renumbered ws names rows) (w.long ∙ sym (is-renamed ws names rows w.promise).long) (λ k l. w.written k (omega (arith, w.long)))
+  whole h = ext_get_or 0 out (renumbered ws names rows) (w.long ∙ sym (is_renamed ws names rows w.promise).long) (λ k l. w.written k (omega (arith, w.long)))
 
 -- a case row
-pub case-written : (ws names rows : List ℕ) (p : Promise ws) {out : List ℕ} {case : ℕ} → Writing ws names rows out (casesBegin ws + case * 2)
-    → (begin : ℕ) {block : ℕ} → begin ≡ casesBegin ws → case < caseCount ws
-    → block ≡ number_in (blockCount ws) names (get_or ws (begin + case * 2 + 1) 0)
-    → (case + 1 ≤ caseCount ws) × Writing ws names rows (set (set out (begin + case * 2) (get_or ws (begin + case * 2) 0)) (begin + case * 2 + 1) block) (casesBegin ws + (case + 1) * 2)
-case-written ws names rows p {case = case} w begin {block} e h is =
+pub case_written : (ws names rows : List ℕ) (p : Promise ws) {out : List ℕ} {case : ℕ} → Writing ws names rows out (cases_begin ws + case * 2)
+    → (begin : ℕ) {block : ℕ} → begin ≡ cases_begin ws → case < case_count ws
+    → block ≡ number_in (block_count ws) names (get_or ws (begin + case * 2 + 1) 0)
+    → (case + 1 ≤ case_count ws) × Writing ws names rows (set (set out (begin + case * 2) (get_or ws (begin + case * 2) 0)) (begin + case * 2 + 1) block) (cases_begin ws + (case + 1) * 2)
+case_written ws names rows p {case = case} w begin {block} e h is =
     let s = sizes p in
     rw e (
       omega arith,
-      at (put (put w (get_or ws (casesBegin ws + case * 2) 0) (omega (arith, s.cases, s.end)) (test-is ws names rows p case h)) block
-          (omega (arith, s.cases, s.end)) ((rw e at is) ∙ case-is ws names rows p case h)) (omega arith),
+      at (put (put w (get_or ws (cases_begin ws + case * 2) 0) (omega (arith, s.cases, s.end)) (test_is ws names rows p case h)) block
+          (omega (arith, s.cases, s.end)) ((rw e at is) ∙ case_is ws names rows p case h)) (omega arith),
     )
 
-pub instructions-copied : {ws names rows out out' : List ℕ} {begin end : ℕ} → Writing ws names rows out (instructionsBegin ws) → begin ≡ instructionsBegin ws
-    → end ≡ casesBegin ws → Copied ws out begin end out'
-    → Writing ws names rows out' (casesBegin ws)
-instructions-copied {ws} {names} {rows} w e f c = copy w (rw (e, f) at c) (instructions-same ws names rows w.promise)
+pub instructions_copied : {ws names rows out out' : List ℕ} {begin end : ℕ} → Writing ws names rows out (instructions_begin ws) → begin ≡ instructions_begin ws
+    → end ≡ cases_begin ws → Copied ws out begin end out'
+    → Writing ws names rows out' (cases_begin ws)
+instructions_copied {ws} {names} {rows} w e f c = copy w (rw (e, f) at c) (instructions_same ws names rows w.promise)
 
-pub tail-copied : {ws names rows out out' : List ℕ} {begin : ℕ} → Writing ws names rows out (placesBegin ws) → begin ≡ placesBegin ws
+pub tail_copied : {ws names rows out out' : List ℕ} {begin : ℕ} → Writing ws names rows out (places_begin ws) → begin ≡ places_begin ws
     → Copied ws out begin (length ws) out' → out' ≡ renumbered ws names rows
-tail-copied {ws} {names} {rows} w e c = whole (copy w (rw e at c) (tail-same ws names rows w.promise)) (omega arith)
+tail_copied {ws} {names} {rows} w e c = whole (copy w (rw e at c) (tail_same ws names rows w.promise)) (omega arith)
 
 -- copied so far
 module _ {ws out₀ out : List ℕ} {begin end : ℕ} (c : Copied ws out₀ begin end out) where

@@ -5,8 +5,8 @@ ghost use Rattle.text.specs.Printed.{printed};
 ghost use Rattle.text.specs.Prints.{printing, WrittenText};
 ghost use Rattle.text.specs.declared.write.Written.TheVariants.{Bytes};
 ghost use Rattle.renaming.specs.Order.{rearranged};
-ghost use Rattle.convert.specs.Write.{tableText};
-ghost use Rattle.order.specs.Prints.{orderedText, orderText};
+ghost use Rattle.convert.specs.Write.{table_text};
+ghost use Rattle.order.specs.Prints.{ordered_text, order_text};
 
 use crate::rearrange;
 use convert::writing::write_table;
@@ -34,7 +34,7 @@ fn write_refusal(out: &mut [u8], code: u32, at: u32) -> Written
 fn print_table(words: &[u32], out: &mut [u8]) -> Written
     requires promise { Promise words.now }
     requires words_len_bound { length words.now ≤ 16384 }
-    ensures { WrittenText 180368 (tableText words.now) (length out.old) result out.new }
+    ensures { WrittenText 180368 (table_text words.now) (length out.old) result out.new }
 {
     let placed = write_table(words, out);
     if placed.code != 0 {
@@ -48,7 +48,7 @@ fn order_table(words: &[u32], new_words: &mut [u32], out: &mut [u8]) -> Written
     requires promise { Promise words.now }
     requires words_len_bound { length words.now ≤ 16384 }
     requires new_words_len { length new_words.old ≡ length words.now }
-    ensures { WrittenText 180368 (tableText (rearranged words.now)) (length out.old) result out.new }
+    ensures { WrittenText 180368 (table_text (rearranged words.now)) (length out.old) result out.new }
 {
     let mut old_numbers = lent_numbers();
     let blocks = block_count(words) as usize;
@@ -59,7 +59,7 @@ fn order_table(words: &[u32], new_words: &mut [u32], out: &mut [u8]) -> Written
 // The words of a file: the rearranged table's text, or why there is none.
 fn order_words(words: &[u32], out: &mut [u8]) -> Written
     requires { length words.now ≤ 16384 }
-    ensures { WrittenText 180368 (orderedText words.now) (length out.old) result out.new }
+    ensures { WrittenText 180368 (ordered_text words.now) (length out.old) result out.new }
 {
     let checked = check(words);
     if checked.is_accepted() {
@@ -72,8 +72,8 @@ fn order_words(words: &[u32], out: &mut [u8]) -> Written
 
 // Reads a file and prints its table with the blocks in walking order; or prints why the file is refused. 180,368 bytes are enough.
 pub fn order_file(file: &[u8], out: &mut [u8]) -> Written
-    ensures out_after { record { answer = result; bytes = out.new } ≡ printing (length out.old) (orderText file.now) }
-    ensures value { 180368 ≤ length out.old → result ≡ Bytes (length (orderText file.now)) }
+    ensures out_after { record { answer = result; bytes = out.new } ≡ printing (length out.old) (order_text file.now) }
+    ensures value { 180368 ≤ length out.old → result ≡ Bytes (length (order_text file.now)) }
 {
     let mut words = lent_words();
     let answer = read(file, &mut words);

@@ -5,10 +5,10 @@ mod list;
 mod write;
 
 ghost use Rattle.std.specs.Prelude.{◌≡◌, true, length};
-ghost use Rattle.table.specs.Words.{blockCount};
+ghost use Rattle.table.specs.Words.{block_count};
 ghost use Rattle.table.specs.Table.{table_of};
 ghost use Rattle.table.specs.Promise.{Promise};
-ghost use Rattle.renaming.specs.Order.{isPermutation, walkingOrder, rearranged, restoredBy, refusedRearrangement, rearrangement, refusedRestoration, restoration};
+ghost use Rattle.renaming.specs.Order.{is_permutation, walking_order, rearranged, restored_by, refused_rearrangement, rearrangement, refused_restoration, restoration};
 ghost use Rattle.order.specs.Queue.{Numbers};
 ghost use Rattle.order.specs.Entry.{rearranging, restoring};
 
@@ -28,7 +28,7 @@ pub struct Moved {
 
 // "A refusal leaves zeros in every output."
 fn refuse_rearranging(new_words: &mut [u32], old_numbers: &mut [u32], code: u32, at: u32) -> Moved
-    ensures { rearranging result new_words.new old_numbers.new ≡ refusedRearrangement code at (length new_words.old) (length old_numbers.old) }
+    ensures { rearranging result new_words.new old_numbers.new ≡ refused_rearrangement code at (length new_words.old) (length old_numbers.old) }
 {
     clear(new_words, 0);
     clear(old_numbers, 0);
@@ -36,7 +36,7 @@ fn refuse_rearranging(new_words: &mut [u32], old_numbers: &mut [u32], code: u32,
 }
 
 fn refuse_restoring(first_words: &mut [u32], code: u32, at: u32) -> Moved
-    ensures { restoring result first_words.new ≡ refusedRestoration code at (length first_words.old) }
+    ensures { restoring result first_words.new ≡ refused_restoration code at (length first_words.old) }
 {
     clear(first_words, 0);
     Moved { code: code, at: at }
@@ -45,9 +45,9 @@ fn refuse_restoring(first_words: &mut [u32], code: u32, at: u32) -> Moved
 fn rearrange_checked(words: &[u32], new_words: &mut [u32], old_numbers: &mut [u32])
     requires promise { Promise words.now }
     requires new_words_len { length new_words.old ≡ length words.now }
-    requires old_numbers_len { length old_numbers.old ≡ blockCount words.now }
+    requires old_numbers_len { length old_numbers.old ≡ block_count words.now }
     ensures new_words_after { new_words.new ≡ rearranged words.now }
-    ensures old_numbers_after { old_numbers.new ≡ walkingOrder (table_of words.now) }
+    ensures old_numbers_after { old_numbers.new ≡ walking_order (table_of words.now) }
 {
     let mut new = [65535; 1024];
     walking_order(words, old_numbers, &mut new);
@@ -85,8 +85,8 @@ pub fn rearrange(words: &[u32], new_words: &mut [u32], old_numbers: &mut [u32]) 
 fn restore_checked(words: &[u32], old_numbers: &[u32], first_words: &mut [u32]) -> bool
     requires promise { Promise words.now }
     requires first_words_len { length first_words.old ≡ length words.now }
-    ensures value { result ≡ isPermutation (blockCount words.now) old_numbers.now }
-    ensures first_words_after { result ≡ true → first_words.new ≡ restoredBy old_numbers.now words.now }
+    ensures value { result ≡ is_permutation (block_count words.now) old_numbers.now }
+    ensures first_words_after { result ≡ true → first_words.new ≡ restored_by old_numbers.now words.now }
 {
     let mut new = [65535; 1024];
     if is_permutation(old_numbers, block_count(words), &mut new) {

@@ -1,13 +1,13 @@
 // The inverse's list.
 ghost use Rattle.std.specs.Prelude.{◌≡◌, true, ◌≤◌};
-ghost use Rattle.renaming.specs.Order.{isPermutation};
+ghost use Rattle.renaming.specs.Order.{is_permutation};
 ghost use Rattle.order.specs.Queue.{Fresh, Numbers};
 
 // Whether the list is a permutation of the block numbers; then `new` has the place of each.
 pub fn is_permutation(list: &[u32], blocks: u32, new: &mut [u32]) -> bool
     requires blocks_bound { blocks ≤ 1024 }
     requires fresh { Fresh new.old }
-    ensures value { result ≡ isPermutation blocks list.now }
+    ensures value { result ≡ is_permutation blocks list.now }
     ensures numbers { result ≡ true → Numbers list.now new.new }
 {
     let count = blocks as usize;

@@ -1,8 +1,8 @@
 // The words of a renamed table, from the first to the last.
 ghost use Rattle.std.specs.Prelude.{◌≡◌, [], ◌∷◌, true, false, ◌+◌, ◌*◌, ◌<◌, ◌≤◌, length};
-ghost use Rattle.table.specs.Words.{blockCount, casesBegin, placesBegin, instructionsBegin};
-ghost use Rattle.renaming.specs.Renaming.{renamedIf};
-ghost use Rattle.order.specs.Write.{number_in, columnsOf, renumbered, Writing, Copied};
+ghost use Rattle.table.specs.Words.{block_count, cases_begin, places_begin, instructions_begin};
+ghost use Rattle.renaming.specs.Renaming.{renamed_if};
+ghost use Rattle.order.specs.Write.{number_in, columns_of, renumbered, Writing, Copied};
 
 use table::columns::code_at;
 use table::words::{block_count, case_count, cases_begin, instructions_begin, places_begin};
@@ -17,7 +17,7 @@ fn columns(a: bool, b: bool, c: bool, d: bool, e: bool) -> [bool; 11]
 // Which columns of a block's row name a block: an arm for each code that has one.
 fn named_columns(code: u32) -> [bool; 11]
     requires { code ≤ 21 }
-    ensures { result ≡ columnsOf code }
+    ensures { result ≡ columns_of code }
 {
     match code {
         0 => columns(false, false, false, false, false), // no such block
@@ -60,7 +60,7 @@ fn number_in(numbers: &[u32], blocks: u32, block: u32) -> u32
 
 fn number_if(named: bool, numbers: &[u32], blocks: u32, word: u32) -> u32
     requires { blocks ≤ length numbers.now }
-    ensures { result ≡ renamedIf named (number_in blocks numbers.now) word }
+    ensures { result ≡ renamed_if named (number_in blocks numbers.now) word }
 {
     if named {
         return number_in(numbers, blocks, word);
@@ -92,7 +92,7 @@ fn write_head(words: &[u32], names: &[u32], rows: &[u32], new_words: &mut [u32])
 // The row of a block: the old table's row, with the blocks that it names renamed.
 fn write_row(words: &[u32], names: &[u32], rows: &[u32], new_words: &mut [u32], row: u32)
     requires writing { Writing words.now names.now rows.now new_words.old (6 + row * 11) }
-    requires row_bound { row < blockCount words.now }
+    requires row_bound { row < block_count words.now }
     ensures { Writing words.now names.now rows.now new_words.new (6 + (row + 1) * 11) }
 {
     let blocks = block_count(words);
@@ -110,7 +110,7 @@ fn write_row(words: &[u32], names: &[u32], rows: &[u32], new_words: &mut [u32], 
 
 fn write_blocks(words: &[u32], names: &[u32], rows: &[u32], new_words: &mut [u32])
     requires { Writing words.now names.now rows.now new_words.old 6 }
-    ensures { Writing words.now names.now rows.now new_words.new (instructionsBegin words.now) }
+    ensures { Writing words.now names.now rows.now new_words.new (instructions_begin words.now) }
 {
     let blocks = block_count(words);
     let mut row = 0;
@@ -122,8 +122,8 @@ fn write_blocks(words: &[u32], names: &[u32], rows: &[u32], new_words: &mut [u32
 
 // "every case row renamed whether used or not"
 fn write_cases(words: &[u32], names: &[u32], rows: &[u32], new_words: &mut [u32])
-    requires { Writing words.now names.now rows.now new_words.old (casesBegin words.now) }
-    ensures { Writing words.now names.now rows.now new_words.new (placesBegin words.now) }
+    requires { Writing words.now names.now rows.now new_words.old (cases_begin words.now) }
+    ensures { Writing words.now names.now rows.now new_words.new (places_begin words.now) }
 {
     let blocks = block_count(words);
     let begin = cases_begin(words) as usize;

@@ -8,121 +8,121 @@ use lib.Dec.{eqb}
 use lib.ListN.{length, get_or, take, drop, length-drop}
 use lib.Seq.{take-suc, drop-cons, get_or-drop}
 use borrow.Author.Tests.{eq-eqb, ne_eqb}
-use Rattle.table.specs.Words.{caseCount}
+use Rattle.table.specs.Words.{case_count}
 use Rattle.table.specs.Table.{Table, Case, table_of}
 use Rattle.table.specs.Promise.{Chooses}
-use Rattle.table.proofs.TableLaws.{length-cases}
+use Rattle.table.proofs.TableLaws.{length_cases}
 use Rattle.definition.specs.BlockRun.{case_list}
-use Rattle.definition.specs.Statement.{casesLastFirst}
-use Rattle.definition.specs.Plain.{blocksOf}
-use Rattle.definition.specs.PlainLoops.{dropOwn}
-use Rattle.definition.specs.PlainTest.{all_of, lastIsOwn}
+use Rattle.definition.specs.Statement.{cases_last_first}
+use Rattle.definition.specs.Plain.{blocks_of}
+use Rattle.definition.specs.PlainLoops.{drop_own}
+use Rattle.definition.specs.PlainTest.{all_of, last_is_own}
 
-abbrev aCase : (test block : ℕ) → Case
-aCase test block = record { test = test; block = block }
+abbrev a_case : (test block : ℕ) → Case
+a_case test block = record { test = test; block = block }
 
 -- ---- forwards
 
 module _ {ws : List ℕ} where
-  first_of : (at left : ℕ) {test block : ℕ} → Chooses ws at test block → at + left ≤ caseCount ws → (left ≡ 0 → ⊥)
-      → case_list (table_of ws) at left ≡ aCase test block ∷ case_list (table_of ws) (at + 1) (left - 1)
+  first_of : (at left : ℕ) {test block : ℕ} → Chooses ws at test block → at + left ≤ case_count ws → (left ≡ 0 → ⊥)
+      → case_list (table_of ws) at left ≡ a_case test block ∷ case_list (table_of ws) (at + 1) (left - 1)
   unfolding case_list
   first_of at zero chosen h f = absurd (f refl)
   first_of at (suc n) {test} {block} chosen h f =
       let next : suc at ≡ at + 1 = omega arith in
       let fewer : n ≡ suc n - 1 = omega arith in
-      ap (take (suc n)) (drop-cons (table_of ws).cases at (aCase 0 0) (omega (arith, h, length-cases ws)))
-      ∙ ap (λ (k : Case). k ∷ take n (drop (suc at) (table_of ws).cases)) (chosen.is (aCase 0 0))
-      ∙ ap (λ (i : ℕ). aCase test block ∷ take n (drop i (table_of ws).cases)) next
-      ∙ ap (λ (i : ℕ). aCase test block ∷ take i (drop (at + 1) (table_of ws).cases)) fewer
+      ap (take (suc n)) (drop-cons (table_of ws).cases at (a_case 0 0) (omega (arith, h, length_cases ws)))
+      ∙ ap (λ (k : Case). k ∷ take n (drop (suc at) (table_of ws).cases)) (chosen.is (a_case 0 0))
+      ∙ ap (λ (i : ℕ). a_case test block ∷ take n (drop i (table_of ws).cases)) next
+      ∙ ap (λ (i : ℕ). a_case test block ∷ take i (drop (at + 1) (table_of ws).cases)) fewer
 
-  last_of : (first left i : ℕ) {test block : ℕ} → i ≡ first + left → Chooses ws i test block → first + left < caseCount ws
-      → casesLastFirst (table_of ws) first (suc left) ≡ aCase test block ∷ casesLastFirst (table_of ws) first left
-  unfolding casesLastFirst
+  last_of : (first left i : ℕ) {test block : ℕ} → i ≡ first + left → Chooses ws i test block → first + left < case_count ws
+      → cases_last_first (table_of ws) first (suc left) ≡ a_case test block ∷ cases_last_first (table_of ws) first left
+  unfolding cases_last_first
   last_of first left i {test} {block} at chosen h =
       let rows : List Case = drop first (table_of ws).cases in
-      let long : left < length rows = omega (arith, h, length-cases ws, length-drop first (table_of ws).cases) in
-      let one : get_or rows left (aCase 0 0) ≡ aCase test block =
-      get_or-drop first (table_of ws).cases left (aCase 0 0) ∙ ap (λ (n : ℕ). get_or (table_of ws).cases n (aCase 0 0)) (sym at) ∙ chosen.is (aCase 0 0) in
-      ap reverse (take-suc rows left (aCase 0 0) long) ∙ reverse-append (take left rows) (get_or rows left (aCase 0 0) ∷ [])
+      let long : left < length rows = omega (arith, h, length_cases ws, length-drop first (table_of ws).cases) in
+      let one : get_or rows left (a_case 0 0) ≡ a_case test block =
+      get_or-drop first (table_of ws).cases left (a_case 0 0) ∙ ap (λ (n : ℕ). get_or (table_of ws).cases n (a_case 0 0)) (sym at) ∙ chosen.is (a_case 0 0) in
+      ap reverse (take-suc rows left (a_case 0 0) long) ∙ reverse-append (take left rows) (get_or rows left (a_case 0 0) ∷ [])
       ∙ ap (λ (k : Case). k ∷ reverse (take left rows)) one
 
 -- what is left of the cases gives what all give
 pub record Left (ws : List ℕ) (F : List ℕ → Bool) (first number at left : ℕ) : Type 0 where
-  pub within : at + left ≤ caseCount ws
-  pub same : F (blocksOf (case_list (table_of ws) first number)) ≡ F (blocksOf (case_list (table_of ws) at left))
+  pub within : at + left ≤ case_count ws
+  pub same : F (blocks_of (case_list (table_of ws) first number)) ≡ F (blocks_of (case_list (table_of ws) at left))
 
 module _ {ws : List ℕ} (F : List ℕ → Bool) where
-  pub left-all : {first number : ℕ} → first + number ≤ caseCount ws → Left ws F first number first number
-  left-all h = record { within = h; same = refl }
+  pub left_all : {first number : ℕ} → first + number ≤ case_count ws → Left ws F first number first number
+  left_all h = record { within = h; same = refl }
 
-  pub left-first : {first number at left test block : ℕ} → Left ws F first number at left → 0 < left → Chooses ws at test block
-      → F (blocksOf (case_list (table_of ws) first number)) ≡ F (block ∷ blocksOf (case_list (table_of ws) (at + 1) (left - 1)))
-  left-first {at = at} {left = left} l h chosen =
+  pub left_first : {first number at left test block : ℕ} → Left ws F first number at left → 0 < left → Chooses ws at test block
+      → F (blocks_of (case_list (table_of ws) first number)) ≡ F (block ∷ blocks_of (case_list (table_of ws) (at + 1) (left - 1)))
+  left_first {at = at} {left = left} l h chosen =
       let some : left ≡ 0 → ⊥ = λ e. omega (arith, e, h) in
-      l.same ∙ ap (λ (cs : List Case). F (blocksOf cs)) (first_of at left chosen l.within some)
+      l.same ∙ ap (λ (cs : List Case). F (blocks_of cs)) (first_of at left chosen l.within some)
 
-  pub left-more : {first number at left test block : ℕ} → Left ws F first number at left → 0 < left → Chooses ws at test block
-      → F (block ∷ blocksOf (case_list (table_of ws) (at + 1) (left - 1))) ≡ F (blocksOf (case_list (table_of ws) (at + 1) (left - 1)))
+  pub left_more : {first number at left test block : ℕ} → Left ws F first number at left → 0 < left → Chooses ws at test block
+      → F (block ∷ blocks_of (case_list (table_of ws) (at + 1) (left - 1))) ≡ F (blocks_of (case_list (table_of ws) (at + 1) (left - 1)))
       → Left ws F first number (at + 1) (left - 1)
-  left-more l h chosen e = record { within = omega (arith, h, l.within); same = left-first l h chosen ∙ e }
+  left_more l h chosen e = record { within = omega (arith, h, l.within); same = left_first l h chosen ∙ e }
 
-  pub left-none : {first number at left : ℕ} → Left ws F first number at left → left ≤ 0 → F (blocksOf (case_list (table_of ws) first number)) ≡ F []
+  pub left_none : {first number at left : ℕ} → Left ws F first number at left → left ≤ 0 → F (blocks_of (case_list (table_of ws) first number)) ≡ F []
   unfolding case_list
-  left-none {at = at} {left = zero} l h = l.same
-  left-none {at = at} {left = suc left} l h = absurd (omega (arith, h))
+  left_none {at = at} {left = zero} l h = l.same
+  left_none {at = at} {left = suc left} l h = absurd (omega (arith, h))
 
 -- ---- from the last on
 
-pub last-own : {ws : List ℕ} {test block : ℕ} (first number f : ℕ) → first + number ≤ caseCount ws → (number ≡ 0 → ⊥) → Chooses ws (first + (number - 1)) test block
-    → eqb block f ≡ lastIsOwn f (casesLastFirst (table_of ws) first number)
-last-own first zero f h g chosen = absurd (g refl)
-last-own first (suc n) f h g chosen = sym (ap (lastIsOwn f) (last_of first n (first + (suc n - 1)) (omega arith) chosen (omega (arith, h))))
+pub last_own : {ws : List ℕ} {test block : ℕ} (first number f : ℕ) → first + number ≤ case_count ws → (number ≡ 0 → ⊥) → Chooses ws (first + (number - 1)) test block
+    → eqb block f ≡ last_is_own f (cases_last_first (table_of ws) first number)
+last_own first zero f h g chosen = absurd (g refl)
+last_own first (suc n) f h g chosen = sym (ap (last_is_own f) (last_of first n (first + (suc n - 1)) (omega arith) chosen (omega (arith, h))))
 
-pub last_none : (t : Table) (first number f : ℕ) → number ≡ 0 → false ≡ lastIsOwn f (casesLastFirst t first number)
-unfolding casesLastFirst
+pub last_none : (t : Table) (first number f : ℕ) → number ≡ 0 → false ≡ last_is_own f (cases_last_first t first number)
+unfolding cases_last_first
 last_none t first number f e = rw e refl
 
 -- those at the end that are its own are dropped so far
 pub record Dropped (ws : List ℕ) (f first number left : ℕ) : Type 0 where
   pub most : left ≤ number
-  pub same : dropOwn f (casesLastFirst (table_of ws) first number) ≡ dropOwn f (casesLastFirst (table_of ws) first left)
+  pub same : drop_own f (cases_last_first (table_of ws) first number) ≡ drop_own f (cases_last_first (table_of ws) first left)
 
-drop-step : (t : Table) (f first n : ℕ) (test block : ℕ) → casesLastFirst t first (suc n) ≡ aCase test block ∷ casesLastFirst t first n → block ≡ f
-    → dropOwn f (casesLastFirst t first (suc n)) ≡ dropOwn f (casesLastFirst t first n)
-drop-step t f first n test block e h = ap (dropOwn f) e ∙ rw (eq-eqb block f h) refl
+drop_step : (t : Table) (f first n : ℕ) (test block : ℕ) → cases_last_first t first (suc n) ≡ a_case test block ∷ cases_last_first t first n → block ≡ f
+    → drop_own f (cases_last_first t first (suc n)) ≡ drop_own f (cases_last_first t first n)
+drop_step t f first n test block e h = ap (drop_own f) e ∙ rw (eq-eqb block f h) refl
 
-drop-end : (t : Table) (f first n : ℕ) (test block : ℕ) → casesLastFirst t first (suc n) ≡ aCase test block ∷ casesLastFirst t first n → (block ≡ f → ⊥)
-    → dropOwn f (casesLastFirst t first (suc n)) ≡ casesLastFirst t first (suc n)
-drop-end t f first n test block e h = ap (dropOwn f) e ∙ (rw (ne_eqb block f h) refl) ∙ sym e
+drop_end : (t : Table) (f first n : ℕ) (test block : ℕ) → cases_last_first t first (suc n) ≡ a_case test block ∷ cases_last_first t first n → (block ≡ f → ⊥)
+    → drop_own f (cases_last_first t first (suc n)) ≡ cases_last_first t first (suc n)
+drop_end t f first n test block e h = ap (drop_own f) e ∙ (rw (ne_eqb block f h) refl) ∙ sym e
 
-module _ {ws : List ℕ} {f first number : ℕ} (h : first + number ≤ caseCount ws) where
-  pub dropped-more : {left test block : ℕ} → Dropped ws f first number left → 0 < left → Chooses ws (first + (left - 1)) test block → block ≡ f
+module _ {ws : List ℕ} {f first number : ℕ} (h : first + number ≤ case_count ws) where
+  pub dropped_more : {left test block : ℕ} → Dropped ws f first number left → 0 < left → Chooses ws (first + (left - 1)) test block → block ≡ f
       → Dropped ws f first number (left - 1)
-  dropped-more {left = zero} d g chosen e = absurd (omega (arith, g))
-  dropped-more {left = suc n} {test = test} {block = block} d g chosen e = record {
+  dropped_more {left = zero} d g chosen e = absurd (omega (arith, g))
+  dropped_more {left = suc n} {test = test} {block = block} d g chosen e = record {
     most = omega (arith, d.most);
-    same = d.same ∙ drop-step (table_of ws) f first n test block (last_of first n (first + (suc n - 1)) (omega arith) chosen (omega (arith, h, d.most))) e
-        ∙ ap (λ (i : ℕ). dropOwn f (casesLastFirst (table_of ws) first i)) (omega arith);
+    same = d.same ∙ drop_step (table_of ws) f first n test block (last_of first n (first + (suc n - 1)) (omega arith) chosen (omega (arith, h, d.most))) e
+        ∙ ap (λ (i : ℕ). drop_own f (cases_last_first (table_of ws) first i)) (omega arith);
   }
 
-  pub dropped-end : {left test block : ℕ} → Dropped ws f first number left → 0 < left → Chooses ws (first + (left - 1)) test block → (block ≡ f → ⊥)
-      → dropOwn f (casesLastFirst (table_of ws) first number) ≡ casesLastFirst (table_of ws) first left
-  dropped-end {left = zero} d g chosen e = absurd (omega (arith, g))
-  dropped-end {left = suc n} {test = test} {block = block} d g chosen e =
-      d.same ∙ drop-end (table_of ws) f first n test block (last_of first n (first + (suc n - 1)) (omega arith) chosen (omega (arith, h, d.most))) e
+  pub dropped_end : {left test block : ℕ} → Dropped ws f first number left → 0 < left → Chooses ws (first + (left - 1)) test block → (block ≡ f → ⊥)
+      → drop_own f (cases_last_first (table_of ws) first number) ≡ cases_last_first (table_of ws) first left
+  dropped_end {left = zero} d g chosen e = absurd (omega (arith, g))
+  dropped_end {left = suc n} {test = test} {block = block} d g chosen e =
+      d.same ∙ drop_end (table_of ws) f first n test block (last_of first n (first + (suc n - 1)) (omega arith) chosen (omega (arith, h, d.most))) e
 
-pub dropped-all : {ws : List ℕ} {f first number left : ℕ} → Dropped ws f first number left → left ≤ 0
-    → dropOwn f (casesLastFirst (table_of ws) first number) ≡ casesLastFirst (table_of ws) first 0
-unfolding casesLastFirst
-dropped-all {left = zero} d h = d.same
-dropped-all {left = suc n} d h = absurd (omega (arith, h))
+pub dropped_all : {ws : List ℕ} {f first number left : ℕ} → Dropped ws f first number left → left ≤ 0
+    → drop_own f (cases_last_first (table_of ws) first number) ≡ cases_last_first (table_of ws) first 0
+unfolding cases_last_first
+dropped_all {left = zero} d h = d.same
+dropped_all {left = suc n} d h = absurd (omega (arith, h))
 
 -- ---- in either order
 
-all_append : (xs : List Case) (k : Case) (p : ℕ → Bool) → all_of (blocksOf (xs ++ (k ∷ []))) p ≡ p k.block && all_of (blocksOf xs) p
+all_append : (xs : List Case) (k : Case) (p : ℕ → Bool) → all_of (blocks_of (xs ++ (k ∷ []))) p ≡ p k.block && all_of (blocks_of xs) p
 all_append [] k p = refl
-all_append (x ∷ xs) k p = ap (λ (b : Bool). p x.block && b) (all_append xs k p) ∙ swap (p x.block) (p k.block) (all_of (blocksOf xs) p)
+all_append (x ∷ xs) k p = ap (λ (b : Bool). p x.block && b) (all_append xs k p) ∙ swap (p x.block) (p k.block) (all_of (blocks_of xs) p)
   where
     swap : (a b c : Bool) → a && (b && c) ≡ b && (a && c)
     swap true true c = refl
@@ -130,11 +130,11 @@ all_append (x ∷ xs) k p = ap (λ (b : Bool). p x.block && b) (all_append xs k 
     swap false true c = refl
     swap false false c = refl
 
-all-reverse : (xs : List Case) (p : ℕ → Bool) → all_of (blocksOf (reverse xs)) p ≡ all_of (blocksOf xs) p
-all-reverse [] p = refl
-all-reverse (x ∷ xs) p =
-    ap (λ (cs : List Case). all_of (blocksOf cs) p) (reverse-cons x xs) ∙ all_append (reverse xs) x p ∙ ap (λ (b : Bool). p x.block && b) (all-reverse xs p)
+all_reverse : (xs : List Case) (p : ℕ → Bool) → all_of (blocks_of (reverse xs)) p ≡ all_of (blocks_of xs) p
+all_reverse [] p = refl
+all_reverse (x ∷ xs) p =
+    ap (λ (cs : List Case). all_of (blocks_of cs) p) (reverse-cons x xs) ∙ all_append (reverse xs) x p ∙ ap (λ (b : Bool). p x.block && b) (all_reverse xs p)
 
-pub either_order : (t : Table) (first number : ℕ) (p : ℕ → Bool) → all_of (blocksOf (casesLastFirst t first number)) p ≡ all_of (blocksOf (case_list t first number)) p
-unfolding casesLastFirst case_list
-either_order t first number p = all-reverse (take number (drop first t.cases)) p
+pub either_order : (t : Table) (first number : ℕ) (p : ℕ → Bool) → all_of (blocks_of (cases_last_first t first number)) p ≡ all_of (blocks_of (case_list t first number)) p
+unfolding cases_last_first case_list
+either_order t first number p = all_reverse (take number (drop first t.cases)) p

@@ -7,75 +7,75 @@ use mathlib.Core.Bool.{Bool, true, false, not, ◌&&◌, ◌||◌}
 use lib.Dec.{eqb}
 use lib.ListN.{length, get_or}
 use borrow.Author.Tests.{eqb-true, eq-eqb}
-use Rattle.table.specs.Words.{blockCount}
-use Rattle.table.specs.Table.{Block, no_block, Terminal, table_of, terminalAt}
-use Rattle.table.proofs.TableLaws.{length-blocks}
-use Rattle.definition.specs.PlainTest.{everyOf, someOf}
-use Rattle.definition.proofs.Steps.{true-false}
+use Rattle.table.specs.Words.{block_count}
+use Rattle.table.specs.Table.{Block, no_block, Terminal, table_of, terminal_at}
+use Rattle.table.proofs.TableLaws.{length_blocks}
+use Rattle.definition.specs.PlainTest.{every_of, some_of}
+use Rattle.definition.proofs.Steps.{true_false}
 use Rattle.definition.proofs.PlainTest.{and_both, not_is}
 
 -- ---- one condition and then the others
 
-not-false : (a : Bool) → not a ≡ false → a ≡ true
-not-false true e = refl
-not-false false e = sym e
+not_false : (a : Bool) → not a ≡ false → a ≡ true
+not_false true e = refl
+not_false false e = sym e
 
 pub stopped : {r d : Bool} (x : Bool) → r ≡ d → not r ≡ true → false ≡ d && x
 stopped {r} x e f = rw (sym e ∙ not_is r f) refl
 
 pub passed : {r d s x : Bool} → r ≡ d → not r ≡ false → s ≡ x → s ≡ d && x
-passed {r} e f g = rw (sym e ∙ not-false r f) g
+passed {r} e f g = rw (sym e ∙ not_false r f) g
 
 -- ---- every block
 
-every_true : (bs : List Block) (p : ℕ → Terminal → Bool) → ((c : ℕ) → c < length bs → p c (get_or bs c no_block).terminal ≡ true) → everyOf bs p ≡ true
+every_true : (bs : List Block) (p : ℕ → Terminal → Bool) → ((c : ℕ) → c < length bs → p c (get_or bs c no_block).terminal ≡ true) → every_of bs p ≡ true
 every_true [] p h = refl
-every_true (k ∷ ks) p h = and_both (p 0 k.terminal) (everyOf ks (λ n. p (suc n))) (h 0 (omega arith)) (every_true ks (λ n. p (suc n)) (λ c q. h (suc c) (omega arith)))
+every_true (k ∷ ks) p h = and_both (p 0 k.terminal) (every_of ks (λ n. p (suc n))) (h 0 (omega arith)) (every_true ks (λ n. p (suc n)) (λ c q. h (suc c) (omega arith)))
 
-and-false : (a b : Bool) → b ≡ false → a && b ≡ false
-and-false true b e = e
-and-false false b e = refl
+and_false : (a b : Bool) → b ≡ false → a && b ≡ false
+and_false true b e = e
+and_false false b e = refl
 
-every-false : (bs : List Block) (p : ℕ → Terminal → Bool) (c : ℕ) → c < length bs → p c (get_or bs c no_block).terminal ≡ false → everyOf bs p ≡ false
-every-false [] p c h e = absurd (omega arith)
-every-false (k ∷ ks) p zero h e = rw e refl
-every-false (k ∷ ks) p (suc c) h e = and-false (p 0 k.terminal) (everyOf ks (λ n. p (suc n))) (every-false ks (λ n. p (suc n)) c (omega arith) e)
+every_false : (bs : List Block) (p : ℕ → Terminal → Bool) (c : ℕ) → c < length bs → p c (get_or bs c no_block).terminal ≡ false → every_of bs p ≡ false
+every_false [] p c h e = absurd (omega arith)
+every_false (k ∷ ks) p zero h e = rw e refl
+every_false (k ∷ ks) p (suc c) h e = and_false (p 0 k.terminal) (every_of ks (λ n. p (suc n))) (every_false ks (λ n. p (suc n)) c (omega arith) e)
 
 -- so far
 pub record Yet (ws : List ℕ) (p : ℕ → Terminal → Bool) (count block : ℕ) : Type 0 where
-  pub all : count ≡ blockCount ws
+  pub all : count ≡ block_count ws
   pub most : block ≤ count
-  pub yes : (c : ℕ) → c < block → p c (terminalAt (table_of ws) c) ≡ true
+  pub yes : (c : ℕ) → c < block → p c (terminal_at (table_of ws) c) ≡ true
 
 module _ {ws : List ℕ} (p : ℕ → Terminal → Bool) where
-  pub yet-none : {count : ℕ} → count ≡ blockCount ws → Yet ws p count 0
-  yet-none e = record { all = e; most = omega arith; yes = λ c h. absurd (omega (arith, h)) }
+  pub yet_none : {count : ℕ} → count ≡ block_count ws → Yet ws p count 0
+  yet_none e = record { all = e; most = omega arith; yes = λ c h. absurd (omega (arith, h)) }
 
-  pub yet-more : {count block : ℕ} {r : Bool} → Yet ws p count block → block < count → r ≡ p block (terminalAt (table_of ws) block) → not r ≡ false
+  pub yet_more : {count block : ℕ} {r : Bool} → Yet ws p count block → block < count → r ≡ p block (terminal_at (table_of ws) block) → not r ≡ false
       → Yet ws p count (block + 1)
-  yet-more {count} {block} {r} y h e f = record { all = y.all; most = omega (arith, h); yes = further }
+  yet_more {count} {block} {r} y h e f = record { all = y.all; most = omega (arith, h); yes = further }
     where
-      further : (c : ℕ) → c < block + 1 → p c (terminalAt (table_of ws) c) ≡ true
+      further : (c : ℕ) → c < block + 1 → p c (terminal_at (table_of ws) c) ≡ true
       further c q = by (eqb c block) refl
         where
-          by : (b : Bool) → eqb c block ≡ b → p c (terminalAt (table_of ws) c) ≡ true
-          by true i = rw (eqb-true c block i) (sym e ∙ not-false r f)
+          by : (b : Bool) → eqb c block ≡ b → p c (terminal_at (table_of ws) c) ≡ true
+          by true i = rw (eqb-true c block i) (sym e ∙ not_false r f)
           by false i =
-              let other : c ≡ block → ⊥ = λ j. true-false (sym (eq-eqb c block j) ∙ i) in
+              let other : c ≡ block → ⊥ = λ j. true_false (sym (eq-eqb c block j) ∙ i) in
               y.yes c (omega (arith, q, other))
 
-  pub yet-all : {count block : ℕ} → Yet ws p count block → count ≤ block → true ≡ everyOf (table_of ws).blocks p
-  yet-all y h = sym (every_true (table_of ws).blocks p (λ c q. y.yes c (omega (arith, q, h, y.all, length-blocks ws))))
+  pub yet_all : {count block : ℕ} → Yet ws p count block → count ≤ block → true ≡ every_of (table_of ws).blocks p
+  yet_all y h = sym (every_true (table_of ws).blocks p (λ c q. y.yes c (omega (arith, q, h, y.all, length_blocks ws))))
 
-  pub yet-not : {count block : ℕ} {r : Bool} → Yet ws p count block → block < count → r ≡ p block (terminalAt (table_of ws) block) → not r ≡ true
-      → false ≡ everyOf (table_of ws).blocks p
-  yet-not {count} {block} {r} y h e f = sym (every-false (table_of ws).blocks p block (omega (arith, h, y.all, length-blocks ws)) (sym e ∙ not_is r f))
+  pub yet_not : {count block : ℕ} {r : Bool} → Yet ws p count block → block < count → r ≡ p block (terminal_at (table_of ws) block) → not r ≡ true
+      → false ≡ every_of (table_of ws).blocks p
+  yet_not {count} {block} {r} y h e f = sym (every_false (table_of ws).blocks p block (omega (arith, h, y.all, length_blocks ws)) (sym e ∙ not_is r f))
 
 -- ---- some block
 
-pub some-every : (bs : List Block) (p : ℕ → Terminal → Bool) → not (everyOf bs (λ c m. not (p c m))) ≡ someOf bs p
-some-every [] p = refl
-some-every (k ∷ ks) p = by (p 0 k.terminal) (everyOf ks (λ n m. not (p (suc n) m))) (someOf ks (λ n. p (suc n))) (some-every ks (λ n. p (suc n)))
+pub some_every : (bs : List Block) (p : ℕ → Terminal → Bool) → not (every_of bs (λ c m. not (p c m))) ≡ some_of bs p
+some_every [] p = refl
+some_every (k ∷ ks) p = by (p 0 k.terminal) (every_of ks (λ n m. not (p (suc n) m))) (some_of ks (λ n. p (suc n))) (some_every ks (λ n. p (suc n)))
   where
     by : (a b c : Bool) → not b ≡ c → not (not a && b) ≡ a || c
     by true b c e = refl

@@ -1,20 +1,20 @@
 -- The conditions by the law that they are of; and a Branch's, as a definition by itself.
 use Rattle.std.specs.Prelude.{ℕ, Bool, true, false, not, ◌&&◌}
-use Rattle.table.specs.Table.{Table, Terminal, instructionRowsAt}
-use Rattle.definition.specs.Plain.{Width, paper-01, with-switch, endsInStore}
-use Rattle.definition.specs.PlainTest.{someOf, shape_of, isWhile, blockTest, loopBlockTest}
+use Rattle.table.specs.Table.{Table, Terminal, instruction_rows_at}
+use Rattle.definition.specs.Plain.{Width, paper_01, with_switch, ends_in_store}
+use Rattle.definition.specs.PlainTest.{some_of, shape_of, is_while, block_test, loop_block_test}
 use Rattle.plain.specs.declared.laws.Law.{Law}
 use Rattle.plain.specs.declared.laws.Law.TheVariants.{Paper01, Switches, Loops}
 
 abbrev pub width_of : (switches : Bool) → Width
-width_of true = with-switch
-width_of false = paper-01
+width_of true = with_switch
+width_of false = paper_01
 
-abbrev pub branchTest : Table → (block consequent alternate : ℕ) → Bool
-branchTest t block consequent alternate =
-    someOf t.blocks (λ w m. isWhile block consequent alternate (shape_of m)) && not (endsInStore t (instructionRowsAt t block))
+abbrev pub branch_test : Table → (block consequent alternate : ℕ) → Bool
+branch_test t block consequent alternate =
+    some_of t.blocks (λ w m. is_while block consequent alternate (shape_of m)) && not (ends_in_store t (instruction_rows_at t block))
 
-abbrev pub testBy : Table → Law → (block : ℕ) → Terminal → Bool
-testBy t Paper01 = blockTest t paper-01
-testBy t Switches = blockTest t with-switch
-testBy t Loops = loopBlockTest t with-switch
+abbrev pub test_by : Table → Law → (block : ℕ) → Terminal → Bool
+test_by t Paper01 = block_test t paper_01
+test_by t Switches = block_test t with_switch
+test_by t Loops = loop_block_test t with_switch

@@ -5,9 +5,9 @@ use Rattle.table.specs.Check.{Verdict, accepted, refused, checked}
 use Rattle.table.specs.Table.{table_of}
 use Rattle.definition.specs.PlainTest.{plainness}
 
-abbrev pub ifAccepted : Verdict → (number : ℕ) → ℕ
-ifAccepted accepted number = number
-ifAccepted (refused code at) number = 0
+abbrev pub if_accepted : Verdict → (number : ℕ) → ℕ
+if_accepted accepted number = number
+if_accepted (refused code at) number = 0
 
-unfoldable pub plainnessOf : List ℕ → ℕ
-plainnessOf words = ifAccepted (checked words) (plainness (table_of words))
+unfoldable pub plainness_of : List ℕ → ℕ
+plainness_of words = if_accepted (checked words) (plainness (table_of words))

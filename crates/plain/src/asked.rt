@@ -2,9 +2,9 @@
 ghost use Rattle.std.specs.Prelude.{◌≡◌, ◌&&◌, ◌||◌};
 ghost use Rattle.table.specs.Table.{table_of};
 ghost use Rattle.table.specs.Promise.{Promise};
-ghost use Rattle.definition.specs.PlainTest.{everyOf};
+ghost use Rattle.definition.specs.PlainTest.{every_of};
 ghost use Rattle.plain.specs.declared.asked.Question.TheVariants.{OnlyOf, NotNamed};
-ghost use Rattle.plain.specs.Asked.{isFall, isJump, whileIs, branchIs, noWhilePart, isLoop, noLoopPart, isOpen, holds_of, asks};
+ghost use Rattle.plain.specs.Asked.{is_fall, is_jump, while_is, branch_is, no_while_part, is_loop, no_loop_part, is_open, holds_of, asks};
 
 use crate::facts::{Facts, facts_at};
 use table::words::block_count;
@@ -40,20 +40,20 @@ pub fn either(a: bool, b: bool) -> bool
 }
 
 pub fn is_fall(facts: Facts, block: u32) -> bool
-    ensures { result ≡ isFall facts block }
+    ensures { result ≡ is_fall facts block }
 {
     both(facts.falls, facts.fallthrough == block)
 }
 
 // A Goto's block.
 pub fn is_jump(facts: Facts, block: u32) -> bool
-    ensures { result ≡ isJump facts block }
+    ensures { result ≡ is_jump facts block }
 {
     both(facts.code == 4, facts.entered1 == block)
 }
 
 fn is_while(test: u32, body: u32, fallthrough: u32, facts: Facts) -> bool
-    ensures { result ≡ whileIs test body fallthrough facts }
+    ensures { result ≡ while_is test body fallthrough facts }
 {
     let named = both(facts.test == test, facts.entered1 == body);
     both(
@@ -63,34 +63,34 @@ fn is_while(test: u32, body: u32, fallthrough: u32, facts: Facts) -> bool
 }
 
 pub fn is_branch_to(consequent: u32, alternate: u32, facts: Facts) -> bool
-    ensures { result ≡ branchIs consequent alternate facts }
+    ensures { result ≡ branch_is consequent alternate facts }
 {
     let named = both(facts.entered1 == consequent, facts.entered2 == alternate);
     both(facts.code == 6, named)
 }
 
 fn no_while_part(block: u32, facts: Facts) -> bool
-    ensures { result ≡ noWhilePart block facts }
+    ensures { result ≡ no_while_part block facts }
 {
     let other = both(block != facts.entered1, block != facts.test);
     either(facts.code != 9, other)
 }
 
 pub fn is_loop(facts: Facts) -> bool
-    ensures { result ≡ isLoop facts }
+    ensures { result ≡ is_loop facts }
 {
     both(facts.code >= 8, facts.code <= 10)
 }
 
 fn no_loop_part(block: u32, facts: Facts) -> bool
-    ensures { result ≡ noLoopPart block facts }
+    ensures { result ≡ no_loop_part block facts }
 {
     let other = both(block != facts.entered1, block != facts.again);
     either(!is_loop(facts), other)
 }
 
 pub fn is_open(facts: Facts) -> bool
-    ensures { result ≡ isOpen facts }
+    ensures { result ≡ is_open facts }
 {
     let scopes = either(facts.code == 20, facts.code == 21);
     let labels = either(facts.code == 16, scopes);
@@ -130,7 +130,7 @@ fn holds(question: Question, block: u32, facts: Facts) -> bool
 // Whether the answer is yes of every block.
 pub fn every(words: &[u32], question: Question) -> bool
     requires { Promise words.now }
-    ensures { result ≡ everyOf (table_of words.now).blocks (asks question) }
+    ensures { result ≡ every_of (table_of words.now).blocks (asks question) }
 {
     let count = block_count(words);
     let mut block = 0;

@@ -1,15 +1,15 @@
 // What the conditions ask of a Switch's cases: `number` rows from `first` on.
 ghost use Rattle.std.specs.Prelude.{◌≡◌, ◌+◌, ◌≤◌, not};
-ghost use Rattle.table.specs.Words.{caseCount};
-ghost use Rattle.table.specs.Table.{table_of, terminalAt, isUnreachable};
+ghost use Rattle.table.specs.Words.{case_count};
+ghost use Rattle.table.specs.Table.{table_of, terminal_at, is_unreachable};
 ghost use Rattle.table.specs.Promise.{Promise};
 ghost use Rattle.definition.specs.BlockRun.{case_list};
 ghost use Rattle.definition.specs.Completion.{contains};
-ghost use Rattle.definition.specs.Statement.{casesLastFirst};
-ghost use Rattle.definition.specs.Plain.{blocksOf, different, is_branch};
-ghost use Rattle.definition.specs.PlainLoops.{dropOwn};
-ghost use Rattle.definition.specs.PlainTest.{all_of, lastIsOwn, properTest};
-ghost use Rattle.plain.specs.Cases.{caseTest};
+ghost use Rattle.definition.specs.Statement.{cases_last_first};
+ghost use Rattle.definition.specs.Plain.{blocks_of, different, is_branch};
+ghost use Rattle.definition.specs.PlainLoops.{drop_own};
+ghost use Rattle.definition.specs.PlainTest.{all_of, last_is_own, proper_test};
+ghost use Rattle.plain.specs.Cases.{case_test};
 
 use crate::asked::{Question, every};
 use crate::facts::facts_at;
@@ -17,7 +17,7 @@ use table::columns::case_at;
 
 pub fn no_branch(words: &[u32], block: u32) -> bool
     requires { Promise words.now }
-    ensures { result ≡ not (is_branch (terminalAt (table_of words.now) block)) }
+    ensures { result ≡ not (is_branch (terminal_at (table_of words.now) block)) }
 {
     let facts = facts_at(words, block);
     facts.code != 6
@@ -25,7 +25,7 @@ pub fn no_branch(words: &[u32], block: u32) -> bool
 
 pub fn reached(words: &[u32], block: u32) -> bool
     requires { Promise words.now }
-    ensures { result ≡ not (isUnreachable (terminalAt (table_of words.now) block)) }
+    ensures { result ≡ not (is_unreachable (terminal_at (table_of words.now) block)) }
 {
     let facts = facts_at(words, block);
     facts.code != 1
@@ -34,7 +34,7 @@ pub fn reached(words: &[u32], block: u32) -> bool
 // A case block that is not the Switch's own fallthrough: no Branch, reached, no fallthrough.
 fn proper_test(words: &[u32], block: u32) -> bool
     requires { Promise words.now }
-    ensures { result ≡ properTest (table_of words.now) block }
+    ensures { result ≡ proper_test (table_of words.now) block }
 {
     if !no_branch(words, block) {
         return false;
@@ -48,7 +48,7 @@ fn proper_test(words: &[u32], block: u32) -> bool
 // Beyond the papers, or as M-113 has it: nothing else names a case block.
 fn case_test(words: &[u32], proper: bool, block: u32) -> bool
     requires { Promise words.now }
-    ensures { result ≡ caseTest (table_of words.now) proper block }
+    ensures { result ≡ case_test (table_of words.now) proper block }
 {
     if proper {
         return proper_test(words, block);
@@ -58,8 +58,8 @@ fn case_test(words: &[u32], proper: bool, block: u32) -> bool
 
 fn has_case(words: &[u32], first: u32, number: u32, block: u32) -> bool
     requires promise { Promise words.now }
-    requires number_bound { first + number ≤ caseCount words.now }
-    ensures { result ≡ contains (blocksOf (case_list (table_of words.now) first number)) block }
+    requires number_bound { first + number ≤ case_count words.now }
+    ensures { result ≡ contains (blocks_of (case_list (table_of words.now) first number)) block }
 {
     let mut at = first;
     let mut left = number;
@@ -76,8 +76,8 @@ fn has_case(words: &[u32], first: u32, number: u32, block: u32) -> bool
 
 pub fn different_cases(words: &[u32], first: u32, number: u32) -> bool
     requires promise { Promise words.now }
-    requires number_bound { first + number ≤ caseCount words.now }
-    ensures { result ≡ different (blocksOf (case_list (table_of words.now) first number)) }
+    requires number_bound { first + number ≤ case_count words.now }
+    ensures { result ≡ different (blocks_of (case_list (table_of words.now) first number)) }
 {
     let mut at = first;
     let mut left = number;
@@ -94,8 +94,8 @@ pub fn different_cases(words: &[u32], first: u32, number: u32) -> bool
 
 pub fn every_case(words: &[u32], first: u32, number: u32, proper: bool) -> bool
     requires promise { Promise words.now }
-    requires number_bound { first + number ≤ caseCount words.now }
-    ensures { result ≡ all_of (blocksOf (case_list (table_of words.now) first number)) (caseTest (table_of words.now) proper) }
+    requires number_bound { first + number ≤ case_count words.now }
+    ensures { result ≡ all_of (blocks_of (case_list (table_of words.now) first number)) (case_test (table_of words.now) proper) }
 {
     let mut at = first;
     let mut left = number;
@@ -112,8 +112,8 @@ pub fn every_case(words: &[u32], first: u32, number: u32, proper: bool) -> bool
 
 pub fn last_is_own(words: &[u32], first: u32, number: u32, fallthrough: u32) -> bool
     requires promise { Promise words.now }
-    requires number_bound { first + number ≤ caseCount words.now }
-    ensures { result ≡ lastIsOwn fallthrough (casesLastFirst (table_of words.now) first number) }
+    requires number_bound { first + number ≤ case_count words.now }
+    ensures { result ≡ last_is_own fallthrough (cases_last_first (table_of words.now) first number) }
 {
     if number == 0 {
         return false;
@@ -125,9 +125,9 @@ pub fn last_is_own(words: &[u32], first: u32, number: u32, fallthrough: u32) -> 
 // The number of cases without those at the end that are the Switch's own fallthrough.
 pub fn proper_count(words: &[u32], first: u32, number: u32, fallthrough: u32) -> u32
     requires promise { Promise words.now }
-    requires number_bound { first + number ≤ caseCount words.now }
+    requires number_bound { first + number ≤ case_count words.now }
     ensures upper_bound { result ≤ number }
-    ensures number_value { dropOwn fallthrough (casesLastFirst (table_of words.now) first number) ≡ casesLastFirst (table_of words.now) first result }
+    ensures number_value { drop_own fallthrough (cases_last_first (table_of words.now) first number) ≡ cases_last_first (table_of words.now) first result }
 {
     let mut left = number;
     while left > 0 {

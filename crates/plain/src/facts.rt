@@ -1,9 +1,9 @@
 // What the conditions ask of a terminal, in one form for all. A block that it does not name is 65,535, which no block is.
 ghost use Rattle.std.specs.Prelude.{◌≡◌, ◌≤◌};
-ghost use Rattle.table.specs.Table.{table_of, terminalAt, terminalOf, unlessNone};
-ghost use Rattle.definition.specs.Statement.{continueBlockOf};
+ghost use Rattle.table.specs.Table.{table_of, terminal_at, terminal_of, unless_none};
+ghost use Rattle.definition.specs.Statement.{continue_block_of};
 ghost use Rattle.table.specs.Promise.{Promise};
-ghost use Rattle.plain.specs.Facts.{facts_of, noFacts, fallsTo, jumpsTo, entersOf, loops_of};
+ghost use Rattle.plain.specs.Facts.{facts_of, no_facts, falls_to, jumps_to, enters_of, loops_of};
 
 use table::words::{block_count, block_word};
 
@@ -23,7 +23,7 @@ pub struct Facts {
 }
 
 fn none(code: u32) -> Facts
-    ensures { result ≡ noFacts code }
+    ensures { result ≡ no_facts code }
 {
     Facts {
         code: code,
@@ -40,7 +40,7 @@ fn none(code: u32) -> Facts
 }
 
 fn falls_to(code: u32, fallthrough: u32, other: u32) -> Facts
-    ensures { result ≡ fallsTo code fallthrough other }
+    ensures { result ≡ falls_to code fallthrough other }
 {
     Facts {
         code: code,
@@ -58,7 +58,7 @@ fn falls_to(code: u32, fallthrough: u32, other: u32) -> Facts
 
 // A Goto and a Branch, which have no fallthrough.
 fn jumps_to(code: u32, other1: u32, other2: u32, entered1: u32, entered2: u32) -> Facts
-    ensures { result ≡ jumpsTo code other1 other2 entered1 entered2 }
+    ensures { result ≡ jumps_to code other1 other2 entered1 entered2 }
 {
     Facts {
         code: code,
@@ -83,7 +83,7 @@ fn enters(
     other2: u32,
     other3: u32,
 ) -> Facts
-    ensures { result ≡ entersOf code entered1 entered2 fallthrough other2 other3 }
+    ensures { result ≡ enters_of code entered1 entered2 fallthrough other2 other3 }
 {
     Facts {
         code: code,
@@ -126,7 +126,7 @@ fn loops(
 
 // A For goes on at its update, if any.
 fn for_facts(test: u32, update: u32, body: u32, fallthrough: u32) -> Facts
-    ensures { result ≡ loops_of 10 test body fallthrough (continueBlockOf (unlessNone update) test) 65535 65535 }
+    ensures { result ≡ loops_of 10 test body fallthrough (continue_block_of (unless_none update) test) 65535 65535 }
 {
     if update == 65535 {
         return loops(10, test, body, fallthrough, test, 65535, 65535);
@@ -137,7 +137,7 @@ fn for_facts(test: u32, update: u32, body: u32, fallthrough: u32) -> Facts
 // An arm for each code.
 fn facts_of(code: u32, a: u32, b: u32, c: u32, d: u32, e: u32) -> Facts
     requires { code ≤ 21 }
-    ensures { result ≡ facts_of (terminalOf code a b c d e) }
+    ensures { result ≡ facts_of (terminal_of code a b c d e) }
 {
     match code {
         0 => none(0),
@@ -169,7 +169,7 @@ fn facts_of(code: u32, a: u32, b: u32, c: u32, d: u32, e: u32) -> Facts
 // The facts of a block's terminal. A block beyond the table is absent.
 pub fn facts_at(words: &[u32], block: u32) -> Facts
     requires { Promise words.now }
-    ensures { result ≡ facts_of (terminalAt (table_of words.now) block) }
+    ensures { result ≡ facts_of (terminal_at (table_of words.now) block) }
 {
     if block >= block_count(words) {
         return none(0);

@@ -1,11 +1,11 @@
 // Which of the laws speaks of a table.
 ghost use Rattle.std.specs.Prelude.{◌≡◌, ◌<◌};
-ghost use Rattle.table.specs.Words.{blockCount};
-ghost use Rattle.table.specs.Table.{table_of, terminalAt};
+ghost use Rattle.table.specs.Words.{block_count};
+ghost use Rattle.table.specs.Table.{table_of, terminal_at};
 ghost use Rattle.table.specs.Promise.{Promise};
-ghost use Rattle.definition.specs.Plain.{paper-01, with-switch};
-ghost use Rattle.definition.specs.PlainTest.{everyOf, is_plain, isPlainLoops, plainness};
-ghost use Rattle.plain.specs.Laws.{testBy};
+ghost use Rattle.definition.specs.Plain.{paper_01, with_switch};
+ghost use Rattle.definition.specs.PlainTest.{every_of, is_plain, is_plain_loops, plainness};
+ghost use Rattle.plain.specs.Laws.{test_by};
 
 use crate::cases::{no_branch, reached};
 use crate::loops::loop_block_test;
@@ -21,8 +21,8 @@ pub enum Law {
 
 fn test_by(words: &[u32], law: Law, block: u32) -> bool
     requires promise { Promise words.now }
-    requires block_bound { block < blockCount words.now }
-    ensures { result ≡ testBy (table_of words.now) law block (terminalAt (table_of words.now) block) }
+    requires block_bound { block < block_count words.now }
+    ensures { result ≡ test_by (table_of words.now) law block (terminal_at (table_of words.now) block) }
 {
     match law {
         Law::Paper01 => block_test(words, false, block),
@@ -34,7 +34,7 @@ fn test_by(words: &[u32], law: Law, block: u32) -> bool
 // Whether the conditions of a law hold of every block.
 fn every_block(words: &[u32], law: Law) -> bool
     requires { Promise words.now }
-    ensures { result ≡ everyOf (table_of words.now).blocks (testBy (table_of words.now) law) }
+    ensures { result ≡ every_of (table_of words.now).blocks (test_by (table_of words.now) law) }
 {
     let count = block_count(words);
     let mut block = 0;
@@ -50,7 +50,7 @@ fn every_block(words: &[u32], law: Law) -> bool
 // Paper 01's plain tables.
 fn is_paper_01(words: &[u32]) -> bool
     requires { Promise words.now }
-    ensures { result ≡ is_plain (table_of words.now) paper-01 }
+    ensures { result ≡ is_plain (table_of words.now) paper_01 }
 {
     if !no_branch(words, entry(words)) {
         return false;
@@ -61,7 +61,7 @@ fn is_paper_01(words: &[u32]) -> bool
 // M-113's.
 fn is_with_switch(words: &[u32]) -> bool
     requires { Promise words.now }
-    ensures { result ≡ is_plain (table_of words.now) with-switch }
+    ensures { result ≡ is_plain (table_of words.now) with_switch }
 {
     if !no_branch(words, entry(words)) {
         return false;
@@ -72,7 +72,7 @@ fn is_with_switch(words: &[u32]) -> bool
 // Beyond the papers.
 fn is_plain_loops(words: &[u32]) -> bool
     requires { Promise words.now }
-    ensures { result ≡ isPlainLoops (table_of words.now) with-switch }
+    ensures { result ≡ is_plain_loops (table_of words.now) with_switch }
 {
     let at = entry(words);
     if !no_branch(words, at) {

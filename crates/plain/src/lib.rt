@@ -10,7 +10,7 @@ mod tests;
 ghost use Rattle.std.specs.Prelude.{◌≡◌};
 ghost use Rattle.table.specs.Check.{checked};
 ghost use Rattle.table.specs.Answer.{code_of, place_of};
-ghost use Rattle.plain.specs.Plainness.{plainnessOf};
+ghost use Rattle.plain.specs.Plainness.{plainness_of};
 
 use crate::laws::number_of;
 use table_check::check;
@@ -18,7 +18,7 @@ use table_check::check;
 // For callers in C or Rust: the check's code; its place is left in `at`, the law's number in `number`.
 pub fn table_plain(words: &[u32], at: &mut u32, number: &mut u32) -> u32
     ensures value { (result ≡ code_of (checked words.now)) × (at.new ≡ place_of (checked words.now)) }
-    ensures number_after { number.new ≡ plainnessOf words.now }
+    ensures number_after { number.new ≡ plainness_of words.now }
 {
     let checked = check(words);
     *at = checked.place();

@@ -1,12 +1,12 @@
 // The conditions beyond the papers, block by block: one function for each definition of definition/specs/PlainTest.
 ghost use Rattle.std.specs.Prelude.{◌≡◌, ◌+◌, ◌<◌, ◌≤◌};
-ghost use Rattle.table.specs.Words.{blockCount, caseCount};
-ghost use Rattle.table.specs.Table.{table_of, terminalAt, unlessNone};
+ghost use Rattle.table.specs.Words.{block_count, case_count};
+ghost use Rattle.table.specs.Table.{table_of, terminal_at, unless_none};
 ghost use Rattle.table.specs.Promise.{Promise};
 ghost use Rattle.definition.specs.Completion.{contains};
-ghost use Rattle.definition.specs.Plain.{with-switch, fallthroughOf};
-ghost use Rattle.definition.specs.PlainLoops.{loopCodes, loop_of, enteredBy, properBlocksOf};
-ghost use Rattle.definition.specs.PlainTest.{all_of, allReached, goesOn, updateTest, part_of, part-for, part-switch, partTest, loopTest, endTest, properTest, loopBlockTest};
+ghost use Rattle.definition.specs.Plain.{with_switch, fallthrough_of};
+ghost use Rattle.definition.specs.PlainLoops.{loop_codes, loop_of, entered_by, proper_blocks_of};
+ghost use Rattle.definition.specs.PlainTest.{all_of, all_reached, goes_on, update_test, part_of, part_for, part_switch, part_test, loop_test, end_test, proper_test, loop_block_test};
 
 use crate::asked::{Question, both, either, every, is_branch_to, is_jump, is_loop, is_open};
 use crate::cases::{every_case, last_is_own, no_branch, proper_count, reached};
@@ -17,7 +17,7 @@ use table::columns::code_at;
 use table::terminals::{for_at, goto_at, switch_at};
 
 fn loop_code(code: u32) -> bool
-    ensures { result ≡ contains (loopCodes with-switch) code }
+    ensures { result ≡ contains (loop_codes with_switch) code }
 {
     let paper = paper_code(code);
     let unreachable = either(1 == code, paper);
@@ -29,7 +29,7 @@ fn loop_code(code: u32) -> bool
 // The blocks that a terminal enters are reached.
 fn all_reached(words: &[u32], block: u32) -> bool
     requires { Promise words.now }
-    ensures { result ≡ allReached (table_of words.now) (enteredBy (terminalAt (table_of words.now) block)) }
+    ensures { result ≡ all_reached (table_of words.now) (entered_by (terminal_at (table_of words.now) block)) }
 {
     let facts = facts_at(words, block);
     let second = reached(words, facts.entered2);
@@ -39,7 +39,7 @@ fn all_reached(words: &[u32], block: u32) -> bool
 // A For's init or update.
 fn goes_on(words: &[u32], block: u32, test: u32) -> bool
     requires { Promise words.now }
-    ensures { result ≡ goesOn (table_of words.now) block test }
+    ensures { result ≡ goes_on (table_of words.now) block test }
 {
     let facts = facts_at(words, block);
     let tail = tail_at(words, block);
@@ -48,7 +48,7 @@ fn goes_on(words: &[u32], block: u32, test: u32) -> bool
 
 fn update_test(words: &[u32], test: u32, update: u32) -> bool
     requires { Promise words.now }
-    ensures { result ≡ updateTest (table_of words.now) test (unlessNone update) }
+    ensures { result ≡ update_test (table_of words.now) test (unless_none update) }
 {
     if update == 65535 {
         return true;
@@ -58,7 +58,7 @@ fn update_test(words: &[u32], test: u32, update: u32) -> bool
 
 fn for_part(words: &[u32], init: u32, test: u32, update: u32) -> bool
     requires { Promise words.now }
-    ensures { result ≡ partTest (table_of words.now) 0 (part-for init test (unlessNone update)) }
+    ensures { result ≡ part_test (table_of words.now) 0 (part_for init test (unless_none update)) }
 {
     let tail = tail_at(words, init);
     let rest = both(!tail.own_load, update_test(words, test, update));
@@ -67,8 +67,8 @@ fn for_part(words: &[u32], init: u32, test: u32, update: u32) -> bool
 
 fn switch_part(words: &[u32], first: u32, number: u32, fallthrough: u32) -> bool
     requires promise { Promise words.now }
-    requires number_bound { first + number ≤ caseCount words.now }
-    ensures { result ≡ partTest (table_of words.now) 0 (part-switch first number fallthrough) }
+    requires number_bound { first + number ≤ case_count words.now }
+    ensures { result ≡ part_test (table_of words.now) 0 (part_switch first number fallthrough) }
 {
     let own = last_is_own(words, first, number, fallthrough);
     either(reached(words, fallthrough), !own)
@@ -76,8 +76,8 @@ fn switch_part(words: &[u32], first: u32, number: u32, fallthrough: u32) -> bool
 
 fn part_test(words: &[u32], block: u32) -> bool
     requires promise { Promise words.now }
-    requires block_bound { block < blockCount words.now }
-    ensures { result ≡ partTest (table_of words.now) block (part_of (terminalAt (table_of words.now) block)) }
+    requires block_bound { block < block_count words.now }
+    ensures { result ≡ part_test (table_of words.now) block (part_of (terminal_at (table_of words.now) block)) }
 {
     match code_at(words, block) {
         4 => {
@@ -103,7 +103,7 @@ fn part_test(words: &[u32], block: u32) -> bool
 // A loop's test goes to its loop block and its fallthrough, which are no Branch blocks.
 fn loop_test(words: &[u32], block: u32) -> bool
     requires { Promise words.now }
-    ensures { result ≡ loopTest (table_of words.now) (loop_of (terminalAt (table_of words.now) block)) }
+    ensures { result ≡ loop_test (table_of words.now) (loop_of (terminal_at (table_of words.now) block)) }
 {
     let facts = facts_at(words, block);
     if !is_loop(facts) {
@@ -120,7 +120,7 @@ fn loop_test(words: &[u32], block: u32) -> bool
 // A fallthrough is no other block's, is no loop block and continues no loop, and is reached unless its terminal asks.
 fn end_test(words: &[u32], block: u32) -> bool
     requires { Promise words.now }
-    ensures { result ≡ endTest (table_of words.now) block (terminalAt (table_of words.now) block) (fallthroughOf (terminalAt (table_of words.now) block)) }
+    ensures { result ≡ end_test (table_of words.now) block (terminal_at (table_of words.now) block) (fallthrough_of (terminal_at (table_of words.now) block)) }
 {
     let facts = facts_at(words, block);
     if !facts.falls {
@@ -137,8 +137,8 @@ fn end_test(words: &[u32], block: u32) -> bool
 
 fn propers_test(words: &[u32], block: u32) -> bool
     requires promise { Promise words.now }
-    requires block_bound { block < blockCount words.now }
-    ensures { result ≡ all_of (properBlocksOf (table_of words.now) (terminalAt (table_of words.now) block)) (properTest (table_of words.now)) }
+    requires block_bound { block < block_count words.now }
+    ensures { result ≡ all_of (proper_blocks_of (table_of words.now) (terminal_at (table_of words.now) block)) (proper_test (table_of words.now)) }
 {
     if code_at(words, block) != 7 {
         return true;
@@ -150,8 +150,8 @@ fn propers_test(words: &[u32], block: u32) -> bool
 
 pub fn loop_block_test(words: &[u32], block: u32) -> bool
     requires promise { Promise words.now }
-    requires block_bound { block < blockCount words.now }
-    ensures { result ≡ loopBlockTest (table_of words.now) with-switch block (terminalAt (table_of words.now) block) }
+    requires block_bound { block < block_count words.now }
+    ensures { result ≡ loop_block_test (table_of words.now) with_switch block (terminal_at (table_of words.now) block) }
 {
     let code = code_at(words, block);
     if !loop_code(code) {

@@ -1,9 +1,9 @@
 // What the conditions ask of a block's last instruction.
 ghost use Rattle.std.specs.Prelude.{◌≡◌, ◌<◌};
-ghost use Rattle.table.specs.Words.{instructionCount};
-ghost use Rattle.table.specs.Table.{table_of, instructionAt, instructionRowsAt};
+ghost use Rattle.table.specs.Words.{instruction_count};
+ghost use Rattle.table.specs.Table.{table_of, instruction_at, instruction_rows_at};
 ghost use Rattle.table.specs.Promise.{Promise};
-ghost use Rattle.plain.specs.Tails.{noTail, aLoad, aStore, tailOf, tail_at};
+ghost use Rattle.plain.specs.Tails.{no_tail, a_load, a_store, tail_of, tail_at};
 
 use table::columns::{block_at, instruction_at, load_local_at, operation_code_at, store_local_at};
 use table::words::{block_count, identifier_word, place_word};
@@ -17,7 +17,7 @@ pub struct Tail {
 }
 
 fn none() -> Tail
-    ensures { result ≡ noTail }
+    ensures { result ≡ no_tail }
 {
     Tail {
         store: false,
@@ -27,7 +27,7 @@ fn none() -> Tail
 }
 
 fn a_load(own: bool) -> Tail
-    ensures { result ≡ aLoad own }
+    ensures { result ≡ a_load own }
 {
     Tail {
         store: false,
@@ -37,7 +37,7 @@ fn a_load(own: bool) -> Tail
 }
 
 fn a_store(unnamed: bool) -> Tail
-    ensures { result ≡ aStore unnamed }
+    ensures { result ≡ a_store unnamed }
 {
     Tail {
         store: true,
@@ -48,8 +48,8 @@ fn a_store(unnamed: bool) -> Tail
 
 fn tail_of(words: &[u32], row: u32) -> Tail
     requires promise { Promise words.now }
-    requires row_bound { row < instructionCount words.now }
-    ensures { result ≡ tailOf (table_of words.now) (instructionAt (table_of words.now) row) }
+    requires row_bound { row < instruction_count words.now }
+    ensures { result ≡ tail_of (table_of words.now) (instruction_at (table_of words.now) row) }
 {
     match operation_code_at(words, row) {
         0 => none(),
@@ -70,7 +70,7 @@ fn tail_of(words: &[u32], row: u32) -> Tail
 
 pub fn tail_at(words: &[u32], block: u32) -> Tail
     requires { Promise words.now }
-    ensures { result ≡ tail_at (table_of words.now) (instructionRowsAt (table_of words.now) block) }
+    ensures { result ≡ tail_at (table_of words.now) (instruction_rows_at (table_of words.now) block) }
 {
     if block >= block_count(words) {
         return none();

@@ -1,12 +1,12 @@
 // Paper 01's conditions and M-113's, block by block: one function for each definition of definition/specs/PlainTest.
 ghost use Rattle.std.specs.Prelude.{◌≡◌, ◌<◌};
-ghost use Rattle.table.specs.Words.{blockCount};
-ghost use Rattle.table.specs.Table.{table_of, terminalAt};
+ghost use Rattle.table.specs.Words.{block_count};
+ghost use Rattle.table.specs.Table.{table_of, terminal_at};
 ghost use Rattle.table.specs.Promise.{Promise};
 ghost use Rattle.definition.specs.Completion.{contains};
-ghost use Rattle.definition.specs.Plain.{paperCodes, plainCodes, otherNames, fallthroughOf, caseBlocksOf};
-ghost use Rattle.definition.specs.PlainTest.{isBranchTo, noBranches, shape_of, shapeTest, fallthroughTest, casesTest, blockTest};
-ghost use Rattle.plain.specs.Laws.{width_of, branchTest};
+ghost use Rattle.definition.specs.Plain.{paper_codes, plain_codes, other_names, fallthrough_of, case_blocks_of};
+ghost use Rattle.definition.specs.PlainTest.{is_branch_to, no_branches, shape_of, shape_test, fallthrough_test, cases_test, block_test};
+ghost use Rattle.plain.specs.Laws.{width_of, branch_test};
 
 use crate::asked::{Question, both, either, every, is_branch_to};
 use crate::cases::{different_cases, every_case, no_branch};
@@ -17,7 +17,7 @@ use table::terminals::{branch_at, goto_at, switch_at, while_at};
 
 // The terminals of paper 01's list.
 pub fn paper_code(code: u32) -> bool
-    ensures { result ≡ contains paperCodes code }
+    ensures { result ≡ contains paper_codes code }
 {
     let absent = either(0 == code, false);
     let branch = either(6 == code, absent);
@@ -33,7 +33,7 @@ pub fn paper_code(code: u32) -> bool
 
 // With Switch, or without.
 fn plain_code(switches: bool, code: u32) -> bool
-    ensures { result ≡ contains (plainCodes (width_of switches)) code }
+    ensures { result ≡ contains (plain_codes (width_of switches)) code }
 {
     let paper = paper_code(code);
     if switches {
@@ -45,7 +45,7 @@ fn plain_code(switches: bool, code: u32) -> bool
 // No Branch among the blocks that a terminal names.
 pub fn no_branches(words: &[u32], block: u32) -> bool
     requires { Promise words.now }
-    ensures { result ≡ noBranches (table_of words.now) (otherNames (terminalAt (table_of words.now) block)) }
+    ensures { result ≡ no_branches (table_of words.now) (other_names (terminal_at (table_of words.now) block)) }
 {
     let facts = facts_at(words, block);
     let third = no_branch(words, facts.other3);
@@ -56,7 +56,7 @@ pub fn no_branches(words: &[u32], block: u32) -> bool
 // A Branch is some While's test, and does not end in a store.
 fn branch_test(words: &[u32], block: u32, consequent: u32, alternate: u32) -> bool
     requires { Promise words.now }
-    ensures { result ≡ branchTest (table_of words.now) block consequent alternate }
+    ensures { result ≡ branch_test (table_of words.now) block consequent alternate }
 {
     let none = every(words, Question::NotTest(block, consequent, alternate));
     let tail = tail_at(words, block);
@@ -66,7 +66,7 @@ fn branch_test(words: &[u32], block: u32, consequent: u32, alternate: u32) -> bo
 // A While's test goes to its loop and its fallthrough.
 fn while_test(words: &[u32], test: u32, body: u32, fallthrough: u32) -> bool
     requires { Promise words.now }
-    ensures { result ≡ isBranchTo body fallthrough (shape_of (terminalAt (table_of words.now) test)) }
+    ensures { result ≡ is_branch_to body fallthrough (shape_of (terminal_at (table_of words.now) test)) }
 {
     let facts = facts_at(words, test);
     is_branch_to(body, fallthrough, facts)
@@ -74,8 +74,8 @@ fn while_test(words: &[u32], test: u32, body: u32, fallthrough: u32) -> bool
 
 fn shape_test(words: &[u32], block: u32) -> bool
     requires promise { Promise words.now }
-    requires block_bound { block < blockCount words.now }
-    ensures { result ≡ shapeTest (table_of words.now) block (shape_of (terminalAt (table_of words.now) block)) }
+    requires block_bound { block < block_count words.now }
+    ensures { result ≡ shape_test (table_of words.now) block (shape_of (terminal_at (table_of words.now) block)) }
 {
     match code_at(words, block) {
         4 => {
@@ -97,7 +97,7 @@ fn shape_test(words: &[u32], block: u32) -> bool
 // A fallthrough is no other block's, and no loop's.
 fn fallthrough_test(words: &[u32], block: u32) -> bool
     requires { Promise words.now }
-    ensures { result ≡ fallthroughTest (table_of words.now) block (fallthroughOf (terminalAt (table_of words.now) block)) }
+    ensures { result ≡ fallthrough_test (table_of words.now) block (fallthrough_of (terminal_at (table_of words.now) block)) }
 {
     let facts = facts_at(words, block);
     if !facts.falls {
@@ -112,8 +112,8 @@ fn fallthrough_test(words: &[u32], block: u32) -> bool
 // A Switch's case blocks differ, and nothing else names them.
 fn cases_test(words: &[u32], block: u32) -> bool
     requires promise { Promise words.now }
-    requires block_bound { block < blockCount words.now }
-    ensures { result ≡ casesTest (table_of words.now) (caseBlocksOf (table_of words.now) (terminalAt (table_of words.now) block)) }
+    requires block_bound { block < block_count words.now }
+    ensures { result ≡ cases_test (table_of words.now) (case_blocks_of (table_of words.now) (terminal_at (table_of words.now) block)) }
 {
     if code_at(words, block) != 7 {
         return true;
@@ -127,8 +127,8 @@ fn cases_test(words: &[u32], block: u32) -> bool
 
 pub fn block_test(words: &[u32], switches: bool, block: u32) -> bool
     requires promise { Promise words.now }
-    requires block_bound { block < blockCount words.now }
-    ensures { result ≡ blockTest (table_of words.now) (width_of switches) block (terminalAt (table_of words.now) block) }
+    requires block_bound { block < block_count words.now }
+    ensures { result ≡ block_test (table_of words.now) (width_of switches) block (terminal_at (table_of words.now) block) }
 {
     let code = code_at(words, block);
     if !plain_code(switches, code) {

@@ -8,20 +8,20 @@ use Rattle.text.specs.Line.{line}
 use Rattle.text.specs.Printed.{written_of, lent_of}
 use Rattle.text.specs.Prints.{WrittenText}
 use Rattle.text.specs.declared.write.Written.{Written}
-use Rattle.text.proofs.WriteLaws.{line-most, text-fits}
+use Rattle.text.proofs.WriteLaws.{line_most, text_fits}
 use Rattle.definition.specs.Preview.{Preview}
-use Rattle.preview.specs.Prints.{sizeNames, sizeText}
+use Rattle.preview.specs.Prints.{size_names, size_text}
 
 -- every number has 32 bits
 abbrev pub Narrow : Preview → Type 0
 Narrow p = (p.code < 2 ^ 32) × (p.at < 2 ^ 32) × (p.rows < 2 ^ 32) × (p.visits < 2 ^ 32) × (p.lines < 2 ^ 32)
 
-pub size-written : (p : Preview) {room : ℕ} {r : Written} {lent : List ℕ} → Narrow p → r ≡ written_of room (sizeText p) → lent ≡ lent_of room (sizeText p) → WrittenText 81 (sizeText p) room r lent
-unfolding sizeText
-size-written p {room} n answer bytes = record {
+pub size_written : (p : Preview) {room : ℕ} {r : Written} {lent : List ℕ} → Narrow p → r ≡ written_of room (size_text p) → lent ≡ lent_of room (size_text p) → WrittenText 81 (size_text p) room r lent
+unfolding size_text
+size_written p {room} n answer bytes = record {
   answer = answer;
   bytes = bytes;
-  enough = λ long. answer ∙ text-fits room (sizeNames ++ numbers) (simp length-append (omega (arith, line-most columns (n.0, (n.1, (n.2, (n.3, (n.4, tt))))), long)));
+  enough = λ long. answer ∙ text_fits room (size_names ++ numbers) (simp length-append (omega (arith, line_most columns (n.0, (n.1, (n.2, (n.3, (n.4, tt))))), long)));
 }
   where
     columns : List ℕ

@@ -4,7 +4,7 @@ ghost use Rattle.text.specs.Prints.{printing, WrittenText};
 ghost use Rattle.text.specs.declared.write.Written.TheVariants.{Bytes};
 ghost use Rattle.definition.specs.Around.{rust};
 ghost use Rattle.definition.specs.Preview.{previewed};
-ghost use Rattle.preview.specs.Prints.{sizeText, sizedText};
+ghost use Rattle.preview.specs.Prints.{size_text, sized_text};
 
 use crate::preview;
 use text::lent::lent_words;
@@ -13,7 +13,7 @@ use text::write::{Written, finish_text, write_line, write_names};
 
 // Two lines: 81 bytes are always enough.
 fn write_size(out: &mut [u8], code: u32, at: u32, rows: u32, visits: u32, lines: u32) -> Written
-    ensures { WrittenText 81 (sizeText (record { code = code; at = at; rows = rows; visits = visits; lines = lines })) (length out.old) result out.new }
+    ensures { WrittenText 81 (size_text (record { code = code; at = at; rows = rows; visits = visits; lines = lines })) (length out.old) result out.new }
 {
     let names = write_names(out, 0, b"code at rows visits lines\n");
     let numbers = [code, at, rows, visits, lines];
@@ -23,7 +23,7 @@ fn write_size(out: &mut [u8], code: u32, at: u32, rows: u32, visits: u32, lines:
 
 // What a build of the table gives where both buffers are large enough.
 fn size_words(words: &[u32], out: &mut [u8]) -> Written
-    ensures { WrittenText 81 (sizeText (previewed rust words.now)) (length out.old) result out.new }
+    ensures { WrittenText 81 (size_text (previewed rust words.now)) (length out.old) result out.new }
 {
     let told = preview(words);
     write_size(out, told.code, told.at, told.rows, told.visits, told.lines)
@@ -31,8 +31,8 @@ fn size_words(words: &[u32], out: &mut [u8]) -> Written
 
 // Reads a file and writes what its table's build gives; or writes why the file is refused. 81 bytes are enough.
 pub fn size_file(file: &[u8], out: &mut [u8]) -> Written
-    ensures out_after { record { answer = result; bytes = out.new } ≡ printing (length out.old) (sizedText file.now) }
-    ensures value { 81 ≤ length out.old → result ≡ Bytes (length (sizedText file.now)) }
+    ensures out_after { record { answer = result; bytes = out.new } ≡ printing (length out.old) (sized_text file.now) }
+    ensures value { 81 ≤ length out.old → result ≡ Bytes (length (sized_text file.now)) }
 {
     let mut words = lent_words();
     let answer = read(file, &mut words);

@@ -5,8 +5,8 @@ pub mod file;
 ghost use Rattle.std.specs.Prelude.{◌≡◌, List, ℕ};
 ghost use Rattle.definition.specs.Around.{rust, language};
 ghost use Rattle.definition.specs.Build.{Report};
-ghost use Rattle.definition.specs.Preview.{previewOf, previewed};
-ghost use Rattle.control.specs.AroundAbstraction.{ruleOf};
+ghost use Rattle.definition.specs.Preview.{preview_of, previewed};
+ghost use Rattle.control.specs.AroundAbstraction.{rule_of};
 ghost use Rattle.walk.specs.Driver.{Reported};
 ghost use Rattle.preview.specs.Entry.{numbers};
 
@@ -16,7 +16,7 @@ use walk::{Outcome, walk};
 
 // A refusal tells no row and no line.
 fn told(walked: Outcome) -> Outcome
-    ensures { (report : Report) (tree index : List ℕ) → Reported report walked tree index → numbers result ≡ previewOf report }
+    ensures { (report : Report) (tree index : List ℕ) → Reported report walked tree index → numbers result ≡ preview_of report }
 {
     if walked.code != 0 {
         return Outcome {
@@ -37,7 +37,7 @@ fn told(walked: Outcome) -> Outcome
 }
 
 fn preview_by(rule: Rule, words: &[u32]) -> Outcome
-    ensures { numbers result ≡ previewed (ruleOf rule) words.now }
+    ensures { numbers result ≡ previewed (rule_of rule) words.now }
 {
     let checked = check(words);
     if checked.is_accepted() {

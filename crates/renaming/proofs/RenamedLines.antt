@@ -7,110 +7,110 @@ use mathlib.Core.Option.{Option, none, some}
 use mathlib.Core.Bool.{true, false}
 use lib.ListN.{length, length-map}
 use Rattle.definition.specs.Tree.{Statement, INSTR, IF, SWITCH, DOWHILE, WHILE, FOR, FOROF, FORIN, LABEL, TRY, SCOPE, RETURN, THROW, BREAK, CONTINUE}
-use Rattle.definition.specs.Tree.{Statements, done, ◌▸◌, Cases, no_cases, CASE, Row, valueRows, updateRows, statementRows, blockRows}
-use Rattle.definition.specs.Index.{label_of, rowsIn, Labelled, labelledBy, in_parts, inList, inCases, labelled, Line, line_of, lines, lineWords}
-use Rattle.renaming.specs.Renaming.{renamedRow, renamedIndex}
+use Rattle.definition.specs.Tree.{Statements, done, ◌▸◌, Cases, no_cases, CASE, Row, value_rows, update_rows, statement_rows, block_rows}
+use Rattle.definition.specs.Index.{label_of, rows_in, Labelled, labelled_by, in_parts, in_list, in_cases, labelled, Line, line_of, lines, line_words}
+use Rattle.renaming.specs.Renaming.{renamed_row, renamed_index}
 use Rattle.renaming.proofs.Alike.{Moves}
-use Rattle.renaming.proofs.Trees.{renamedStatement, renamedStatements, renamedCases, statement-rows, block-rows}
+use Rattle.renaming.proofs.Trees.{renamed_statement, renamed_statements, renamed_cases, statement_rows_lem, block_rows_lem}
 
 module _ (new : ℕ → ℕ) where
-  abbrev pub renamedLine : Line → Line
-  renamedLine line = record { label = new line.label; first = line.first; closing = line.closing }
+  abbrev pub renamed_line : Line → Line
+  renamed_line line = record { label = new line.label; first = line.first; closing = line.closing }
 
   -- ---- the words of lines
 
-  pub lines-renamed : (list : List Line) (after : List ℕ) → renamedIndex new (length list) (lineWords list ++ after) ≡ lineWords (map renamedLine list) ++ after
-  unfolding renamedIndex lineWords
-  lines-renamed [] after = refl
-  lines-renamed (line ∷ list) after = ap (λ (words : List ℕ). new line.label ∷ line.first ∷ line.closing ∷ words) (lines-renamed list after)
+  pub lines_renamed : (list : List Line) (after : List ℕ) → renamed_index new (length list) (line_words list ++ after) ≡ line_words (map renamed_line list) ++ after
+  unfolding renamed_index line_words
+  lines_renamed [] after = refl
+  lines_renamed (line ∷ list) after = ap (λ (words : List ℕ). new line.label ∷ line.first ∷ line.closing ∷ words) (lines_renamed list after)
 
   -- ---- the labelled statements of a renamed tree
 
-  abbrev renamedLabelled : Labelled → Labelled
-  renamedLabelled entry = record { label = new entry.label; first = entry.first; statement = renamedStatement new entry.statement }
+  abbrev renamed_labelled : Labelled → Labelled
+  renamed_labelled entry = record { label = new entry.label; first = entry.first; statement = renamed_statement new entry.statement }
 
   abbrev Renamed : (list renamed : List Labelled) → Type 0
-  Renamed list renamed = renamed ≡ map renamedLabelled list
+  Renamed list renamed = renamed ≡ map renamed_labelled list
 
-  renamed-append : (ls ms : List Labelled) {ls' ms' : List Labelled} → Renamed ls ls' → Renamed ms ms' → Renamed (ls ++ ms) (ls' ++ ms')
-  renamed-append ls ms p q = rw (p, q) (sym (map-append renamedLabelled ls ms))
+  renamed_append : (ls ms : List Labelled) {ls' ms' : List Labelled} → Renamed ls ls' → Renamed ms ms' → Renamed (ls ++ ms) (ls' ++ ms')
+  renamed_append ls ms p q = rw (p, q) (sym (map-append renamed_labelled ls ms))
 
-  own-renamed : (first : ℕ) (s : Statement) (label : Option ℕ) → Renamed (labelledBy label first s) (labelledBy (Option.map new label) first (renamedStatement new s))
-  own-renamed first s none = refl
-  own-renamed first s (some label) = refl
+  own_renamed : (first : ℕ) (s : Statement) (label : Option ℕ) → Renamed (labelled_by label first s) (labelled_by (Option.map new label) first (renamed_statement new s))
+  own_renamed first s none = refl
+  own_renamed first s (some label) = refl
 
-  label-renamed : (s : Statement) → label_of (renamedStatement new s) ≡ Option.map new (label_of s)
-  label-renamed (INSTR i l s v) = refl
-  label-renamed (IF x i g c p a) = refl
-  label-renamed (SWITCH x i g cs) = refl
-  label-renamed (DOWHILE i g b v) = refl
-  label-renamed (WHILE i g v b) = refl
-  label-renamed (FOR i g a v u b) = refl
-  label-renamed (FOROF i g s a v b) = refl
-  label-renamed (FORIN i g s a b) = refl
-  label-renamed (LABEL i g b) = refl
-  label-renamed (TRY i g m b h) = refl
-  label-renamed (SCOPE p s b) = refl
-  label-renamed (RETURN v i) = refl
-  label-renamed (THROW v i) = refl
-  label-renamed (BREAK g i k m) = refl
-  label-renamed (CONTINUE g i k m) = refl
+  label_renamed : (s : Statement) → label_of (renamed_statement new s) ≡ Option.map new (label_of s)
+  label_renamed (INSTR i l s v) = refl
+  label_renamed (IF x i g c p a) = refl
+  label_renamed (SWITCH x i g cs) = refl
+  label_renamed (DOWHILE i g b v) = refl
+  label_renamed (WHILE i g v b) = refl
+  label_renamed (FOR i g a v u b) = refl
+  label_renamed (FOROF i g s a v b) = refl
+  label_renamed (FORIN i g s a b) = refl
+  label_renamed (LABEL i g b) = refl
+  label_renamed (TRY i g m b h) = refl
+  label_renamed (SCOPE p s b) = refl
+  label_renamed (RETURN v i) = refl
+  label_renamed (THROW v i) = refl
+  label_renamed (BREAK g i k m) = refl
+  label_renamed (CONTINUE g i k m) = refl
 
   module _ (m : Moves new) where
     -- as many rows
-    statement-size : (s : Statement) → rowsIn (statementRows (renamedStatement new s)) ≡ rowsIn (statementRows s)
-    statement-size s = ap length (statement-rows new m s []) ∙ length-map (statementRows s []) (renamedRow new)
+    statement_size : (s : Statement) → rows_in (statement_rows (renamed_statement new s)) ≡ rows_in (statement_rows s)
+    statement_size s = ap length (statement_rows_lem new m s []) ∙ length-map (statement_rows s []) (renamed_row new)
 
-    block_size : (b : Statements) → rowsIn (blockRows (renamedStatements new b)) ≡ rowsIn (blockRows b)
-    block_size b = ap length (block-rows new m b []) ∙ length-map (blockRows b []) (renamedRow new)
+    block_size : (b : Statements) → rows_in (block_rows (renamed_statements new b)) ≡ rows_in (block_rows b)
+    block_size b = ap length (block_rows_lem new m b []) ∙ length-map (block_rows b []) (renamed_row new)
 
     mutual
-      unfolding inList
+      unfolding in_list
 
-      parts-renamed : (n : ℕ) (s : Statement) → Renamed (in_parts n s) (in_parts n (renamedStatement new s))
-      parts-renamed n (INSTR i l s v) = refl
-      parts-renamed n (IF x i g c true a) =
-          renamed-append (inList n c) (inList (n + rowsIn (blockRows c)) a) (list-renamed n c)
-          (ap (λ (z : ℕ). inList (n + z) (renamedStatements new a)) (block_size c) ∙ list-renamed (n + rowsIn (blockRows c)) a)
-      parts-renamed n (IF x i g c false a) = list-renamed n c
-      parts-renamed n (SWITCH x i g cs) = cases-renamed n cs
-      parts-renamed n (DOWHILE i g b v) = list-renamed n b
-      parts-renamed n (WHILE i g v b) = list-renamed (n + rowsIn (valueRows v)) b
-      parts-renamed n (FOR i g a v u b) = list-renamed (n + (rowsIn (valueRows a) + (rowsIn (valueRows v) + rowsIn (updateRows u)))) b
-      parts-renamed n (FOROF i g s a v b) = list-renamed (n + (rowsIn (valueRows a) + rowsIn (valueRows v))) b
-      parts-renamed n (FORIN i g s a b) = list-renamed (n + rowsIn (valueRows a)) b
-      parts-renamed n (LABEL i g b) = list-renamed n b
-      parts-renamed n (TRY i g k b h) =
-          renamed-append (inList n b) (inList (n + rowsIn (blockRows b)) h) (list-renamed n b)
-          (ap (λ (z : ℕ). inList (n + z) (renamedStatements new h)) (block_size b) ∙ list-renamed (n + rowsIn (blockRows b)) h)
-      parts-renamed n (SCOPE p s b) = list-renamed n b
-      parts-renamed n (RETURN v i) = refl
-      parts-renamed n (THROW v i) = refl
-      parts-renamed n (BREAK g i k l) = refl
-      parts-renamed n (CONTINUE g i k l) = refl
+      parts_renamed : (n : ℕ) (s : Statement) → Renamed (in_parts n s) (in_parts n (renamed_statement new s))
+      parts_renamed n (INSTR i l s v) = refl
+      parts_renamed n (IF x i g c true a) =
+          renamed_append (in_list n c) (in_list (n + rows_in (block_rows c)) a) (list_renamed n c)
+          (ap (λ (z : ℕ). in_list (n + z) (renamed_statements new a)) (block_size c) ∙ list_renamed (n + rows_in (block_rows c)) a)
+      parts_renamed n (IF x i g c false a) = list_renamed n c
+      parts_renamed n (SWITCH x i g cs) = cases_renamed n cs
+      parts_renamed n (DOWHILE i g b v) = list_renamed n b
+      parts_renamed n (WHILE i g v b) = list_renamed (n + rows_in (value_rows v)) b
+      parts_renamed n (FOR i g a v u b) = list_renamed (n + (rows_in (value_rows a) + (rows_in (value_rows v) + rows_in (update_rows u)))) b
+      parts_renamed n (FOROF i g s a v b) = list_renamed (n + (rows_in (value_rows a) + rows_in (value_rows v))) b
+      parts_renamed n (FORIN i g s a b) = list_renamed (n + rows_in (value_rows a)) b
+      parts_renamed n (LABEL i g b) = list_renamed n b
+      parts_renamed n (TRY i g k b h) =
+          renamed_append (in_list n b) (in_list (n + rows_in (block_rows b)) h) (list_renamed n b)
+          (ap (λ (z : ℕ). in_list (n + z) (renamed_statements new h)) (block_size b) ∙ list_renamed (n + rows_in (block_rows b)) h)
+      parts_renamed n (SCOPE p s b) = list_renamed n b
+      parts_renamed n (RETURN v i) = refl
+      parts_renamed n (THROW v i) = refl
+      parts_renamed n (BREAK g i k l) = refl
+      parts_renamed n (CONTINUE g i k l) = refl
 
-      list-renamed : (n : ℕ) (s : Statements) → Renamed (inList n s) (inList n (renamedStatements new s))
-      list-renamed n done = refl
-      list-renamed n (s ▸ rest) =
-          renamed-append (in_parts n s ++ labelledBy (label_of s) n s) (inList (n + rowsIn (statementRows s)) rest)
-          (renamed-append (in_parts n s) (labelledBy (label_of s) n s) (parts-renamed n s)
-          (ap (λ (g : Option ℕ). labelledBy g n (renamedStatement new s)) (label-renamed s) ∙ own-renamed n s (label_of s)))
-          (ap (λ (z : ℕ). inList (n + z) (renamedStatements new rest)) (statement-size s) ∙ list-renamed (n + rowsIn (statementRows s)) rest)
+      list_renamed : (n : ℕ) (s : Statements) → Renamed (in_list n s) (in_list n (renamed_statements new s))
+      list_renamed n done = refl
+      list_renamed n (s ▸ rest) =
+          renamed_append (in_parts n s ++ labelled_by (label_of s) n s) (in_list (n + rows_in (statement_rows s)) rest)
+          (renamed_append (in_parts n s) (labelled_by (label_of s) n s) (parts_renamed n s)
+          (ap (λ (g : Option ℕ). labelled_by g n (renamed_statement new s)) (label_renamed s) ∙ own_renamed n s (label_of s)))
+          (ap (λ (z : ℕ). in_list (n + z) (renamed_statements new rest)) (statement_size s) ∙ list_renamed (n + rows_in (statement_rows s)) rest)
 
-      cases-renamed : (n : ℕ) (k : Cases) → Renamed (inCases n k) (inCases n (renamedCases new k))
-      cases-renamed n no_cases = refl
-      cases-renamed n (CASE x b rest) =
-          renamed-append (inList n b) (inCases (n + (rowsIn (blockRows b) + 1)) rest) (list-renamed n b)
-          (ap (λ (z : ℕ). inCases (n + (z + 1)) (renamedCases new rest)) (block_size b) ∙ cases-renamed (n + (rowsIn (blockRows b) + 1)) rest)
+      cases_renamed : (n : ℕ) (k : Cases) → Renamed (in_cases n k) (in_cases n (renamed_cases new k))
+      cases_renamed n no_cases = refl
+      cases_renamed n (CASE x b rest) =
+          renamed_append (in_list n b) (in_cases (n + (rows_in (block_rows b) + 1)) rest) (list_renamed n b)
+          (ap (λ (z : ℕ). in_cases (n + (z + 1)) (renamed_cases new rest)) (block_size b) ∙ cases_renamed (n + (rows_in (block_rows b) + 1)) rest)
 
-    line-renamed : (entry : Labelled) → line_of (renamedLabelled entry) ≡ renamedLine (line_of entry)
-    line-renamed entry =
-        ap (λ (z : ℕ). record { label = new entry.label; first = entry.first; closing = (entry.first + z) - 1 }) (statement-size entry.statement)
+    line_renamed : (entry : Labelled) → line_of (renamed_labelled entry) ≡ renamed_line (line_of entry)
+    line_renamed entry =
+        ap (λ (z : ℕ). record { label = new entry.label; first = entry.first; closing = (entry.first + z) - 1 }) (statement_size entry.statement)
 
-    all_renamed : (list : List Labelled) → map line_of (map renamedLabelled list) ≡ map renamedLine (map line_of list)
+    all_renamed : (list : List Labelled) → map line_of (map renamed_labelled list) ≡ map renamed_line (map line_of list)
     all_renamed [] = refl
-    all_renamed (entry ∷ list) = rw (line-renamed entry, all_renamed list) refl
+    all_renamed (entry ∷ list) = rw (line_renamed entry, all_renamed list) refl
 
-    pub tree-lines : (root : Statements) → lines (renamedStatements new root) ≡ map renamedLine (lines root)
+    pub tree_lines : (root : Statements) → lines (renamed_statements new root) ≡ map renamed_line (lines root)
     unfolding lines
-    tree-lines root = ap (map line_of) (list-renamed 0 root) ∙ all_renamed (labelled root)
+    tree_lines root = ap (map line_of) (list_renamed 0 root) ∙ all_renamed (labelled root)

@@ -3,12 +3,12 @@ use mathlib.Core.Path.{◌≡◌, refl}
 use Prim.Native.Nat.{ℕ}
 use mathlib.Core.List.{List, [], ◌∷◌, ◌++◌, map}
 use mathlib.Core.Option.{none, some}
-use Rattle.table.specs.Table.{Table, Block, Case, Terminal, absent, return, goto, if, switch, for, Break, no_block, table_of, tabulate, block_of, case_of, instructionOf, terminalOf, unlessNone, variant_of}
-use Rattle.table.specs.Words.{word, entryWord, blockCount, instructionCount, caseCount, placeCount, identifierCount, blocksBegin, instructionsBegin, casesBegin}
-use Rattle.table.specs.Words.{placesBegin, identifiersBegin, wordsNeeded, blockWord, instructionWord, caseWord, placeWord, identifierWord}
+use Rattle.table.specs.Table.{Table, Block, Case, Terminal, absent, return, goto, if, switch, for, Break, no_block, table_of, tabulate, block_of, case_of, instruction_of, terminal_of, unless_none, variant_of}
+use Rattle.table.specs.Words.{word, entry_word, block_count, instruction_count, case_count, place_count, identifier_count, blocks_begin, instructions_begin, cases_begin}
+use Rattle.table.specs.Words.{places_begin, identifiers_begin, words_needed, block_word, instruction_word, case_word, place_word, identifier_word}
 use Rattle.table.specs.Lines.{named_by}
-use Rattle.renaming.specs.Renaming.{renamed, rows_of, renamedBlockRow, instructionRow, renamedCaseRow, namesBlock}
-use Rattle.renaming.specs.Order.{walkingOrder, walkFrom, rearranged, newNumber, oldNumber, restoredBy}
+use Rattle.renaming.specs.Renaming.{renamed, rows_of, renamed_block_row, instruction_row, renamed_case_row, names_block}
+use Rattle.renaming.specs.Order.{walking_order, walk_from, rearranged, new_number, old_number, restored_by}
 
 -- ---- orders
 
@@ -40,9 +40,9 @@ samples =
     ∷ record { table = table 0 (if 0 1 2 4 ∷ goto 3 Break ∷ goto 4 Break ∷ return 0 ∷ return 0 ∷ []) []; order = 0 ∷ 1 ∷ 2 ∷ 4 ∷ 3 ∷ [] }
     ∷ []
 
-pub the-orders : map (λ sample. walkingOrder sample.table) samples ≡ map (λ sample. sample.order) samples
-unfolding walkingOrder walkFrom named_by
-the-orders = refl
+pub the_orders : map (λ sample. walking_order sample.table) samples ≡ map (λ sample. sample.order) samples
+unfolding walking_order walk_from named_by
+the_orders = refl
 
 -- ---- words
 
@@ -50,9 +50,9 @@ the-orders = refl
 abbrev ends : (code a b c d e id : ℕ) → List ℕ
 ends code a b c d e id = 0 ∷ 0 ∷ code ∷ a ∷ b ∷ c ∷ d ∷ e ∷ id ∷ 0 ∷ 0 ∷ []
 
-abbrev words : (entry : ℕ) → (row₀ row₁ row₂ row₃ row₄ : List ℕ) → (caseBlock : ℕ) → List ℕ
-words entry row₀ row₁ row₂ row₃ row₄ caseBlock =
-    entry ∷ 5 ∷ 1 ∷ 1 ∷ 1 ∷ 1 ∷ (row₀ ++ (row₁ ++ (row₂ ++ (row₃ ++ (row₄ ++ (7 ∷ 0 ∷ 2 ∷ 0 ∷ 0 ∷ 5 ∷ 9 ∷ 65535 ∷ caseBlock ∷ 0 ∷ 1 ∷ []))))))
+abbrev words : (entry : ℕ) → (row₀ row₁ row₂ row₃ row₄ : List ℕ) → (case_block : ℕ) → List ℕ
+words entry row₀ row₁ row₂ row₃ row₄ case_block =
+    entry ∷ 5 ∷ 1 ∷ 1 ∷ 1 ∷ 1 ∷ (row₀ ++ (row₁ ++ (row₂ ++ (row₃ ++ (row₄ ++ (7 ∷ 0 ∷ 2 ∷ 0 ∷ 0 ∷ 5 ∷ 9 ∷ 65535 ∷ case_block ∷ 0 ∷ 1 ∷ []))))))
 
 -- paper 01's W with its blocks in another order, an instruction, a case row that no Switch uses, and a block that no line names
 abbrev pub mixed : List ℕ
@@ -61,21 +61,21 @@ mixed = words 3 (ends 3 0 0 0 0 0 4) (ends 4 2 1 0 0 0 3) (ends 6 0 1 0 0 0 2) (
 abbrev pub walked : List ℕ
 walked = words 0 (ends 9 1 2 3 0 0 1) (ends 6 0 2 3 0 0 2) (ends 4 1 1 0 0 0 3) (ends 3 0 0 0 0 0 4) (ends 1 0 0 0 0 0 5) 2
 
-pub order : walkingOrder (table_of mixed) ≡ 3 ∷ 2 ∷ 1 ∷ 0 ∷ 4 ∷ []
-unfolding walkingOrder walkFrom named_by table_of tabulate block_of case_of instructionOf terminalOf unlessNone variant_of word entryWord blockCount instructionCount
-    caseCount placeCount identifierCount blocksBegin instructionsBegin casesBegin placesBegin identifiersBegin blockWord instructionWord caseWord placeWord
-    identifierWord
+pub order : walking_order (table_of mixed) ≡ 3 ∷ 2 ∷ 1 ∷ 0 ∷ 4 ∷ []
+unfolding walking_order walk_from named_by table_of tabulate block_of case_of instruction_of terminal_of unless_none variant_of word entry_word block_count instruction_count
+    case_count place_count identifier_count blocks_begin instructions_begin cases_begin places_begin identifiers_begin block_word instruction_word case_word place_word
+    identifier_word
 order = refl
 
 pub rearranges : rearranged mixed ≡ walked
-unfolding rearranged renamed rows_of renamedBlockRow instructionRow renamedCaseRow namesBlock newNumber oldNumber word entryWord blockCount instructionCount
-    caseCount placeCount identifierCount blocksBegin instructionsBegin casesBegin placesBegin identifiersBegin blockWord instructionWord caseWord placeWord
-    identifierWord
+unfolding rearranged renamed rows_of renamed_block_row instruction_row renamed_case_row names_block new_number old_number word entry_word block_count instruction_count
+    case_count place_count identifier_count blocks_begin instructions_begin cases_begin places_begin identifiers_begin block_word instruction_word case_word place_word
+    identifier_word
 rearranges = rw order
 
 -- "renames every block, the entry too, to its old number in the list"
-pub restores : restoredBy (3 ∷ 2 ∷ 1 ∷ 0 ∷ 4 ∷ []) walked ≡ mixed
-unfolding restoredBy renamed rows_of renamedBlockRow instructionRow renamedCaseRow namesBlock newNumber oldNumber word entryWord blockCount instructionCount
-    caseCount placeCount identifierCount blocksBegin instructionsBegin casesBegin placesBegin identifiersBegin blockWord instructionWord caseWord placeWord
-    identifierWord
+pub restores : restored_by (3 ∷ 2 ∷ 1 ∷ 0 ∷ 4 ∷ []) walked ≡ mixed
+unfolding restored_by renamed rows_of renamed_block_row instruction_row renamed_case_row names_block new_number old_number word entry_word block_count instruction_count
+    case_count place_count identifier_count blocks_begin instructions_begin cases_begin places_begin identifiers_begin block_word instruction_word case_word place_word
+    identifier_word
 restores = refl

@@ -8,36 +8,36 @@ use mathlib.Core.Bool.{Bool, true, false, ◌&&◌}
 use lib.ListN.{get_or}
 use lib.Dec.{eqb}
 use Rattle.table.specs.declared.columns.Span.{Span}
-use Rattle.table.specs.Table.{Table, Block, no_block, Instruction, Operation, other, load-local, store-local, Terminal, absent, unreachable, throw, return, goto}
-use Rattle.table.specs.Table.{if, branch, switch, do-while, while, for, for-of, for-in, logical, ternary, optional, label, sequence, maybe-throw, try, scope}
-use Rattle.table.specs.Table.{isAbsent, isGoto, block_at, terminalAt, instructionAt, instructionRows}
-use Rattle.definition.specs.Tree.{Value, PLAIN, LOAD, UNDEF, SEQ, LOGICAL, COND, OPTIONAL, Instructions, no-instructions, instruction}
-use Rattle.definition.specs.Result.{Result, ok, refused, ◌>>=◌, refuseIf}
-use Rattle.definition.specs.Value.{beginVisit, ValueBlockResult, ValueTerminalResult, is_empty, instructionsOf, wrapWithSequence, finalValue, finalPlace}
-use Rattle.definition.specs.Value.{storedToNamed, allButLast, last, extractValueBlockResult, extractOrRefuse, VisitValueBlock, Ways, branchWays}
-use Rattle.definition.specs.Value.{TestBlockResult, testBlockEnded, visitTestBlock, singleInstruction, visitValueBlockTerminal, thenFallthrough, branchValue}
-use Rattle.definition.specs.Value.{isEmptyGoto, maybeThrowValue, terminalThenFallthrough, visitValueBlockAt, isFallthrough, visitValueBlock, innermostValue}
-use Rattle.definition.specs.Value.{loadedBy, loadedPlace, sameIdentifier, unlessSame, valueBlockResultToSequence}
-use Rattle.renaming.proofs.Alike.{Moves, same_test, Alike, alike-bind, alike-by, alike-unless, alike-pick}
-use Rattle.renaming.proofs.Tables.{renamedTerminal, renamedBlock, renamedTable, Reordered, code_same, absent-same}
+use Rattle.table.specs.Table.{Table, Block, no_block, Instruction, Operation, other, load_local, store_local, Terminal, absent, unreachable, throw, return, goto}
+use Rattle.table.specs.Table.{if, branch, switch, do_while, while, for, for_of, for_in, logical, ternary, optional, label, sequence, maybe_throw, try, scope}
+use Rattle.table.specs.Table.{is_absent, is_goto, block_at, terminal_at, instruction_at, instruction_rows}
+use Rattle.definition.specs.Tree.{Value, PLAIN, LOAD, UNDEF, SEQ, LOGICAL, COND, OPTIONAL, Instructions, no_instructions, instruction}
+use Rattle.definition.specs.Result.{Result, ok, refused, ◌>>=◌, refuse_if}
+use Rattle.definition.specs.Value.{begin_visit, ValueBlockResult, ValueTerminalResult, is_empty, instructions_of, wrap_with_sequence, final_value, final_place}
+use Rattle.definition.specs.Value.{stored_to_named, all_but_last, last, extract_value_block_result, extract_or_refuse, VisitValueBlock, Ways, branch_ways}
+use Rattle.definition.specs.Value.{TestBlockResult, test_block_ended, visit_test_block, single_instruction, visit_value_block_terminal, then_fallthrough, branch_value}
+use Rattle.definition.specs.Value.{is_empty_goto, maybe_throw_value, terminal_then_fallthrough, visit_value_block_at, is_fallthrough, visit_value_block, innermost_value}
+use Rattle.definition.specs.Value.{loaded_by, loaded_place, same_identifier, unless_same, value_block_result_to_sequence}
+use Rattle.renaming.proofs.Alike.{Moves, same_test, Alike, alike_bind, alike_by, alike_unless, alike_pick}
+use Rattle.renaming.proofs.Tables.{renamed_terminal, renamed_block, renamed_table, Reordered, code_same, absent_same}
 
-abbrev pub renamedValue : (new : ℕ → ℕ) → ValueBlockResult → ValueBlockResult
-renamedValue new r = record { block = new r.block; place = r.place; value = r.value; id = r.id; visits = r.visits }
+abbrev pub renamed_value : (new : ℕ → ℕ) → ValueBlockResult → ValueBlockResult
+renamed_value new r = record { block = new r.block; place = r.place; value = r.value; id = r.id; visits = r.visits }
 
-abbrev renamedEnd : (new : ℕ → ℕ) → ValueTerminalResult → ValueTerminalResult
-renamedEnd new r = record { value = r.value; place = r.place; fallthrough = new r.fallthrough; id = r.id; visits = r.visits }
+abbrev renamed_end : (new : ℕ → ℕ) → ValueTerminalResult → ValueTerminalResult
+renamed_end new r = record { value = r.value; place = r.place; fallthrough = new r.fallthrough; id = r.id; visits = r.visits }
 
-abbrev renamedWays : (new : ℕ → ℕ) → Ways → Ways
-renamedWays new w = record { consequent = new w.consequent; alternate = new w.alternate }
+abbrev renamed_ways : (new : ℕ → ℕ) → Ways → Ways
+renamed_ways new w = record { consequent = new w.consequent; alternate = new w.alternate }
 
-abbrev renamedTest : (new : ℕ → ℕ) → TestBlockResult → TestBlockResult
-renamedTest new r = record { test = renamedValue new r.test; ways = renamedWays new r.ways }
+abbrev renamed_test : (new : ℕ → ℕ) → TestBlockResult → TestBlockResult
+renamed_test new r = record { test = renamed_value new r.test; ways = renamed_ways new r.ways }
 
 abbrev pub SameValue : (new : ℕ → ℕ) → ValueBlockResult → ValueBlockResult → Type 0
-SameValue new r r' = r' ≡ renamedValue new r
+SameValue new r r' = r' ≡ renamed_value new r
 
 abbrev pub SameEnd : (new : ℕ → ℕ) → ValueTerminalResult → ValueTerminalResult → Type 0
-SameEnd new r r' = r' ≡ renamedEnd new r
+SameEnd new r r' = r' ≡ renamed_end new r
 
 unfoldable pub ValuesAlike : (new : ℕ → ℕ) → (visit visit' : VisitValueBlock) → Type 0
 ValuesAlike new visit visit' = (b : ℕ) (f : Option ℕ) (span : Span) (v : ℕ) → Alike new (SameValue new) (visit b f span v) (visit' (new b) (Option.map new f) span v)
@@ -46,192 +46,192 @@ ValuesAlike new visit visit' = (b : ℕ) (f : Option ℕ) (span : Span) (v : ℕ
 
 module _ (new : ℕ → ℕ) (t : Table) (blocks : List Block) where
   abbrev there : Table
-  there = renamedTable new blocks t
+  there = renamed_table new blocks t
 
-  instructions-same : (rs : List ℕ) (more : Instructions) → instructionsOf there rs more ≡ instructionsOf t rs more
-  unfolding instructionsOf
-  instructions-same [] more = refl
-  instructions-same (r ∷ rs) more = ap (instruction (instructionAt t r).id (instructionAt t r).lvalue (instructionAt t r).span (PLAIN r)) (instructions-same rs more)
+  instructions_same : (rs : List ℕ) (more : Instructions) → instructions_of there rs more ≡ instructions_of t rs more
+  unfolding instructions_of
+  instructions_same [] more = refl
+  instructions_same (r ∷ rs) more = ap (instruction (instruction_at t r).id (instruction_at t r).lvalue (instruction_at t r).span (PLAIN r)) (instructions_same rs more)
 
-  wrap-same : (rs : List ℕ) (id : ℕ) (v : Value) → wrapWithSequence there rs id v ≡ wrapWithSequence t rs id v
-  unfolding wrapWithSequence
-  wrap-same [] id v = refl
-  wrap-same (r ∷ rs) id v = ap (λ (is : Instructions). SEQ is id v) (instructions-same (r ∷ rs) no-instructions)
+  wrap_same : (rs : List ℕ) (id : ℕ) (v : Value) → wrap_with_sequence there rs id v ≡ wrap_with_sequence t rs id v
+  unfolding wrap_with_sequence
+  wrap_same [] id v = refl
+  wrap_same (r ∷ rs) id v = ap (λ (is : Instructions). SEQ is id v) (instructions_same (r ∷ rs) no_instructions)
 
-  named-same : (o : Operation) → storedToNamed there o ≡ storedToNamed t o
-  unfolding storedToNamed
-  named-same other = refl
-  named-same (load-local place) = refl
-  named-same (store-local a b) = refl
+  named_same : (o : Operation) → stored_to_named there o ≡ stored_to_named t o
+  unfolding stored_to_named
+  named_same other = refl
+  named_same (load_local place) = refl
+  named_same (store_local a b) = refl
 
-  extract-same : (b r : ℕ) (rs : List ℕ) (v : ℕ) → extractValueBlockResult there (new b) r rs v ≡ renamedValue new (extractValueBlockResult t b r rs v)
-  unfolding extractValueBlockResult
-  extract-same b r rs v = rw (named-same (instructionAt t (last r rs)).operation, wrap-same) refl
+  extract_same : (b r : ℕ) (rs : List ℕ) (v : ℕ) → extract_value_block_result there (new b) r rs v ≡ renamed_value new (extract_value_block_result t b r rs v)
+  unfolding extract_value_block_result
+  extract_same b r rs v = rw (named_same (instruction_at t (last r rs)).operation, wrap_same) refl
 
-  loaded-same : (v : Value) → loadedPlace there v ≡ loadedPlace t v
-  loaded-same (PLAIN row) = refl
-  loaded-same (LOAD place) = refl
-  loaded-same (UNDEF span) = refl
-  loaded-same (SEQ instructions id value) = refl
-  loaded-same (LOGICAL operator left right) = refl
-  loaded-same (COND test consequent alternate) = refl
-  loaded-same (OPTIONAL flag value) = refl
+  loaded_same : (v : Value) → loaded_place there v ≡ loaded_place t v
+  loaded_same (PLAIN row) = refl
+  loaded_same (LOAD place) = refl
+  loaded_same (UNDEF span) = refl
+  loaded_same (SEQ instructions id value) = refl
+  loaded_same (LOGICAL operator left right) = refl
+  loaded_same (COND test consequent alternate) = refl
+  loaded_same (OPTIONAL flag value) = refl
 
-  identifier-same : (p : ℕ) (o : Option ℕ) → sameIdentifier there p o ≡ sameIdentifier t p o
-  unfolding sameIdentifier
-  identifier-same p none = refl
-  identifier-same p (some q) = refl
+  identifier_same : (p : ℕ) (o : Option ℕ) → same_identifier there p o ≡ same_identifier t p o
+  unfolding same_identifier
+  identifier_same p none = refl
+  identifier_same p (some q) = refl
 
-  pub sequence-same : (r : ValueBlockResult) (span : Span) → valueBlockResultToSequence there (renamedValue new r) span ≡ valueBlockResultToSequence t r span
-  unfolding valueBlockResultToSequence
-  sequence-same r span = rw (loaded-same (innermostValue r.value), identifier-same r.place (loadedPlace t (innermostValue r.value)))
+  pub sequence_same : (r : ValueBlockResult) (span : Span) → value_block_result_to_sequence there (renamed_value new r) span ≡ value_block_result_to_sequence t r span
+  unfolding value_block_result_to_sequence
+  sequence_same r span = rw (loaded_same (innermost_value r.value), identifier_same r.place (loaded_place t (innermost_value r.value)))
 
 -- ---- the walk
 
 module _ (new : ℕ → ℕ) (m : Moves new) (t : Table) (blocks : List Block) (moved : Reordered new t.blocks blocks) where
-  pub begin-alike : (b v : ℕ) → Alike new (λ a a'. a' ≡ a) (beginVisit t b v) (beginVisit (there new t blocks) (new b) v)
-  unfolding beginVisit
-  begin-alike b v =
-      alike-unless new _ _ _ 31 b _ v v _ _ refl refl refl
-      (alike-unless new _ _ _ 10 b _ (suc v) (suc v) _ _ (absent-same new t blocks moved b) refl refl refl)
+  pub begin_alike : (b v : ℕ) → Alike new (λ a a'. a' ≡ a) (begin_visit t b v) (begin_visit (there new t blocks) (new b) v)
+  unfolding begin_visit
+  begin_alike b v =
+      alike_unless new _ _ _ 31 b _ v v _ _ refl refl refl
+      (alike_unless new _ _ _ 10 b _ (suc v) (suc v) _ _ (absent_same new t blocks moved b) refl refl refl)
 
-  extract-alike : (b : ℕ) (rs : List ℕ) (v code at : ℕ) → Alike new (SameValue new) (extractOrRefuse t b rs v code at) (extractOrRefuse (there new t blocks) (new b) rs v code (new at))
-  unfolding extractOrRefuse
-  extract-alike b [] v code at = (refl, (λ _. refl), refl)
-  extract-alike b (r ∷ rs) v code at = extract-same new t blocks b r rs v
+  extract_alike : (b : ℕ) (rs : List ℕ) (v code at : ℕ) → Alike new (SameValue new) (extract_or_refuse t b rs v code at) (extract_or_refuse (there new t blocks) (new b) rs v code (new at))
+  unfolding extract_or_refuse
+  extract_alike b [] v code at = (refl, (λ _. refl), refl)
+  extract_alike b (r ∷ rs) v code at = extract_same new t blocks b r rs v
 
-  ways-same : (x : Terminal) → branchWays (renamedTerminal new x) ≡ Option.map (renamedWays new) (branchWays x)
-  ways-same absent = refl
-  ways-same unreachable = refl
-  ways-same (throw value) = refl
-  ways-same (return value) = refl
-  ways-same (goto block variant) = refl
-  ways-same (if test consequent alternate fallthrough) = refl
-  ways-same (branch test consequent alternate) = refl
-  ways-same (switch test first number fallthrough) = refl
-  ways-same (do-while loop test fallthrough) = refl
-  ways-same (while test loop fallthrough) = refl
-  ways-same (for init test update loop fallthrough) = refl
-  ways-same (for-of init test loop fallthrough) = refl
-  ways-same (for-in init loop fallthrough) = refl
-  ways-same (logical operator test fallthrough) = refl
-  ways-same (ternary test fallthrough) = refl
-  ways-same (optional flag test fallthrough) = refl
-  ways-same (label block fallthrough) = refl
-  ways-same (sequence block fallthrough) = refl
-  ways-same (maybe-throw continuation) = refl
-  ways-same (try block handler fallthrough binding) = refl
-  ways-same (scope pruned block fallthrough number) = refl
+  ways_same : (x : Terminal) → branch_ways (renamed_terminal new x) ≡ Option.map (renamed_ways new) (branch_ways x)
+  ways_same absent = refl
+  ways_same unreachable = refl
+  ways_same (throw value) = refl
+  ways_same (return value) = refl
+  ways_same (goto block variant) = refl
+  ways_same (if test consequent alternate fallthrough) = refl
+  ways_same (branch test consequent alternate) = refl
+  ways_same (switch test first number fallthrough) = refl
+  ways_same (do_while loop test fallthrough) = refl
+  ways_same (while test loop fallthrough) = refl
+  ways_same (for init test update loop fallthrough) = refl
+  ways_same (for_of init test loop fallthrough) = refl
+  ways_same (for_in init loop fallthrough) = refl
+  ways_same (logical operator test fallthrough) = refl
+  ways_same (ternary test fallthrough) = refl
+  ways_same (optional flag test fallthrough) = refl
+  ways_same (label block fallthrough) = refl
+  ways_same (sequence block fallthrough) = refl
+  ways_same (maybe_throw continuation) = refl
+  ways_same (try block handler fallthrough binding) = refl
+  ways_same (scope pruned block fallthrough number) = refl
 
-  ended-alike : (r : ValueBlockResult) (w : Option Ways) (at : ℕ)
-      → Alike new (λ a a'. a' ≡ renamedTest new a) (testBlockEnded r w at) (testBlockEnded (renamedValue new r) (Option.map (renamedWays new) w) (new at))
-  unfolding testBlockEnded
-  ended-alike r none at = (refl, (λ _. refl), refl)
-  ended-alike r (some w) at = refl
+  ended_alike : (r : ValueBlockResult) (w : Option Ways) (at : ℕ)
+      → Alike new (λ a a'. a' ≡ renamed_test new a) (test_block_ended r w at) (test_block_ended (renamed_value new r) (Option.map (renamed_ways new) w) (new at))
+  unfolding test_block_ended
+  ended_alike r none at = (refl, (λ _. refl), refl)
+  ended_alike r (some w) at = refl
 
   module _ (visit visit' : VisitValueBlock) (va : ValuesAlike new visit visit') where
-    test-alike : (b : ℕ) (span : Span) (v at : ℕ) → Alike new (λ a a'. a' ≡ renamedTest new a) (visitTestBlock t visit b span v at) (visitTestBlock (there new t blocks) visit' (new b) span v (new at))
-    unfolding visitTestBlock ValuesAlike
-    test-alike b span v at =
-        alike-by new (renamedValue new) _ _ _ _ _ (va b none span v) (λ r.
-        rw (ap (λ (k : Block). branchWays k.terminal) (moved r.block) ∙ ways-same (terminalAt t r.block)) (ended-alike r (branchWays (terminalAt t r.block)) at))
+    test_alike : (b : ℕ) (span : Span) (v at : ℕ) → Alike new (λ a a'. a' ≡ renamed_test new a) (visit_test_block t visit b span v at) (visit_test_block (there new t blocks) visit' (new b) span v (new at))
+    unfolding visit_test_block ValuesAlike
+    test_alike b span v at =
+        alike_by new (renamed_value new) _ _ _ _ _ (va b none span v) (λ r.
+        rw (ap (λ (k : Block). branch_ways k.terminal) (moved r.block) ∙ ways_same (terminal_at t r.block)) (ended_alike r (branch_ways (terminal_at t r.block)) at))
 
-    pub end-alike : (x : Terminal) (id : ℕ) (span : Span) (v at : ℕ)
-        → Alike new (SameEnd new) (visitValueBlockTerminal t visit x id span v at)
-        (visitValueBlockTerminal (there new t blocks) visit' (renamedTerminal new x) id span v (new at))
-    unfolding visitValueBlockTerminal ValuesAlike
-    end-alike absent id span v at = (refl, (λ _. refl), refl)
-    end-alike unreachable id span v at = (refl, (λ _. refl), refl)
-    end-alike (throw value) id span v at = (refl, (λ _. refl), refl)
-    end-alike (return value) id span v at = (refl, (λ _. refl), refl)
-    end-alike (goto block variant) id span v at = (refl, (λ _. refl), refl)
-    end-alike (if test consequent alternate fallthrough) id span v at = (refl, (λ _. refl), refl)
-    end-alike (branch test consequent alternate) id span v at = (refl, (λ _. refl), refl)
-    end-alike (switch test first number fallthrough) id span v at = (refl, (λ _. refl), refl)
-    end-alike (do-while loop test fallthrough) id span v at = (refl, (λ _. refl), refl)
-    end-alike (while test loop fallthrough) id span v at = (refl, (λ _. refl), refl)
-    end-alike (for init test update loop fallthrough) id span v at = (refl, (λ _. refl), refl)
-    end-alike (for-of init test loop fallthrough) id span v at = (refl, (λ _. refl), refl)
-    end-alike (for-in init loop fallthrough) id span v at = (refl, (λ _. refl), refl)
-    end-alike (logical operator test fallthrough) id span v at =
-        alike-by new (renamedTest new) (SameEnd new) _ _ _ _ (test-alike test span v at) (λ tested.
-        alike-by new (renamedValue new) (SameEnd new) _ _ _ _ (va tested.ways.consequent (some fallthrough) span tested.test.visits) (λ left.
-        alike-by new (renamedValue new) (SameEnd new) _ _ _ _ (va tested.ways.alternate (some fallthrough) span left.visits) (λ right. refl)))
-    end-alike (ternary test fallthrough) id span v at =
-        alike-by new (renamedTest new) (SameEnd new) _ _ _ _ (test-alike test span v at) (λ tested.
-        alike-by new (renamedValue new) (SameEnd new) _ _ _ _ (va tested.ways.consequent (some fallthrough) span tested.test.visits) (λ left.
-        alike-by new (renamedValue new) (SameEnd new) _ _ _ _ (va tested.ways.alternate (some fallthrough) span left.visits) (λ right. refl)))
-    end-alike (optional flag test fallthrough) id span v at =
-        alike-by new (renamedTest new) (SameEnd new) _ _ _ _ (test-alike test span v at) (λ tested.
-        alike-by new (renamedValue new) (SameEnd new) _ _ _ _ (va tested.ways.consequent (some fallthrough) span tested.test.visits) (λ left.
+    pub end_alike : (x : Terminal) (id : ℕ) (span : Span) (v at : ℕ)
+        → Alike new (SameEnd new) (visit_value_block_terminal t visit x id span v at)
+        (visit_value_block_terminal (there new t blocks) visit' (renamed_terminal new x) id span v (new at))
+    unfolding visit_value_block_terminal ValuesAlike
+    end_alike absent id span v at = (refl, (λ _. refl), refl)
+    end_alike unreachable id span v at = (refl, (λ _. refl), refl)
+    end_alike (throw value) id span v at = (refl, (λ _. refl), refl)
+    end_alike (return value) id span v at = (refl, (λ _. refl), refl)
+    end_alike (goto block variant) id span v at = (refl, (λ _. refl), refl)
+    end_alike (if test consequent alternate fallthrough) id span v at = (refl, (λ _. refl), refl)
+    end_alike (branch test consequent alternate) id span v at = (refl, (λ _. refl), refl)
+    end_alike (switch test first number fallthrough) id span v at = (refl, (λ _. refl), refl)
+    end_alike (do_while loop test fallthrough) id span v at = (refl, (λ _. refl), refl)
+    end_alike (while test loop fallthrough) id span v at = (refl, (λ _. refl), refl)
+    end_alike (for init test update loop fallthrough) id span v at = (refl, (λ _. refl), refl)
+    end_alike (for_of init test loop fallthrough) id span v at = (refl, (λ _. refl), refl)
+    end_alike (for_in init loop fallthrough) id span v at = (refl, (λ _. refl), refl)
+    end_alike (logical operator test fallthrough) id span v at =
+        alike_by new (renamed_test new) (SameEnd new) _ _ _ _ (test_alike test span v at) (λ tested.
+        alike_by new (renamed_value new) (SameEnd new) _ _ _ _ (va tested.ways.consequent (some fallthrough) span tested.test.visits) (λ left.
+        alike_by new (renamed_value new) (SameEnd new) _ _ _ _ (va tested.ways.alternate (some fallthrough) span left.visits) (λ right. refl)))
+    end_alike (ternary test fallthrough) id span v at =
+        alike_by new (renamed_test new) (SameEnd new) _ _ _ _ (test_alike test span v at) (λ tested.
+        alike_by new (renamed_value new) (SameEnd new) _ _ _ _ (va tested.ways.consequent (some fallthrough) span tested.test.visits) (λ left.
+        alike_by new (renamed_value new) (SameEnd new) _ _ _ _ (va tested.ways.alternate (some fallthrough) span left.visits) (λ right. refl)))
+    end_alike (optional flag test fallthrough) id span v at =
+        alike_by new (renamed_test new) (SameEnd new) _ _ _ _ (test_alike test span v at) (λ tested.
+        alike_by new (renamed_value new) (SameEnd new) _ _ _ _ (va tested.ways.consequent (some fallthrough) span tested.test.visits) (λ left.
         rw (ap (λ (k : Block). k.span) (moved tested.test.block))))
-    end-alike (label block fallthrough) id span v at = (refl, (λ _. refl), refl)
-    end-alike (sequence block fallthrough) id span v at = alike-by new (renamedValue new) (SameEnd new) _ _ _ _ (va block (some fallthrough) span v) (λ inner. refl)
-    end-alike (maybe-throw continuation) id span v at = (refl, (λ _. refl), refl)
-    end-alike (try block handler fallthrough binding) id span v at = (refl, (λ _. refl), refl)
-    end-alike (scope pruned block fallthrough number) id span v at = (refl, (λ _. refl), refl)
+    end_alike (label block fallthrough) id span v at = (refl, (λ _. refl), refl)
+    end_alike (sequence block fallthrough) id span v at = alike_by new (renamed_value new) (SameEnd new) _ _ _ _ (va block (some fallthrough) span v) (λ inner. refl)
+    end_alike (maybe_throw continuation) id span v at = (refl, (λ _. refl), refl)
+    end_alike (try block handler fallthrough binding) id span v at = (refl, (λ _. refl), refl)
+    end_alike (scope pruned block fallthrough number) id span v at = (refl, (λ _. refl), refl)
 
-    then-alike : (x : Terminal) (b : ℕ) (k : Block) (span : Span) (v : ℕ)
-        → Alike new (SameValue new) (terminalThenFallthrough t visit x b k span v) (terminalThenFallthrough (there new t blocks) visit' (renamedTerminal new x) (new b) (renamedBlock new k) span v)
-    unfolding thenFallthrough ValuesAlike
-    then-alike x b k span v =
-        alike-by new (renamedEnd new) (SameValue new) _ _ _ _ (end-alike x k.id k.span v b) (λ init.
-        alike-by new (renamedValue new) (SameValue new) _ _ _ _ (va init.fallthrough none span init.visits) (λ final.
-        rw (instructions-same new t blocks (instructionRows k) (singleInstruction init.id init.place span init.value))))
+    then_alike : (x : Terminal) (b : ℕ) (k : Block) (span : Span) (v : ℕ)
+        → Alike new (SameValue new) (terminal_then_fallthrough t visit x b k span v) (terminal_then_fallthrough (there new t blocks) visit' (renamed_terminal new x) (new b) (renamed_block new k) span v)
+    unfolding then_fallthrough ValuesAlike
+    then_alike x b k span v =
+        alike_by new (renamed_end new) (SameValue new) _ _ _ _ (end_alike x k.id k.span v b) (λ init.
+        alike_by new (renamed_value new) (SameValue new) _ _ _ _ (va init.fallthrough none span init.visits) (λ final.
+        rw (instructions_same new t blocks (instruction_rows k) (single_instruction init.id init.place span init.value))))
 
-    branch-alike : (b test id : ℕ) (rs : List ℕ) (v : ℕ) → Alike new (SameValue new) (branchValue t b test id rs v) (branchValue (there new t blocks) (new b) test id rs v)
-    unfolding branchValue
-    branch-alike b test id [] v = refl
-    branch-alike b test id (r ∷ rs) v = extract-same new t blocks b r rs v
+    branch_alike : (b test id : ℕ) (rs : List ℕ) (v : ℕ) → Alike new (SameValue new) (branch_value t b test id rs v) (branch_value (there new t blocks) (new b) test id rs v)
+    unfolding branch_value
+    branch_alike b test id [] v = refl
+    branch_alike b test id (r ∷ rs) v = extract_same new t blocks b r rs v
 
     maybe_alike : (b x : ℕ) (rs : List ℕ) (f : Option ℕ) (span : Span) (v : ℕ) (y : Bool)
-        → Alike new (SameValue new) (maybeThrowValue t visit b x rs f span v y) (maybeThrowValue (there new t blocks) visit' (new b) (new x) rs (Option.map new f) span v y)
-    unfolding maybeThrowValue ValuesAlike
-    maybe_alike b x rs f span v true = extract-alike x rs v 28 b
-    maybe_alike b x rs f span v false = alike-by new (renamedValue new) (SameValue new) _ _ _ _ (va x f span v) (λ final. rw (wrap-same new t blocks rs final.id final.value))
+        → Alike new (SameValue new) (maybe_throw_value t visit b x rs f span v y) (maybe_throw_value (there new t blocks) visit' (new b) (new x) rs (Option.map new f) span v y)
+    unfolding maybe_throw_value ValuesAlike
+    maybe_alike b x rs f span v true = extract_alike x rs v 28 b
+    maybe_alike b x rs f span v false = alike_by new (renamed_value new) (SameValue new) _ _ _ _ (va x f span v) (λ final. rw (wrap_same new t blocks rs final.id final.value))
 
-    goto-same : (b : ℕ) → isEmptyGoto (block_at (there new t blocks) (new b)) ≡ isEmptyGoto (block_at t b)
-    unfolding isEmptyGoto
-    goto-same b = ap isEmptyGoto (moved b) ∙ ap (λ (n : ℕ). is_empty (instructionRows (block_at t b)) && eqb n 4) (code_same new (terminalAt t b))
+    goto_same : (b : ℕ) → is_empty_goto (block_at (there new t blocks) (new b)) ≡ is_empty_goto (block_at t b)
+    unfolding is_empty_goto
+    goto_same b = ap is_empty_goto (moved b) ∙ ap (λ (n : ℕ). is_empty (instruction_rows (block_at t b)) && eqb n 4) (code_same new (terminal_at t b))
 
-    at-alike : (x : Terminal) (b : ℕ) (k : Block) (f : Option ℕ) (span : Span) (v : ℕ)
-        → Alike new (SameValue new) (visitValueBlockAt t visit x b k f span v)
-        (visitValueBlockAt (there new t blocks) visit' (renamedTerminal new x) (new b) (renamedBlock new k) (Option.map new f) span v)
-    unfolding visitValueBlockAt
-    at-alike absent b k f span v = then-alike absent b k span v
-    at-alike unreachable b k f span v = then-alike unreachable b k span v
-    at-alike (throw value) b k f span v = then-alike (throw value) b k span v
-    at-alike (return value) b k f span v = then-alike (return value) b k span v
-    at-alike (goto block variant) b k f span v = extract-alike b (instructionRows k) v 24 b
-    at-alike (if test consequent alternate fallthrough) b k f span v = then-alike (if test consequent alternate fallthrough) b k span v
-    at-alike (branch test consequent alternate) b k f span v = branch-alike b test k.id (instructionRows k) v
-    at-alike (switch test first number fallthrough) b k f span v = then-alike (switch test first number fallthrough) b k span v
-    at-alike (do-while loop test fallthrough) b k f span v = then-alike (do-while loop test fallthrough) b k span v
-    at-alike (while test loop fallthrough) b k f span v = then-alike (while test loop fallthrough) b k span v
-    at-alike (for init test update loop fallthrough) b k f span v = then-alike (for init test update loop fallthrough) b k span v
-    at-alike (for-of init test loop fallthrough) b k f span v = then-alike (for-of init test loop fallthrough) b k span v
-    at-alike (for-in init loop fallthrough) b k f span v = then-alike (for-in init loop fallthrough) b k span v
-    at-alike (logical operator test fallthrough) b k f span v = then-alike (logical operator test fallthrough) b k span v
-    at-alike (ternary test fallthrough) b k f span v = then-alike (ternary test fallthrough) b k span v
-    at-alike (optional flag test fallthrough) b k f span v = then-alike (optional flag test fallthrough) b k span v
-    at-alike (label block fallthrough) b k f span v = then-alike (label block fallthrough) b k span v
-    at-alike (sequence block fallthrough) b k f span v = then-alike (sequence block fallthrough) b k span v
-    at-alike (maybe-throw x) b k f span v =
-        alike-unless new (SameValue new) _ _ 10 x _ v v _ _ (absent-same new t blocks moved x) refl refl
-        (rw (goto-same x) (maybe_alike b x (instructionRows k) f span v (isEmptyGoto (block_at t x))))
-    at-alike (try block handler fallthrough binding) b k f span v = then-alike (try block handler fallthrough binding) b k span v
-    at-alike (scope pruned block fallthrough number) b k f span v = then-alike (scope pruned block fallthrough number) b k span v
+    at_alike : (x : Terminal) (b : ℕ) (k : Block) (f : Option ℕ) (span : Span) (v : ℕ)
+        → Alike new (SameValue new) (visit_value_block_at t visit x b k f span v)
+        (visit_value_block_at (there new t blocks) visit' (renamed_terminal new x) (new b) (renamed_block new k) (Option.map new f) span v)
+    unfolding visit_value_block_at
+    at_alike absent b k f span v = then_alike absent b k span v
+    at_alike unreachable b k f span v = then_alike unreachable b k span v
+    at_alike (throw value) b k f span v = then_alike (throw value) b k span v
+    at_alike (return value) b k f span v = then_alike (return value) b k span v
+    at_alike (goto block variant) b k f span v = extract_alike b (instruction_rows k) v 24 b
+    at_alike (if test consequent alternate fallthrough) b k f span v = then_alike (if test consequent alternate fallthrough) b k span v
+    at_alike (branch test consequent alternate) b k f span v = branch_alike b test k.id (instruction_rows k) v
+    at_alike (switch test first number fallthrough) b k f span v = then_alike (switch test first number fallthrough) b k span v
+    at_alike (do_while loop test fallthrough) b k f span v = then_alike (do_while loop test fallthrough) b k span v
+    at_alike (while test loop fallthrough) b k f span v = then_alike (while test loop fallthrough) b k span v
+    at_alike (for init test update loop fallthrough) b k f span v = then_alike (for init test update loop fallthrough) b k span v
+    at_alike (for_of init test loop fallthrough) b k f span v = then_alike (for_of init test loop fallthrough) b k span v
+    at_alike (for_in init loop fallthrough) b k f span v = then_alike (for_in init loop fallthrough) b k span v
+    at_alike (logical operator test fallthrough) b k f span v = then_alike (logical operator test fallthrough) b k span v
+    at_alike (ternary test fallthrough) b k f span v = then_alike (ternary test fallthrough) b k span v
+    at_alike (optional flag test fallthrough) b k f span v = then_alike (optional flag test fallthrough) b k span v
+    at_alike (label block fallthrough) b k f span v = then_alike (label block fallthrough) b k span v
+    at_alike (sequence block fallthrough) b k f span v = then_alike (sequence block fallthrough) b k span v
+    at_alike (maybe_throw x) b k f span v =
+        alike_unless new (SameValue new) _ _ 10 x _ v v _ _ (absent_same new t blocks moved x) refl refl
+        (rw (goto_same x) (maybe_alike b x (instruction_rows k) f span v (is_empty_goto (block_at t x))))
+    at_alike (try block handler fallthrough binding) b k f span v = then_alike (try block handler fallthrough binding) b k span v
+    at_alike (scope pruned block fallthrough number) b k f span v = then_alike (scope pruned block fallthrough number) b k span v
 
-  fallthrough-same : (f : Option ℕ) (b : ℕ) → isFallthrough (Option.map new f) (new b) ≡ isFallthrough f b
-  fallthrough-same none b = refl
-  fallthrough-same (some f) b = same_test new m f b
+  fallthrough_same : (f : Option ℕ) (b : ℕ) → is_fallthrough (Option.map new f) (new b) ≡ is_fallthrough f b
+  fallthrough_same none b = refl
+  fallthrough_same (some f) b = same_test new m f b
 
-  pub values-alike : (d : ℕ) → ValuesAlike new (visitValueBlock t d) (visitValueBlock (there new t blocks) d)
-  unfolding visitValueBlock ValuesAlike
-  values-alike zero b f span v = (refl, (λ _. refl), refl)
-  values-alike (suc d) b f span v =
-      alike-by new (λ a. a) (SameValue new) _ _ _ _ (begin-alike b v) (λ begun.
-      alike-unless new (SameValue new) _ _ 23 b _ begun begun _ _ (fallthrough-same f b) refl refl
-      (subst (λ (k : Block). Alike new (SameValue new) (visitValueBlockAt t (visitValueBlock t d) (terminalAt t b) b (block_at t b) f span begun)
-      (visitValueBlockAt (there new t blocks) (visitValueBlock (there new t blocks) d) k.terminal (new b) k (Option.map new f) span begun)) (sym (moved b))
-      (at-alike (visitValueBlock t d) (visitValueBlock (there new t blocks) d) (values-alike d) (terminalAt t b) b (block_at t b) f span begun)))
+  pub values_alike : (d : ℕ) → ValuesAlike new (visit_value_block t d) (visit_value_block (there new t blocks) d)
+  unfolding visit_value_block ValuesAlike
+  values_alike zero b f span v = (refl, (λ _. refl), refl)
+  values_alike (suc d) b f span v =
+      alike_by new (λ a. a) (SameValue new) _ _ _ _ (begin_alike b v) (λ begun.
+      alike_unless new (SameValue new) _ _ 23 b _ begun begun _ _ (fallthrough_same f b) refl refl
+      (subst (λ (k : Block). Alike new (SameValue new) (visit_value_block_at t (visit_value_block t d) (terminal_at t b) b (block_at t b) f span begun)
+      (visit_value_block_at (there new t blocks) (visit_value_block (there new t blocks) d) k.terminal (new b) k (Option.map new f) span begun)) (sym (moved b))
+      (at_alike (visit_value_block t d) (visit_value_block (there new t blocks) d) (values_alike d) (terminal_at t b) b (block_at t b) f span begun)))

@@ -9,10 +9,10 @@ use lib.ListN.{length, get_or, length-append, get_or-append}
 use lib.Seq.{get_or-append-add, ext_get_or}
 use lib.Dec.{ltb}
 use borrow.Author.Tests.{ltb-true, ltb-false}
-use Rattle.table.specs.Words.{word, entryWord, blockCount, instructionCount, caseCount, placeCount, identifierCount, blocksBegin, instructionsBegin, casesBegin}
-use Rattle.table.specs.Words.{placesBegin, identifiersBegin, wordsNeeded, blockWord, instructionWord, caseWord, placeWord, identifierWord}
+use Rattle.table.specs.Words.{word, entry_word, block_count, instruction_count, case_count, place_count, identifier_count, blocks_begin, instructions_begin, cases_begin}
+use Rattle.table.specs.Words.{places_begin, identifiers_begin, words_needed, block_word, instruction_word, case_word, place_word, identifier_word}
 use Rattle.table.specs.Promise.{Sized}
-use Rattle.renaming.specs.Renaming.{Renaming, namesBlock, renamedIf, renamedBlockRow, instructionRow, renamedCaseRow, rows_of, renamed, RenamedWords}
+use Rattle.renaming.specs.Renaming.{Renaming, names_block, renamed_if, renamed_block_row, instruction_row, renamed_case_row, rows_of, renamed, RenamedWords}
 
 -- ---- rows of one width, one after the other
 
@@ -33,8 +33,8 @@ module _ (w : ℕ) where
       rw (append_assoc (f 0) (rows_of (λ i. f (suc i)) n) more, z)
       (get_or-append-add (f 0) (rows_of (λ i. f (suc i)) n ++ more) (i * w + k) 0 ∙ row_word (λ i. f (suc i)) (λ i. wide (suc i)) n more i k (omega arith) l)
 
-  after-rows : (f : ℕ → List ℕ) → ((i : ℕ) → length (f i) ≡ w) → (n : ℕ) (more : List ℕ) (k : ℕ) → get_or (rows_of f n ++ more) (n * w + k) 0 ≡ get_or more k 0
-  after-rows f wide n more k = rw (← (rows_long f wide n)) (get_or-append-add (rows_of f n) more k 0)
+  after_rows : (f : ℕ → List ℕ) → ((i : ℕ) → length (f i) ≡ w) → (n : ℕ) (more : List ℕ) (k : ℕ) → get_or (rows_of f n ++ more) (n * w + k) 0 ≡ get_or more k 0
+  after_rows f wide n more k = rw (← (rows_long f wide n)) (get_or-append-add (rows_of f n) more k 0)
 
   -- what holds at every column of every row holds at every place
   pub by_rows : (P : ℕ → Type 0) (begin n : ℕ) → 0 < w → ((i : ℕ) → i < n → (k : ℕ) → k < w → P (begin + i * w + k)) → (j : ℕ) → begin ≤ j → j < begin + n * w → P j
@@ -47,122 +47,122 @@ module _ (w : ℕ) where
 -- ---- the renamed words
 
 module _ (new old : ℕ → ℕ) (ws : List ℕ) where
-  abbrev identifierRows : List ℕ
-  identifierRows = rows_of (λ i. identifierWord ws i ∷ []) (identifierCount ws)
+  abbrev identifier_rows : List ℕ
+  identifier_rows = rows_of (λ i. identifier_word ws i ∷ []) (identifier_count ws)
 
-  abbrev placeRows : List ℕ
-  placeRows = rows_of (λ i. placeWord ws i ∷ []) (placeCount ws) ++ identifierRows
+  abbrev place_rows : List ℕ
+  place_rows = rows_of (λ i. place_word ws i ∷ []) (place_count ws) ++ identifier_rows
 
   abbrev case_rows : List ℕ
-  case_rows = rows_of (renamedCaseRow new ws) (caseCount ws) ++ placeRows
+  case_rows = rows_of (renamed_case_row new ws) (case_count ws) ++ place_rows
 
-  abbrev instructionRows : List ℕ
-  instructionRows = rows_of (instructionRow ws) (instructionCount ws) ++ case_rows
+  abbrev instruction_rows : List ℕ
+  instruction_rows = rows_of (instruction_row ws) (instruction_count ws) ++ case_rows
 
-  abbrev blockRows : List ℕ
-  blockRows = rows_of (λ b. renamedBlockRow new ws (old b)) (blockCount ws) ++ instructionRows
+  abbrev block_rows : List ℕ
+  block_rows = rows_of (λ b. renamed_block_row new ws (old b)) (block_count ws) ++ instruction_rows
 
-  wide-block : (b : ℕ) → length (renamedBlockRow new ws b) ≡ 11
-  unfolding renamedBlockRow
-  wide-block b = refl
+  wide_block : (b : ℕ) → length (renamed_block_row new ws b) ≡ 11
+  unfolding renamed_block_row
+  wide_block b = refl
 
-  wide-instruction : (i : ℕ) → length (instructionRow ws i) ≡ 7
-  unfolding instructionRow
-  wide-instruction i = refl
+  wide_instruction : (i : ℕ) → length (instruction_row ws i) ≡ 7
+  unfolding instruction_row
+  wide_instruction i = refl
 
-  wide-case : (i : ℕ) → length (renamedCaseRow new ws i) ≡ 2
-  unfolding renamedCaseRow
-  wide-case i = refl
+  wide_case : (i : ℕ) → length (renamed_case_row new ws i) ≡ 2
+  unfolding renamed_case_row
+  wide_case i = refl
 
-  past_head : (j : ℕ) → word (renamed new old ws) (6 + j) ≡ get_or blockRows j 0
+  past_head : (j : ℕ) → word (renamed new old ws) (6 + j) ≡ get_or block_rows j 0
   unfolding renamed word
   past_head j = let z : 6 + j ≡ suc (suc (suc (suc (suc (suc j))))) = omega arith in rw z
 
-  renamed-long : length (renamed new old ws) ≡ wordsNeeded ws
-  unfolding renamed wordsNeeded identifiersBegin placesBegin casesBegin instructionsBegin blocksBegin
-  renamed-long =
+  renamed_long : length (renamed new old ws) ≡ words_needed ws
+  unfolding renamed words_needed identifiers_begin places_begin cases_begin instructions_begin blocks_begin
+  renamed_long =
       simp (
         length-append,
-        rows_long 11 (λ b. renamedBlockRow new ws (old b)) (λ b. wide-block (old b)),
-        rows_long 7 (instructionRow ws) wide-instruction,
-        rows_long 2 (renamedCaseRow new ws) wide-case,
-        rows_long 1 (λ i. placeWord ws i ∷ []) (λ i. refl),
-        rows_long 1 (λ i. identifierWord ws i ∷ []) (λ i. refl),
+        rows_long 11 (λ b. renamed_block_row new ws (old b)) (λ b. wide_block (old b)),
+        rows_long 7 (instruction_row ws) wide_instruction,
+        rows_long 2 (renamed_case_row new ws) wide_case,
+        rows_long 1 (λ i. place_word ws i ∷ []) (λ i. refl),
+        rows_long 1 (λ i. identifier_word ws i ∷ []) (λ i. refl),
       ) (omega arith)
 
   -- where each table begins, in the words past the head
-  at_block : (b : ℕ) → b < blockCount ws → (k : ℕ) → k < 11 → blockWord (renamed new old ws) b k ≡ get_or (renamedBlockRow new ws (old b)) k 0
-  unfolding blockWord blocksBegin
+  at_block : (b : ℕ) → b < block_count ws → (k : ℕ) → k < 11 → block_word (renamed new old ws) b k ≡ get_or (renamed_block_row new ws (old b)) k 0
+  unfolding block_word blocks_begin
   at_block b h k l =
       let z : 6 + b * 11 + k ≡ 6 + (b * 11 + k) = omega arith in
-      rw z (past_head (b * 11 + k) ∙ row_word 11 (λ b. renamedBlockRow new ws (old b)) (λ b. wide-block (old b)) (blockCount ws) instructionRows b k h l)
+      rw z (past_head (b * 11 + k) ∙ row_word 11 (λ b. renamed_block_row new ws (old b)) (λ b. wide_block (old b)) (block_count ws) instruction_rows b k h l)
 
-  past-blocks : (j : ℕ) → word (renamed new old ws) (instructionsBegin ws + j) ≡ get_or instructionRows j 0
-  unfolding instructionsBegin blocksBegin
-  past-blocks j =
-      let z : 6 + blockCount ws * 11 + j ≡ 6 + (blockCount ws * 11 + j) = omega arith in
-      rw z (past_head (blockCount ws * 11 + j) ∙ after-rows 11 (λ b. renamedBlockRow new ws (old b)) (λ b. wide-block (old b)) (blockCount ws) instructionRows j)
+  past_blocks : (j : ℕ) → word (renamed new old ws) (instructions_begin ws + j) ≡ get_or instruction_rows j 0
+  unfolding instructions_begin blocks_begin
+  past_blocks j =
+      let z : 6 + block_count ws * 11 + j ≡ 6 + (block_count ws * 11 + j) = omega arith in
+      rw z (past_head (block_count ws * 11 + j) ∙ after_rows 11 (λ b. renamed_block_row new ws (old b)) (λ b. wide_block (old b)) (block_count ws) instruction_rows j)
 
-  past-instructions : (j : ℕ) → word (renamed new old ws) (casesBegin ws + j) ≡ get_or case_rows j 0
-  unfolding casesBegin
-  past-instructions j =
-      let z : instructionsBegin ws + instructionCount ws * 7 + j ≡ instructionsBegin ws + (instructionCount ws * 7 + j) = omega arith in
-      rw z (past-blocks (instructionCount ws * 7 + j) ∙ after-rows 7 (instructionRow ws) wide-instruction (instructionCount ws) case_rows j)
+  past_instructions : (j : ℕ) → word (renamed new old ws) (cases_begin ws + j) ≡ get_or case_rows j 0
+  unfolding cases_begin
+  past_instructions j =
+      let z : instructions_begin ws + instruction_count ws * 7 + j ≡ instructions_begin ws + (instruction_count ws * 7 + j) = omega arith in
+      rw z (past_blocks (instruction_count ws * 7 + j) ∙ after_rows 7 (instruction_row ws) wide_instruction (instruction_count ws) case_rows j)
 
-  past_cases : (j : ℕ) → word (renamed new old ws) (placesBegin ws + j) ≡ get_or placeRows j 0
-  unfolding placesBegin
+  past_cases : (j : ℕ) → word (renamed new old ws) (places_begin ws + j) ≡ get_or place_rows j 0
+  unfolding places_begin
   past_cases j =
-      let z : casesBegin ws + caseCount ws * 2 + j ≡ casesBegin ws + (caseCount ws * 2 + j) = omega arith in
-      rw z (past-instructions (caseCount ws * 2 + j) ∙ after-rows 2 (renamedCaseRow new ws) wide-case (caseCount ws) placeRows j)
+      let z : cases_begin ws + case_count ws * 2 + j ≡ cases_begin ws + (case_count ws * 2 + j) = omega arith in
+      rw z (past_instructions (case_count ws * 2 + j) ∙ after_rows 2 (renamed_case_row new ws) wide_case (case_count ws) place_rows j)
 
-  past-places : (j : ℕ) → word (renamed new old ws) (identifiersBegin ws + j) ≡ get_or identifierRows j 0
-  unfolding identifiersBegin
-  past-places j =
-      let z : placesBegin ws + placeCount ws + j ≡ placesBegin ws + (placeCount ws * 1 + j) = omega arith in
-      rw z (past_cases (placeCount ws * 1 + j) ∙ after-rows 1 (λ i. placeWord ws i ∷ []) (λ i. refl) (placeCount ws) identifierRows j)
+  past_places : (j : ℕ) → word (renamed new old ws) (identifiers_begin ws + j) ≡ get_or identifier_rows j 0
+  unfolding identifiers_begin
+  past_places j =
+      let z : places_begin ws + place_count ws + j ≡ places_begin ws + (place_count ws * 1 + j) = omega arith in
+      rw z (past_cases (place_count ws * 1 + j) ∙ after_rows 1 (λ i. place_word ws i ∷ []) (λ i. refl) (place_count ws) identifier_rows j)
 
-  at-instruction : (i : ℕ) → i < instructionCount ws → (k : ℕ) → k < 7 → word (renamed new old ws) (instructionsBegin ws + i * 7 + k) ≡ get_or (instructionRow ws i) k 0
-  at-instruction i h k l =
-      let z : instructionsBegin ws + i * 7 + k ≡ instructionsBegin ws + (i * 7 + k) = omega arith in
-      rw z (past-blocks (i * 7 + k) ∙ row_word 7 (instructionRow ws) wide-instruction (instructionCount ws) case_rows i k h l)
+  at_instruction : (i : ℕ) → i < instruction_count ws → (k : ℕ) → k < 7 → word (renamed new old ws) (instructions_begin ws + i * 7 + k) ≡ get_or (instruction_row ws i) k 0
+  at_instruction i h k l =
+      let z : instructions_begin ws + i * 7 + k ≡ instructions_begin ws + (i * 7 + k) = omega arith in
+      rw z (past_blocks (i * 7 + k) ∙ row_word 7 (instruction_row ws) wide_instruction (instruction_count ws) case_rows i k h l)
 
-  at-case : (i : ℕ) → i < caseCount ws → (k : ℕ) → k < 2 → word (renamed new old ws) (casesBegin ws + i * 2 + k) ≡ get_or (renamedCaseRow new ws i) k 0
-  at-case i h k l =
-      let z : casesBegin ws + i * 2 + k ≡ casesBegin ws + (i * 2 + k) = omega arith in
-      rw z (past-instructions (i * 2 + k) ∙ row_word 2 (renamedCaseRow new ws) wide-case (caseCount ws) placeRows i k h l)
+  at_case : (i : ℕ) → i < case_count ws → (k : ℕ) → k < 2 → word (renamed new old ws) (cases_begin ws + i * 2 + k) ≡ get_or (renamed_case_row new ws i) k 0
+  at_case i h k l =
+      let z : cases_begin ws + i * 2 + k ≡ cases_begin ws + (i * 2 + k) = omega arith in
+      rw z (past_instructions (i * 2 + k) ∙ row_word 2 (renamed_case_row new ws) wide_case (case_count ws) place_rows i k h l)
 
-  at_place : (i : ℕ) → i < placeCount ws → word (renamed new old ws) (placesBegin ws + i) ≡ placeWord ws i
+  at_place : (i : ℕ) → i < place_count ws → word (renamed new old ws) (places_begin ws + i) ≡ place_word ws i
   at_place i h =
-      let z : placesBegin ws + i ≡ placesBegin ws + (i * 1 + 0) = omega arith in
-      rw z (past_cases (i * 1 + 0) ∙ row_word 1 (λ i. placeWord ws i ∷ []) (λ i. refl) (placeCount ws) identifierRows i 0 h (omega arith))
+      let z : places_begin ws + i ≡ places_begin ws + (i * 1 + 0) = omega arith in
+      rw z (past_cases (i * 1 + 0) ∙ row_word 1 (λ i. place_word ws i ∷ []) (λ i. refl) (place_count ws) identifier_rows i 0 h (omega arith))
 
-  at-identifier : (i : ℕ) → i < identifierCount ws → word (renamed new old ws) (identifiersBegin ws + i) ≡ identifierWord ws i
-  at-identifier i h =
-      let z : identifiersBegin ws + i ≡ identifiersBegin ws + (i * 1 + 0) = omega arith in
-      rw z (past-places (i * 1 + 0) ∙ (ap (λ (l : List ℕ). get_or l (i * 1 + 0) 0) (sym (append-nil identifierRows))
-      ∙ row_word 1 (λ i. identifierWord ws i ∷ []) (λ i. refl) (identifierCount ws) [] i 0 h (omega arith)))
+  at_identifier : (i : ℕ) → i < identifier_count ws → word (renamed new old ws) (identifiers_begin ws + i) ≡ identifier_word ws i
+  at_identifier i h =
+      let z : identifiers_begin ws + i ≡ identifiers_begin ws + (i * 1 + 0) = omega arith in
+      rw z (past_places (i * 1 + 0) ∙ (ap (λ (l : List ℕ). get_or l (i * 1 + 0) 0) (sym (append-nil identifier_rows))
+      ∙ row_word 1 (λ i. identifier_word ws i ∷ []) (λ i. refl) (identifier_count ws) [] i 0 h (omega arith)))
 
   -- the counts of the renamed words are the same, and so are the beginnings
-  same-begins : (instructionsBegin (renamed new old ws) ≡ instructionsBegin ws) × (casesBegin (renamed new old ws) ≡ casesBegin ws)
-      × (placesBegin (renamed new old ws) ≡ placesBegin ws) × (identifiersBegin (renamed new old ws) ≡ identifiersBegin ws)
-  unfolding renamed blockCount instructionCount caseCount placeCount word instructionsBegin casesBegin placesBegin identifiersBegin
-  same-begins = (refl, refl, refl, refl)
+  same_begins : (instructions_begin (renamed new old ws) ≡ instructions_begin ws) × (cases_begin (renamed new old ws) ≡ cases_begin ws)
+      × (places_begin (renamed new old ws) ≡ places_begin ws) × (identifiers_begin (renamed new old ws) ≡ identifiers_begin ws)
+  unfolding renamed block_count instruction_count case_count place_count word instructions_begin cases_begin places_begin identifiers_begin
+  same_begins = (refl, refl, refl, refl)
 
-  instruction-column : (i k : ℕ) → k < 7 → get_or (instructionRow ws i) k 0 ≡ instructionWord ws i k
-  unfolding instructionRow
-  instruction-column i zero h = refl
-  instruction-column i (suc zero) h = refl
-  instruction-column i (suc (suc zero)) h = refl
-  instruction-column i (suc (suc (suc zero))) h = refl
-  instruction-column i (suc (suc (suc (suc zero)))) h = refl
-  instruction-column i (suc (suc (suc (suc (suc zero))))) h = refl
-  instruction-column i (suc (suc (suc (suc (suc (suc zero)))))) h = refl
-  instruction-column i (suc (suc (suc (suc (suc (suc (suc k))))))) h = absurd (omega arith)
+  instruction_column : (i k : ℕ) → k < 7 → get_or (instruction_row ws i) k 0 ≡ instruction_word ws i k
+  unfolding instruction_row
+  instruction_column i zero h = refl
+  instruction_column i (suc zero) h = refl
+  instruction_column i (suc (suc zero)) h = refl
+  instruction_column i (suc (suc (suc zero))) h = refl
+  instruction_column i (suc (suc (suc (suc zero)))) h = refl
+  instruction_column i (suc (suc (suc (suc (suc zero))))) h = refl
+  instruction_column i (suc (suc (suc (suc (suc (suc zero)))))) h = refl
+  instruction_column i (suc (suc (suc (suc (suc (suc (suc k))))))) h = absurd (omega arith)
 
-  pub renamed-is : Sized ws → RenamedWords new old ws (renamed new old ws)
-  unfolding renamed entryWord blockCount instructionCount caseCount placeCount identifierCount word instructionWord caseWord placeWord identifierWord renamedCaseRow
-  renamed-is s = record {
-    long = renamed-long ∙ sym s.long;
+  pub renamed_is : Sized ws → RenamedWords new old ws (renamed new old ws)
+  unfolding renamed entry_word block_count instruction_count case_count place_count identifier_count word instruction_word case_word place_word identifier_word renamed_case_row
+  renamed_is s = record {
+    long = renamed_long ∙ sym s.long;
     entry = refl;
     blocks = refl;
     instructions = refl;
@@ -170,88 +170,88 @@ module _ (new old : ℕ → ℕ) (ws : List ℕ) where
     places = refl;
     identifiers = refl;
     block = at_block;
-    instruction = λ i h k l. rw same-begins.0 (at-instruction i h k l ∙ instruction-column i k l);
-    case-test = λ i h. rw same-begins.1 (at-case i h 0 (omega arith));
-    case-block = λ i h. rw same-begins.1 (at-case i h 1 (omega arith));
-    place = λ i h. rw same-begins.2 (at_place i h);
-    identifier = λ i h. rw same-begins.3 (at-identifier i h);
+    instruction = λ i h k l. rw same_begins.0 (at_instruction i h k l ∙ instruction_column i k l);
+    case_test = λ i h. rw same_begins.1 (at_case i h 0 (omega arith));
+    case_block = λ i h. rw same_begins.1 (at_case i h 1 (omega arith));
+    place = λ i h. rw same_begins.2 (at_place i h);
+    identifier = λ i h. rw same_begins.3 (at_identifier i h);
   }
 
 -- ---- no other words are so related
 
 module _ (new old : ℕ → ℕ) (ws ws' : List ℕ) (r : RenamedWords new old ws ws') where
-  pub begin-instructions : instructionsBegin ws' ≡ instructionsBegin ws
-  unfolding instructionsBegin
-  begin-instructions = rw r.blocks
+  pub begin_instructions : instructions_begin ws' ≡ instructions_begin ws
+  unfolding instructions_begin
+  begin_instructions = rw r.blocks
 
-  pub begin-cases : casesBegin ws' ≡ casesBegin ws
-  unfolding casesBegin
-  begin-cases = rw (begin-instructions, r.instructions)
+  pub begin_cases : cases_begin ws' ≡ cases_begin ws
+  unfolding cases_begin
+  begin_cases = rw (begin_instructions, r.instructions)
 
-  pub begin-places : placesBegin ws' ≡ placesBegin ws
-  unfolding placesBegin
-  begin-places = rw (begin-cases, r.cases)
+  pub begin_places : places_begin ws' ≡ places_begin ws
+  unfolding places_begin
+  begin_places = rw (begin_cases, r.cases)
 
-  pub begin-identifiers : identifiersBegin ws' ≡ identifiersBegin ws
-  unfolding identifiersBegin
-  begin-identifiers = rw (begin-places, r.places)
+  pub begin_identifiers : identifiers_begin ws' ≡ identifiers_begin ws
+  unfolding identifiers_begin
+  begin_identifiers = rw (begin_places, r.places)
 
-  pub renamed-needed : wordsNeeded ws' ≡ wordsNeeded ws
-  unfolding wordsNeeded
-  renamed-needed = rw (begin-identifiers, r.identifiers)
+  pub renamed_needed : words_needed ws' ≡ words_needed ws
+  unfolding words_needed
+  renamed_needed = rw (begin_identifiers, r.identifiers)
 
   -- the words of ws', each by a word of ws
-  pub instruction-word : (i : ℕ) → i < instructionCount ws → (k : ℕ) → k < 7 → word ws' (instructionsBegin ws + i * 7 + k) ≡ instructionWord ws i k
-  unfolding instructionWord
-  instruction-word i h k l = rw begin-instructions at (r.instruction i h k l)
+  pub instruction_word_lem : (i : ℕ) → i < instruction_count ws → (k : ℕ) → k < 7 → word ws' (instructions_begin ws + i * 7 + k) ≡ instruction_word ws i k
+  unfolding instruction_word
+  instruction_word_lem i h k l = rw begin_instructions at (r.instruction i h k l)
 
-  pub case-word : (i : ℕ) → i < caseCount ws → (k : ℕ) → k < 2 → word ws' (casesBegin ws + i * 2 + k) ≡ get_or (renamedCaseRow new ws i) k 0
-  unfolding caseWord renamedCaseRow
-  case-word i h zero l = rw begin-cases at (r.case-test i h)
-  case-word i h (suc zero) l = rw begin-cases at (r.case-block i h)
-  case-word i h (suc (suc k)) l = absurd (omega arith)
+  pub case_word_lem : (i : ℕ) → i < case_count ws → (k : ℕ) → k < 2 → word ws' (cases_begin ws + i * 2 + k) ≡ get_or (renamed_case_row new ws i) k 0
+  unfolding case_word renamed_case_row
+  case_word_lem i h zero l = rw begin_cases at (r.case_test i h)
+  case_word_lem i h (suc zero) l = rw begin_cases at (r.case_block i h)
+  case_word_lem i h (suc (suc k)) l = absurd (omega arith)
 
-  pub place-word : (i : ℕ) → i < placeCount ws → word ws' (placesBegin ws + i) ≡ placeWord ws i
-  unfolding placeWord
-  place-word i h = rw begin-places at (r.place i h)
+  pub place_word_lem : (i : ℕ) → i < place_count ws → word ws' (places_begin ws + i) ≡ place_word ws i
+  unfolding place_word
+  place_word_lem i h = rw begin_places at (r.place i h)
 
-  pub identifier-word : (i : ℕ) → i < identifierCount ws → word ws' (identifiersBegin ws + i) ≡ identifierWord ws i
-  unfolding identifierWord
-  identifier-word i h = rw begin-identifiers at (r.identifier i h)
+  pub identifier_word_lem : (i : ℕ) → i < identifier_count ws → word ws' (identifiers_begin ws + i) ≡ identifier_word ws i
+  unfolding identifier_word
+  identifier_word_lem i h = rw begin_identifiers at (r.identifier i h)
 
 module _ (new old : ℕ → ℕ) (ws a b : List ℕ) (p : RenamedWords new old ws a) (q : RenamedWords new old ws b) where
   abbrev Same : ℕ → Type 0
   Same j = word a j ≡ word b j
 
-  head-same : (j : ℕ) → j < 6 → Same j
-  unfolding entryWord blockCount instructionCount caseCount placeCount identifierCount
-  head-same zero h = p.entry ∙ sym q.entry
-  head-same (suc zero) h = p.blocks ∙ sym q.blocks
-  head-same (suc (suc zero)) h = p.instructions ∙ sym q.instructions
-  head-same (suc (suc (suc zero))) h = p.cases ∙ sym q.cases
-  head-same (suc (suc (suc (suc zero)))) h = p.places ∙ sym q.places
-  head-same (suc (suc (suc (suc (suc zero))))) h = p.identifiers ∙ sym q.identifiers
-  head-same (suc (suc (suc (suc (suc (suc j)))))) h = absurd (omega arith)
+  head_same : (j : ℕ) → j < 6 → Same j
+  unfolding entry_word block_count instruction_count case_count place_count identifier_count
+  head_same zero h = p.entry ∙ sym q.entry
+  head_same (suc zero) h = p.blocks ∙ sym q.blocks
+  head_same (suc (suc zero)) h = p.instructions ∙ sym q.instructions
+  head_same (suc (suc (suc zero))) h = p.cases ∙ sym q.cases
+  head_same (suc (suc (suc (suc zero)))) h = p.places ∙ sym q.places
+  head_same (suc (suc (suc (suc (suc zero))))) h = p.identifiers ∙ sym q.identifiers
+  head_same (suc (suc (suc (suc (suc (suc j)))))) h = absurd (omega arith)
 
-  blocks-same : (j : ℕ) → 6 ≤ j → j < 6 + blockCount ws * 11 → Same j
-  unfolding blockWord blocksBegin
-  blocks-same = by_rows 11 Same 6 (blockCount ws) (omega arith) (λ i h k l. p.block i h k l ∙ sym (q.block i h k l))
+  blocks_same : (j : ℕ) → 6 ≤ j → j < 6 + block_count ws * 11 → Same j
+  unfolding block_word blocks_begin
+  blocks_same = by_rows 11 Same 6 (block_count ws) (omega arith) (λ i h k l. p.block i h k l ∙ sym (q.block i h k l))
 
-  instructions-same : (j : ℕ) → instructionsBegin ws ≤ j → j < instructionsBegin ws + instructionCount ws * 7 → Same j
-  instructions-same = by_rows 7 Same (instructionsBegin ws) (instructionCount ws) (omega arith) (λ i h k l. instruction-word new old ws a p i h k l ∙ sym (instruction-word new old ws b q i h k l))
+  instructions_same : (j : ℕ) → instructions_begin ws ≤ j → j < instructions_begin ws + instruction_count ws * 7 → Same j
+  instructions_same = by_rows 7 Same (instructions_begin ws) (instruction_count ws) (omega arith) (λ i h k l. instruction_word_lem new old ws a p i h k l ∙ sym (instruction_word_lem new old ws b q i h k l))
 
-  cases_same : (j : ℕ) → casesBegin ws ≤ j → j < casesBegin ws + caseCount ws * 2 → Same j
-  cases_same = by_rows 2 Same (casesBegin ws) (caseCount ws) (omega arith) (λ i h k l. case-word new old ws a p i h k l ∙ sym (case-word new old ws b q i h k l))
+  cases_same : (j : ℕ) → cases_begin ws ≤ j → j < cases_begin ws + case_count ws * 2 → Same j
+  cases_same = by_rows 2 Same (cases_begin ws) (case_count ws) (omega arith) (λ i h k l. case_word_lem new old ws a p i h k l ∙ sym (case_word_lem new old ws b q i h k l))
 
-  places_same : (j : ℕ) → placesBegin ws ≤ j → j < placesBegin ws + placeCount ws → Same j
+  places_same : (j : ℕ) → places_begin ws ≤ j → j < places_begin ws + place_count ws → Same j
   places_same j h l =
-      let z : placesBegin ws + (j - placesBegin ws) ≡ j = omega arith in
-      subst Same z (place-word new old ws a p (j - placesBegin ws) (omega arith) ∙ sym (place-word new old ws b q (j - placesBegin ws) (omega arith)))
+      let z : places_begin ws + (j - places_begin ws) ≡ j = omega arith in
+      subst Same z (place_word_lem new old ws a p (j - places_begin ws) (omega arith) ∙ sym (place_word_lem new old ws b q (j - places_begin ws) (omega arith)))
 
-  identifiers-same : (j : ℕ) → identifiersBegin ws ≤ j → j < identifiersBegin ws + identifierCount ws → Same j
-  identifiers-same j h l =
-      let z : identifiersBegin ws + (j - identifiersBegin ws) ≡ j = omega arith in
-      subst Same z (identifier-word new old ws a p (j - identifiersBegin ws) (omega arith) ∙ sym (identifier-word new old ws b q (j - identifiersBegin ws) (omega arith)))
+  identifiers_same : (j : ℕ) → identifiers_begin ws ≤ j → j < identifiers_begin ws + identifier_count ws → Same j
+  identifiers_same j h l =
+      let z : identifiers_begin ws + (j - identifiers_begin ws) ≡ j = omega arith in
+      subst Same z (identifier_word_lem new old ws a p (j - identifiers_begin ws) (omega arith) ∙ sym (identifier_word_lem new old ws b q (j - identifiers_begin ws) (omega arith)))
 
   -- below a bound, or from it on
   split : {A : Type 0} (j n : ℕ) → (j < n → A) → (n ≤ j → A) → A
@@ -261,66 +261,66 @@ module _ (new old : ℕ → ℕ) (ws a b : List ℕ) (p : RenamedWords new old w
       by true e = f (ltb-true _ _ e)
       by false e = g (ltb-false _ _ e)
 
-  pub one-renamed : Sized ws → a ≡ b
-  unfolding word instructionsBegin casesBegin placesBegin identifiersBegin wordsNeeded blocksBegin
-  one-renamed s = ext_get_or 0 a b (p.long ∙ sym q.long) (λ j h.
-      split j 6 (head-same j) (λ l.
-      split j (instructionsBegin ws) (blocks-same j l) (λ l.
-      split j (casesBegin ws) (instructions-same j l) (λ l.
-      split j (placesBegin ws) (cases_same j l) (λ l.
-      split j (identifiersBegin ws) (places_same j l) (λ l.
-      identifiers-same j l (omega (arith, p.long, s.long))))))))
+  pub one_renamed : Sized ws → a ≡ b
+  unfolding word instructions_begin cases_begin places_begin identifiers_begin words_needed blocks_begin
+  one_renamed s = ext_get_or 0 a b (p.long ∙ sym q.long) (λ j h.
+      split j 6 (head_same j) (λ l.
+      split j (instructions_begin ws) (blocks_same j l) (λ l.
+      split j (cases_begin ws) (instructions_same j l) (λ l.
+      split j (places_begin ws) (cases_same j l) (λ l.
+      split j (identifiers_begin ws) (places_same j l) (λ l.
+      identifiers_same j l (omega (arith, p.long, s.long))))))))
 
 -- what the code promises of each word it writes gives the whole list
-pub renamed-words : (new old : ℕ → ℕ) (ws ws' : List ℕ) → Sized ws → RenamedWords new old ws ws' → ws' ≡ renamed new old ws
-renamed-words new old ws ws' s r = one-renamed new old ws ws' (renamed new old ws) r (renamed-is new old ws s) s
+pub renamed_words : (new old : ℕ → ℕ) (ws ws' : List ℕ) → Sized ws → RenamedWords new old ws ws' → ws' ≡ renamed new old ws
+renamed_words new old ws ws' s r = one_renamed new old ws ws' (renamed new old ws) r (renamed_is new old ws s) s
 
 -- ---- and back
 
-module _ (new old : ℕ → ℕ) (ws ws' : List ℕ) (inverse : (b : ℕ) → old (new b) ≡ b) (below : (b : ℕ) → b < blockCount ws → new b < blockCount ws) (r : RenamedWords new old ws ws') where
-  undo-if : (y : Bool) (w : ℕ) → renamedIf y old (renamedIf y new w) ≡ w
-  undo-if true w = inverse w
-  undo-if false w = refl
+module _ (new old : ℕ → ℕ) (ws ws' : List ℕ) (inverse : (b : ℕ) → old (new b) ≡ b) (below : (b : ℕ) → b < block_count ws → new b < block_count ws) (r : RenamedWords new old ws ws') where
+  undo_if : (y : Bool) (w : ℕ) → renamed_if y old (renamed_if y new w) ≡ w
+  undo_if true w = inverse w
+  undo_if false w = refl
 
-  module _ (b : ℕ) (h : b < blockCount ws) where
-    column : (k : ℕ) → k < 11 → blockWord ws' (new b) k ≡ get_or (renamedBlockRow new ws b) k 0
-    column k l = subst (λ (z : ℕ). blockWord ws' (new b) k ≡ get_or (renamedBlockRow new ws z) k 0) (inverse b) (r.block (new b) (below b h) k l)
+  module _ (b : ℕ) (h : b < block_count ws) where
+    column : (k : ℕ) → k < 11 → block_word ws' (new b) k ≡ get_or (renamed_block_row new ws b) k 0
+    column k l = subst (λ (z : ℕ). block_word ws' (new b) k ≡ get_or (renamed_block_row new ws z) k 0) (inverse b) (r.block (new b) (below b h) k l)
 
-    code-column : blockWord ws' (new b) 2 ≡ blockWord ws b 2
-    unfolding renamedBlockRow
-    code-column = column 2 (omega arith)
+    code_column : block_word ws' (new b) 2 ≡ block_word ws b 2
+    unfolding renamed_block_row
+    code_column = column 2 (omega arith)
 
-    undone-name : (j w' w : ℕ) → w' ≡ renamedIf (namesBlock (blockWord ws b 2) j) new w → renamedIf (namesBlock (blockWord ws' (new b) 2) j) old w' ≡ w
-    undone-name j w' w e = rw (code-column, e) (undo-if (namesBlock (blockWord ws b 2) j) w)
+    undone_name : (j w' w : ℕ) → w' ≡ renamed_if (names_block (block_word ws b 2) j) new w → renamed_if (names_block (block_word ws' (new b) 2) j) old w' ≡ w
+    undone_name j w' w e = rw (code_column, e) (undo_if (names_block (block_word ws b 2) j) w)
 
-    undone-column : (k : ℕ) → k < 11 → blockWord ws b k ≡ get_or (renamedBlockRow old ws' (new b)) k 0
-    unfolding renamedBlockRow
-    undone-column zero l = sym (column 0 l)
-    undone-column (suc zero) l = sym (column 1 l)
-    undone-column (suc (suc zero)) l = sym (column 2 l)
-    undone-column (suc (suc (suc zero))) l = sym (undone-name 0 _ _ (column 3 l))
-    undone-column (suc (suc (suc (suc zero)))) l = sym (undone-name 1 _ _ (column 4 l))
-    undone-column (suc (suc (suc (suc (suc zero))))) l = sym (undone-name 2 _ _ (column 5 l))
-    undone-column (suc (suc (suc (suc (suc (suc zero)))))) l = sym (undone-name 3 _ _ (column 6 l))
-    undone-column (suc (suc (suc (suc (suc (suc (suc zero))))))) l = sym (undone-name 4 _ _ (column 7 l))
-    undone-column (suc (suc (suc (suc (suc (suc (suc (suc zero)))))))) l = sym (column 8 l)
-    undone-column (suc (suc (suc (suc (suc (suc (suc (suc (suc zero))))))))) l = sym (column 9 l)
-    undone-column (suc (suc (suc (suc (suc (suc (suc (suc (suc (suc zero)))))))))) l = sym (column 10 l)
-    undone-column (suc (suc (suc (suc (suc (suc (suc (suc (suc (suc (suc k))))))))))) l = absurd (omega arith)
+    undone_column : (k : ℕ) → k < 11 → block_word ws b k ≡ get_or (renamed_block_row old ws' (new b)) k 0
+    unfolding renamed_block_row
+    undone_column zero l = sym (column 0 l)
+    undone_column (suc zero) l = sym (column 1 l)
+    undone_column (suc (suc zero)) l = sym (column 2 l)
+    undone_column (suc (suc (suc zero))) l = sym (undone_name 0 _ _ (column 3 l))
+    undone_column (suc (suc (suc (suc zero)))) l = sym (undone_name 1 _ _ (column 4 l))
+    undone_column (suc (suc (suc (suc (suc zero))))) l = sym (undone_name 2 _ _ (column 5 l))
+    undone_column (suc (suc (suc (suc (suc (suc zero)))))) l = sym (undone_name 3 _ _ (column 6 l))
+    undone_column (suc (suc (suc (suc (suc (suc (suc zero))))))) l = sym (undone_name 4 _ _ (column 7 l))
+    undone_column (suc (suc (suc (suc (suc (suc (suc (suc zero)))))))) l = sym (column 8 l)
+    undone_column (suc (suc (suc (suc (suc (suc (suc (suc (suc zero))))))))) l = sym (column 9 l)
+    undone_column (suc (suc (suc (suc (suc (suc (suc (suc (suc (suc zero)))))))))) l = sym (column 10 l)
+    undone_column (suc (suc (suc (suc (suc (suc (suc (suc (suc (suc (suc k))))))))))) l = absurd (omega arith)
 
   pub undone : RenamedWords old new ws' ws
   undone = record {
     long = sym r.long;
-    entry = sym (ap old r.entry ∙ inverse (entryWord ws));
+    entry = sym (ap old r.entry ∙ inverse (entry_word ws));
     blocks = sym r.blocks;
     instructions = sym r.instructions;
     cases = sym r.cases;
     places = sym r.places;
     identifiers = sym r.identifiers;
-    block = λ b h k l. undone-column b (omega (arith, h, r.blocks)) k l;
+    block = λ b h k l. undone_column b (omega (arith, h, r.blocks)) k l;
     instruction = λ i h k l. sym (r.instruction i (omega (arith, h, r.instructions)) k l);
-    case-test = λ i h. sym (r.case-test i (omega (arith, h, r.cases)));
-    case-block = λ i h. sym (ap old (r.case-block i (omega (arith, h, r.cases))) ∙ inverse (caseWord ws i 1));
+    case_test = λ i h. sym (r.case_test i (omega (arith, h, r.cases)));
+    case_block = λ i h. sym (ap old (r.case_block i (omega (arith, h, r.cases))) ∙ inverse (case_word ws i 1));
     place = λ i h. sym (r.place i (omega (arith, h, r.places)));
     identifier = λ i h. sym (r.identifier i (omega (arith, h, r.identifiers)));
   }

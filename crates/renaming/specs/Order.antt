@@ -1,7 +1,7 @@
 -- M-111: the list of old numbers, the renaming that it stands for, and the order of a breadth-first walk.
 use Rattle.std.specs.Prelude.{◌≡◌, ℕ, zero, suc, ◌<◌, List, [], ◌∷◌, ◌++◌, Bool, true, false, not, ◌&&◌, get_or, length, replicate, eqb, ltb}
 use Rattle.table.specs.Table.{Table, rows_from, table_of}
-use Rattle.table.specs.Words.{blockCount}
+use Rattle.table.specs.Words.{block_count}
 use Rattle.table.specs.Check.{accepted, refused, checked}
 use Rattle.definition.specs.Completion.{contains}
 use Rattle.table.specs.Lines.{named_at}
@@ -14,57 +14,57 @@ abbrev pub all_below : ℕ → List ℕ → Bool
 all_below n [] = true
 all_below n (b ∷ list) = ltb b n && all_below n list
 
-abbrev pub noneTwice : List ℕ → Bool
-noneTwice [] = true
-noneTwice (b ∷ list) = not (contains list b) && noneTwice list
+abbrev pub none_twice : List ℕ → Bool
+none_twice [] = true
+none_twice (b ∷ list) = not (contains list b) && none_twice list
 
-unfoldable pub isPermutation : ℕ → List ℕ → Bool
-isPermutation n list = eqb (length list) n && (all_below n list && noneTwice list)
+unfoldable pub is_permutation : ℕ → List ℕ → Bool
+is_permutation n list = eqb (length list) n && (all_below n list && none_twice list)
 
 -- the old number of a block: what stands at its place in the list. A number beyond the list is its own
-unfoldable pub oldNumber : List ℕ → ℕ → ℕ
-oldNumber list b = get_or list b b
+unfoldable pub old_number : List ℕ → ℕ → ℕ
+old_number list b = get_or list b b
 
 -- its new number: the place where it stands. A number that is not in the list is its own
-abbrev pub placeFrom : (place : ℕ) → List ℕ → ℕ → ℕ
-placeFrom place [] b = b
-placeFrom place (old ∷ list) b = elim (eqb old b) [ true ↦ place | false ↦ placeFrom (suc place) list b ]
+abbrev pub place_from : (place : ℕ) → List ℕ → ℕ → ℕ
+place_from place [] b = b
+place_from place (old ∷ list) b = elim (eqb old b) [ true ↦ place | false ↦ place_from (suc place) list b ]
 
-unfoldable pub newNumber : List ℕ → ℕ → ℕ
-newNumber list b = placeFrom 0 list b
+unfoldable pub new_number : List ℕ → ℕ → ℕ
+new_number list b = place_from 0 list b
 
 -- ---- the walk
 
 -- those of some names that are not in the list yet, each put at its end when it is first named
-abbrev pub withNamed : List ℕ → (names : List ℕ) → List ℕ
-withNamed found [] = found
-withNamed found (b ∷ names) = elim (contains found b) [ true ↦ withNamed found names | false ↦ withNamed (found ++ (b ∷ [])) names ]
+abbrev pub with_named : List ℕ → (names : List ℕ) → List ℕ
+with_named found [] = found
+with_named found (b ∷ names) = elim (contains found b) [ true ↦ with_named found names | false ↦ with_named (found ++ (b ∷ [])) names ]
 
 -- the block found at each place, from `place` on, names others: so many places are looked at, as far as there are any
-unfoldable pub walkFrom : Table → (places place : ℕ) → (found : List ℕ) → List ℕ
-walkFrom t zero place found = found
-walkFrom t (suc places) place found =
+unfoldable pub walk_from : Table → (places place : ℕ) → (found : List ℕ) → List ℕ
+walk_from t zero place found = found
+walk_from t (suc places) place found =
     elim (ltb place (length found)) [
-      | true ↦ walkFrom t places (suc place) (withNamed found (named_at t (get_or found place 0)))
+      | true ↦ walk_from t places (suc place) (with_named found (named_at t (get_or found place 0)))
       | false ↦ found
     ]
 
 -- the walk from the entry names every block
 abbrev pub AllNamed : Table → Type 0
-AllNamed t = (b : ℕ) → b < length t.blocks → contains (walkFrom t (length t.blocks) 0 (t.entry ∷ [])) b ≡ true
+AllNamed t = (b : ℕ) → b < length t.blocks → contains (walk_from t (length t.blocks) 0 (t.entry ∷ [])) b ≡ true
 
 -- "the entry becomes 0, the others follow as a breadth-first walk along M-110's lines first names them, and blocks it never names come last in their old order"
-unfoldable pub walkingOrder : Table → List ℕ
-walkingOrder t = withNamed (walkFrom t (length t.blocks) 0 (t.entry ∷ [])) (rows_from 0 (length t.blocks))
+unfoldable pub walking_order : Table → List ℕ
+walking_order t = with_named (walk_from t (length t.blocks) 0 (t.entry ∷ [])) (rows_from 0 (length t.blocks))
 
 -- ---- the two operations, of words with no refusal 1 to 4
 
 unfoldable pub rearranged : List ℕ → List ℕ
-rearranged words = renamed (newNumber (walkingOrder (table_of words))) (oldNumber (walkingOrder (table_of words))) words
+rearranged words = renamed (new_number (walking_order (table_of words))) (old_number (walking_order (table_of words))) words
 
 -- "renames every block, the entry too, to its old number in the list": the row of a block is the one at its new number
-unfoldable pub restoredBy : (list : List ℕ) → List ℕ → List ℕ
-restoredBy list words = renamed (oldNumber list) (newNumber list) words
+unfoldable pub restored_by : (list : List ℕ) → List ℕ → List ℕ
+restored_by list words = renamed (old_number list) (new_number list) words
 
 -- ---- the whole, for any words and any lent lengths. "A refusal leaves zeros in every output."
 
@@ -75,18 +75,18 @@ pub record Rearrangement : Type 0 where
   pub table : List ℕ
   pub list : List ℕ
 
-unfoldable pub refusedRearrangement : (code at lentTable lentList : ℕ) → Rearrangement
-refusedRearrangement code at lentTable lentList = record { code = code; at = at; table = replicate lentTable 0; list = replicate lentList 0 }
+unfoldable pub refused_rearrangement : (code at lent_table lent_list : ℕ) → Rearrangement
+refused_rearrangement code at lent_table lent_list = record { code = code; at = at; table = replicate lent_table 0; list = replicate lent_list 0 }
 
 -- "1 to 4 first; 45, at 0, when an output's length isn't just the one needed"
-unfoldable pub rearrangement : (words : List ℕ) → (lentTable lentList : ℕ) → Rearrangement
-rearrangement words lentTable lentList =
+unfoldable pub rearrangement : (words : List ℕ) → (lent_table lent_list : ℕ) → Rearrangement
+rearrangement words lent_table lent_list =
     elim (checked words) [
-      | refused code at ↦ refusedRearrangement code at lentTable lentList
+      | refused code at ↦ refused_rearrangement code at lent_table lent_list
       | accepted ↦
-          elim (eqb lentTable (length words) && eqb lentList (blockCount words)) [
-            | true ↦ record { code = 0; at = 0; table = rearranged words; list = walkingOrder (table_of words) }
-            | false ↦ refusedRearrangement 45 0 lentTable lentList
+          elim (eqb lent_table (length words) && eqb lent_list (block_count words)) [
+            | true ↦ record { code = 0; at = 0; table = rearranged words; list = walking_order (table_of words) }
+            | false ↦ refused_rearrangement 45 0 lent_table lent_list
           ]
     ]
 
@@ -95,21 +95,21 @@ pub record Restoration : Type 0 where
   pub at : ℕ
   pub table : List ℕ
 
-unfoldable pub refusedRestoration : (code at lentTable : ℕ) → Restoration
-refusedRestoration code at lentTable = record { code = code; at = at; table = replicate lentTable 0 }
+unfoldable pub refused_restoration : (code at lent_table : ℕ) → Restoration
+refused_restoration code at lent_table = record { code = code; at = at; table = replicate lent_table 0 }
 
 -- "46, at 0, in the inverse, after 45, when the list isn't a permutation of the block numbers"
-unfoldable pub restoration : (words list : List ℕ) → (lentTable : ℕ) → Restoration
-restoration words list lentTable =
+unfoldable pub restoration : (words list : List ℕ) → (lent_table : ℕ) → Restoration
+restoration words list lent_table =
     elim (checked words) [
-      | refused code at ↦ refusedRestoration code at lentTable
+      | refused code at ↦ refused_restoration code at lent_table
       | accepted ↦
-          elim (eqb lentTable (length words)) [
+          elim (eqb lent_table (length words)) [
             | true ↦
-                elim (isPermutation (blockCount words) list) [
-                  | true ↦ record { code = 0; at = 0; table = restoredBy list words }
-                  | false ↦ refusedRestoration 46 0 lentTable
+                elim (is_permutation (block_count words) list) [
+                  | true ↦ record { code = 0; at = 0; table = restored_by list words }
+                  | false ↦ refused_restoration 46 0 lent_table
                 ]
-            | false ↦ refusedRestoration 45 0 lentTable
+            | false ↦ refused_restoration 45 0 lent_table
           ]
     ]

@@ -9,18 +9,18 @@ use lib.Dec.{eqb}
 use borrow.Author.Tests.{eq-eqb, eqb-true}
 use Rattle.table.specs.declared.columns.Span.{Span}
 use Rattle.table.specs.Promise.{Ends, Heads}
-use Rattle.table.specs.Table.{Terminal, table_of, terminalAt, goto, Variant, Break, Continue, Try, variant_of}
-use Rattle.table.proofs.BlockLaws.{no_number, try-variant}
-use Rattle.definition.specs.Context.{Flags, getBreakTarget, getContinueTarget}
+use Rattle.table.specs.Table.{Terminal, table_of, terminal_at, goto, Variant, Break, Continue, Try, variant_of}
+use Rattle.table.proofs.BlockLaws.{no_number, try_variant}
+use Rattle.definition.specs.Context.{Flags, get_break_target, get_continue_target}
 use Rattle.definition.specs.Context as definition
-use Rattle.machine.specs.Machine.{State, ended, turn, leave, terminalTurn}
-use Rattle.definition.specs.Output.{Output, ◌⊕◌, jumpOut, added}
+use Rattle.machine.specs.Machine.{State, ended, turn, leave, terminal_turn}
+use Rattle.definition.specs.Output.{Output, ◌⊕◌, jump_out, added}
 use Rattle.definition.specs.Around.{Around}
-use Rattle.machine.specs.Goal.{Goal, breakTo, continueTo}
-use Rattle.machine.proofs.Goals.{break-goal, continue-goal}
+use Rattle.machine.specs.Goal.{Goal, break_to, continue_to}
+use Rattle.machine.proofs.Goals.{break_goal_lem, continue_goal_lem}
 use Rattle.machine.specs.Machine as machine
 use Rattle.definition.specs.Result.{Result, ok, refused, ◌>>=◌}
-use Rattle.definition.specs.Statement.{visitGoto, visitBreak, visitContinue, TerminalResult}
+use Rattle.definition.specs.Statement.{visit_goto, visit_break, visit_continue, TerminalResult}
 use Rattle.definition.specs.Tree.{Row, Statement}
 use Rattle.control.specs.declared.around.Aim.{Aim}
 use Rattle.control.specs.AroundAbstraction.{aim_of}
@@ -29,61 +29,61 @@ use Rattle.statements.specs.declared.plan.Position.{Position}
 use Rattle.statements.specs.declared.plan.Change.TheVariants.{Nothing}
 use Rattle.statements.specs.declared.plan.Plan.{Plan}
 use Rattle.statements.specs.Plans.{leaving}
-use Rattle.statements.specs.Jumps.{JumpSeen, JumpMet, jumpedTo, breakOutcome, continueOutcome, afterJumpBy, afterJump, GotoSeen}
-use Rattle.statements.specs.Planned.{Planned, terminalStepIn}
+use Rattle.statements.specs.Jumps.{JumpSeen, JumpMet, jumped_to, break_outcome, continue_outcome, after_jump_by, after_jump, GotoSeen}
+use Rattle.statements.specs.Planned.{Planned, terminal_step_in}
 use Rattle.statements.specs.Turn.{Resolves}
-use Rattle.statements.proofs.PlanLaws.{within_all, visits-same, refuse-applied, leave-applied}
-use Rattle.statements.proofs.StepLaws.{turn-refused, turn-ok}
+use Rattle.statements.proofs.PlanLaws.{within_all, visits_same, refuse_applied, leave_applied}
+use Rattle.statements.proofs.StepLaws.{turn_refused, turn_ok}
 use Rattle.statements.proofs.PlannedLaws.{step_in}
 
 -- a jump and then the end of the list
-abbrev jumpStep : Position → (definition.Context → Result (Option Statement)) → List machine.Frame → Output → definition.Context → Result State
-jumpStep p outcome F R C = outcome C >>= λ s. ok (ended F (R ⊕ jumpOut s) (added s p.count) C)
+abbrev jump_step : Position → (definition.Context → Result (Option Statement)) → List machine.Frame → Output → definition.Context → Result State
+jump_step p outcome F R C = outcome C >>= λ s. ok (ended F (R ⊕ jump_out s) (added s p.count) C)
 
-added-count : (s : Option Statement) (n : ℕ) → n + added s 0 ≡ added s n
-added-count none n = omega arith
-added-count (some s) n = omega arith
+added_count : (s : Option Statement) (n : ℕ) → n + added s 0 ≡ added s n
+added_count none n = omega arith
+added_count (some s) n = omega arith
 
-pub jump-planned : (around : Around) (w : List ℕ) (p : Position) (On : definition.Context → Type 0) (outcome : definition.Context
+pub jump_planned : (around : Around) (w : List ℕ) (p : Position) (On : definition.Context → Type 0) (outcome : definition.Context
     → Result (Option Statement)) (O : Flags) (b : List ℕ) (jump : Jumped) (b' : List ℕ) (plan : Plan)
-    → ((F : List machine.Frame) (R : Output) (C : definition.Context) → On C → terminalStepIn around w p F R C ≡ jumpStep p outcome F R C) → ((C : definition.Context) → On C → JumpSeen O p.visits C)
-    → JumpMet outcome O p.visits p.rows b jump b' → plan ≡ afterJump p jump → Planned (terminalStepIn around w p) On [] p.depth p.rows b plan b'
+    → ((F : List machine.Frame) (R : Output) (C : definition.Context) → On C → terminal_step_in around w p F R C ≡ jump_step p outcome F R C) → ((C : definition.Context) → On C → JumpSeen O p.visits C)
+    → JumpMet outcome O p.visits p.rows b jump b' → plan ≡ after_jump p jump → Planned (terminal_step_in around w p) On [] p.depth p.rows b plan b'
 unfolding ◌>>=◌
-jump-planned around w p On outcome O b jump b' plan step seen met e = subst (λ (z : Plan). Planned (terminalStepIn around w p) On [] p.depth p.rows b z b') (sym e) (by (eqb jump.code 0) refl)
+jump_planned around w p On outcome O b jump b' plan step seen met e = subst (λ (z : Plan). Planned (terminal_step_in around w p) On [] p.depth p.rows b z b') (sym e) (by (eqb jump.code 0) refl)
   where
     st : Option Statement
     st = met.statement
 
     cnt : eqb jump.code 0 ≡ true → p.count + jump.count ≡ added st p.count
-    cnt q = ap (λ (n : ℕ). p.count + n) (met.count (eqb-true jump.code 0 q)) ∙ added-count st p.count
+    cnt q = ap (λ (n : ℕ). p.count + n) (met.count (eqb-true jump.code 0 q)) ∙ added_count st p.count
 
-    by : (y : Bool) → eqb jump.code 0 ≡ y → Planned (terminalStepIn around w p) On [] p.depth p.rows b (afterJumpBy y p jump) b'
+    by : (y : Bool) → eqb jump.code 0 ≡ y → Planned (terminal_step_in around w p) On [] p.depth p.rows b (after_jump_by y p jump) b'
     by true q = record {
-      out = jumpOut st;
+      out = jump_out st;
       held = λ _ before h. met.held (eqb-true jump.code 0 q) before h;
       same =
-          λ F R C d o. ap turn (step F R C o ∙ ap (λ (z : Result (Option Statement)). z >>= λ s. ok (ended F (R ⊕ jumpOut s) (added s p.count) C))
-          (met.same C (seen C o) ∙ ap (λ (y : Bool). jumpedTo y jump st p.visits) q)) ∙ turn-ok _
-          ∙ sym (leave-applied 65535 p.depth (p.count + jump.count) jump.rows p.visits Nothing F (R ⊕ jumpOut st) C _ refl
-          ∙ rw (no_number, visits-same p.visits C (seen C o).visits, within_all p.depth F d.deep, cnt q));
+          λ F R C d o. ap turn (step F R C o ∙ ap (λ (z : Result (Option Statement)). z >>= λ s. ok (ended F (R ⊕ jump_out s) (added s p.count) C))
+          (met.same C (seen C o) ∙ ap (λ (y : Bool). jumped_to y jump st p.visits) q)) ∙ turn_ok _
+          ∙ sym (leave_applied 65535 p.depth (p.count + jump.count) jump.rows p.visits Nothing F (R ⊕ jump_out st) C _ refl
+          ∙ rw (no_number, visits_same p.visits C (seen C o).visits, within_all p.depth F d.deep, cnt q));
       fitting = λ _. record { change = tt; handler = rw no_number tt; scope = rw no_number tt; deep = λ z. absurd (let o : ◌≡◌ {A = ℕ} 0 1 = cc in omega arith); next = omega arith; nested = tt };
     }
     by false q = record {
       out = [];
       held = λ z. absurd (nz z);
       same =
-          λ F R C d o. ap turn (step F R C o ∙ ap (λ (z : Result (Option Statement)). z >>= λ s. ok (ended F (R ⊕ jumpOut s) (added s p.count) C))
-          (met.same C (seen C o) ∙ ap (λ (y : Bool). jumpedTo y jump st p.visits) q))
-          ∙ turn-refused jump.code jump.at p.visits ∙ sym (refuse-applied p jump.code jump.at F (R ⊕ []) C nz);
+          λ F R C d o. ap turn (step F R C o ∙ ap (λ (z : Result (Option Statement)). z >>= λ s. ok (ended F (R ⊕ jump_out s) (added s p.count) C))
+          (met.same C (seen C o) ∙ ap (λ (y : Bool). jumped_to y jump st p.visits) q))
+          ∙ turn_refused jump.code jump.at p.visits ∙ sym (refuse_applied p jump.code jump.at F (R ⊕ []) C nz);
       fitting = λ z. absurd (nz z);
     }
       where
         nz : jump.code ≡ 0 → ⊥
         nz z = let o : ◌≡◌ {A = Bool} true false = sym (eq-eqb jump.code 0 z) ∙ q in let u : ◌≡◌ {A = ℕ} 0 1 = cc in omega arith
 
-pub jump-count : (outcome : definition.Context → Result (Option Statement)) (O : Flags) (v n : ℕ) (b : List ℕ) (jump : Jumped) (b' : List ℕ)
+pub jump_count : (outcome : definition.Context → Result (Option Statement)) (O : Flags) (v n : ℕ) (b : List ℕ) (jump : Jumped) (b' : List ℕ)
     → JumpMet outcome O v n b jump b' → jump.code ≡ 0 → jump.count ≤ 1
-jump-count outcome O v n b jump b' met z = rw (met.count z) (low met.statement)
+jump_count outcome O v n b jump b' met z = rw (met.count z) (low met.statement)
   where
     low : (s : Option Statement) → added s 0 ≤ 1
     low none = omega arith
@@ -94,7 +94,7 @@ jump-count outcome O v n b jump b' met z = rw (met.count z) (low met.statement)
 module _ {w : List ℕ} (p : Position) (variant : ℕ) {to first count id : ℕ} {span : Span} (ends : Ends w p.block (goto to (variant_of variant)))
     (heads : Heads w p.block first count id span) (O : Flags) (aim : Aim) (around : Around) where
   abbrev here : Terminal → Type 0
-  here e = terminalAt (table_of w) p.block ≡ e
+  here e = terminal_at (table_of w) p.block ≡ e
 
   variant_is : (v : Variant) (n : ℕ) → variant ≡ n → variant_of n ≡ v → here (goto to v)
   variant_is v n e q = ends.is ∙ ap (λ (z : Variant). goto to z) (ap variant_of e ∙ q)
@@ -103,52 +103,52 @@ module _ {w : List ℕ} (p : Position) (variant : ℕ) {to first count id : ℕ}
   found : (v : Variant) (n : ℕ) → variant ≡ n → variant_of n ≡ v → (C : definition.Context) → GotoSeen w p O aim around C → Resolves (goto to v) around C (aim_of aim)
   found v n e q C o = subst (λ (z : Terminal). Resolves z around C (aim_of aim)) (variant_is v n e q) o.jump
 
-  pub goto-break : (b : List ℕ) (jump : Jumped) (b' : List ℕ) (plan : Plan) → variant ≡ 0
-      → JumpMet (breakOutcome p.block to id aim) O p.visits p.rows b jump b' → plan ≡ afterJump p jump
-      → Planned (terminalStepIn around w p) (GotoSeen w p O aim around) [] p.depth p.rows b plan b'
-  unfolding terminalTurn visitGoto visitBreak variant_of ◌>>=◌
-  goto-break b jump b' plan v met e = jump-planned around w p (GotoSeen w p O aim around) (breakOutcome p.block to id aim) O b jump b' plan
-      (λ F R C o. step_in around w p _ F R C (variant_is Break 0 v refl) ∙ rw heads.is-id
-      (ap (after F R C) (break-goal around p.block to id C (getBreakTarget C to))
-      ∙ ap (λ (z : Option Goal). after F R C (breakTo p.block to id C z)) (sym (found Break 0 v refl C o))
-      ∙ moved F R C (breakOutcome p.block to id aim C))) (λ C o. o.seen) met e
+  pub goto_break : (b : List ℕ) (jump : Jumped) (b' : List ℕ) (plan : Plan) → variant ≡ 0
+      → JumpMet (break_outcome p.block to id aim) O p.visits p.rows b jump b' → plan ≡ after_jump p jump
+      → Planned (terminal_step_in around w p) (GotoSeen w p O aim around) [] p.depth p.rows b plan b'
+  unfolding terminal_turn visit_goto visit_break variant_of ◌>>=◌
+  goto_break b jump b' plan v met e = jump_planned around w p (GotoSeen w p O aim around) (break_outcome p.block to id aim) O b jump b' plan
+      (λ F R C o. step_in around w p _ F R C (variant_is Break 0 v refl) ∙ rw heads.is_id
+      (ap (after F R C) (break_goal_lem around p.block to id C (get_break_target C to))
+      ∙ ap (λ (z : Option Goal). after F R C (break_to p.block to id C z)) (sym (found Break 0 v refl C o))
+      ∙ moved F R C (break_outcome p.block to id aim C))) (λ C o. o.seen) met e
     where
       after : List machine.Frame → Output → definition.Context → Result (Option Statement) → Result State
       after F R C m =
           (m >>= λ statement. ok (record { statement = statement; next = none; context = C })) >>= λ (r : TerminalResult). ok
-          (leave r.next F (R ⊕ jumpOut r.statement) (added r.statement p.count) r.context)
+          (leave r.next F (R ⊕ jump_out r.statement) (added r.statement p.count) r.context)
 
-      moved : (F : List machine.Frame) (R : Output) (C : definition.Context) (m : Result (Option Statement)) → after F R C m ≡ (m >>= λ s. ok (ended F (R ⊕ jumpOut s) (added s p.count) C))
+      moved : (F : List machine.Frame) (R : Output) (C : definition.Context) (m : Result (Option Statement)) → after F R C m ≡ (m >>= λ s. ok (ended F (R ⊕ jump_out s) (added s p.count) C))
       moved F R C (ok s) = refl
       moved F R C (refused a c v) = refl
 
-  pub goto-continue : (b : List ℕ) (jump : Jumped) (b' : List ℕ) (plan : Plan) → variant ≡ 1
-      → JumpMet (continueOutcome p.block to id aim) O p.visits p.rows b jump b' → plan ≡ afterJump p jump
-      → Planned (terminalStepIn around w p) (GotoSeen w p O aim around) [] p.depth p.rows b plan b'
-  unfolding terminalTurn visitGoto visitContinue variant_of ◌>>=◌
-  goto-continue b jump b' plan v met e = jump-planned around w p (GotoSeen w p O aim around) (continueOutcome p.block to id aim) O b jump b' plan
-      (λ F R C o. step_in around w p _ F R C (variant_is Continue 1 v refl) ∙ rw heads.is-id
-      (ap (after F R C) (continue-goal around p.block to id C (getContinueTarget C to))
-      ∙ ap (λ (z : Option Goal). after F R C (continueTo p.block to id C z)) (sym (found Continue 1 v refl C o))
-      ∙ moved F R C (continueTo p.block to id C (aim_of aim)))) (λ C o. o.seen) met e
+  pub goto_continue : (b : List ℕ) (jump : Jumped) (b' : List ℕ) (plan : Plan) → variant ≡ 1
+      → JumpMet (continue_outcome p.block to id aim) O p.visits p.rows b jump b' → plan ≡ after_jump p jump
+      → Planned (terminal_step_in around w p) (GotoSeen w p O aim around) [] p.depth p.rows b plan b'
+  unfolding terminal_turn visit_goto visit_continue variant_of ◌>>=◌
+  goto_continue b jump b' plan v met e = jump_planned around w p (GotoSeen w p O aim around) (continue_outcome p.block to id aim) O b jump b' plan
+      (λ F R C o. step_in around w p _ F R C (variant_is Continue 1 v refl) ∙ rw heads.is_id
+      (ap (after F R C) (continue_goal_lem around p.block to id C (get_continue_target C to))
+      ∙ ap (λ (z : Option Goal). after F R C (continue_to p.block to id C z)) (sym (found Continue 1 v refl C o))
+      ∙ moved F R C (continue_to p.block to id C (aim_of aim)))) (λ C o. o.seen) met e
     where
       after : List machine.Frame → Output → definition.Context → Result Statement → Result State
       after F R C m =
           (m >>= λ statement. ok (record { statement = some statement; next = none; context = C })) >>= λ (r : TerminalResult). ok
-          (leave r.next F (R ⊕ jumpOut r.statement) (added r.statement p.count) r.context)
+          (leave r.next F (R ⊕ jump_out r.statement) (added r.statement p.count) r.context)
 
       moved : (F : List machine.Frame) (R : Output) (C : definition.Context) (m : Result Statement)
-          → after F R C m ≡ ((m >>= λ s. ok (some s)) >>= λ s. ok (ended F (R ⊕ jumpOut s) (added s p.count) C))
+          → after F R C m ≡ ((m >>= λ s. ok (some s)) >>= λ s. ok (ended F (R ⊕ jump_out s) (added s p.count) C))
       moved F R C (ok s) = refl
       moved F R C (refused a c v) = refl
 
-  pub goto-try : (b : List ℕ) (plan : Plan) → (variant ≡ 0 → ⊥) → (variant ≡ 1 → ⊥) → plan ≡ leaving 65535 p.depth p.count p.rows p.visits Nothing
-      → Planned (terminalStepIn around w p) (GotoSeen w p O aim around) [] p.depth p.rows b plan b
-  unfolding terminalTurn visitGoto variant_of ◌>>=◌
-  goto-try b plan n₀ n₁ e = subst (λ (z : Plan). Planned (terminalStepIn around w p) (GotoSeen w p O aim around) [] p.depth p.rows b z b) (sym e) (record {
+  pub goto_try : (b : List ℕ) (plan : Plan) → (variant ≡ 0 → ⊥) → (variant ≡ 1 → ⊥) → plan ≡ leaving 65535 p.depth p.count p.rows p.visits Nothing
+      → Planned (terminal_step_in around w p) (GotoSeen w p O aim around) [] p.depth p.rows b plan b
+  unfolding terminal_turn visit_goto variant_of ◌>>=◌
+  goto_try b plan n₀ n₁ e = subst (λ (z : Plan). Planned (terminal_step_in around w p) (GotoSeen w p O aim around) [] p.depth p.rows b z b) (sym e) (record {
     out = [];
     held = λ _ before h. rw (append-nil before) h;
-    same = λ F R C d o. ap turn (step_in around w p _ F R C (variant_is Try variant refl (try-variant variant n₀ n₁))) ∙ turn-ok _
-        ∙ sym (leave-applied 65535 p.depth p.count p.rows p.visits Nothing F (R ⊕ []) C _ refl ∙ rw (no_number, visits-same p.visits C o.seen.visits, within_all p.depth F d.deep));
+    same = λ F R C d o. ap turn (step_in around w p _ F R C (variant_is Try variant refl (try_variant variant n₀ n₁))) ∙ turn_ok _
+        ∙ sym (leave_applied 65535 p.depth p.count p.rows p.visits Nothing F (R ⊕ []) C _ refl ∙ rw (no_number, visits_same p.visits C o.seen.visits, within_all p.depth F d.deep));
     fitting = λ _. record { change = tt; handler = rw no_number tt; scope = rw no_number tt; deep = λ z. absurd (let o : ◌≡◌ {A = ℕ} 0 1 = cc in omega arith); next = omega arith; nested = tt };
   })

@@ -8,53 +8,53 @@ use mathlib.Core.Option.{Option}
 use lib.Dec.{eqb}
 use lib.ListN.{length}
 use borrow.Author.Tests.{eq-eqb, ne_eqb}
-use Rattle.table.specs.Words.{blockCount, caseCount, code_at}
+use Rattle.table.specs.Words.{block_count, case_count, code_at}
 use Rattle.table.specs.Promise.{Ends, Chooses}
-use Rattle.table.specs.Table.{Table, Block, Case, Terminal, absent, unreachable, throw, return, goto, if, branch, switch, do-while, while, for, for-of, for-in}
-use Rattle.table.specs.Table.{logical, ternary, optional, label, sequence, maybe-throw, try, scope, code_of, table_of, terminalAt, block_at}
-use Rattle.table.specs.Table.{unlessNone}
-use Rattle.table.proofs.TableLaws.{length-blocks, length-cases}
-use Rattle.table.proofs.BlockLaws.{no_number, code-at}
+use Rattle.table.specs.Table.{Table, Block, Case, Terminal, absent, unreachable, throw, return, goto, if, branch, switch, do_while, while, for, for_of, for_in}
+use Rattle.table.specs.Table.{logical, ternary, optional, label, sequence, maybe_throw, try, scope, code_of, table_of, terminal_at, block_at}
+use Rattle.table.specs.Table.{unless_none}
+use Rattle.table.proofs.TableLaws.{length_blocks, length_cases}
+use Rattle.table.proofs.BlockLaws.{no_number, code_at_lem}
 use Rattle.definition.specs.Build.{rejected, accepted}
-use Rattle.definition.specs.Context.{Flags, has, isScheduled, target-case, schedule, withVisits}
+use Rattle.definition.specs.Context.{Flags, has, is_scheduled, target_case, schedule, with_visits}
 use Rattle.definition.specs.Context as definition
-use Rattle.machine.specs.Machine.{State, visiting, ended, choosing, halt, turn, into, secondPart, caseBuilt, withLeft, close, no_case, case_at}
+use Rattle.machine.specs.Machine.{State, visiting, ended, choosing, halt, turn, into, second_part, case_built, with_left, close, no_case, case_at}
 use Rattle.definition.specs.Output.{Output, ◌⊕◌}
-use Rattle.machine.specs.Machine.{chooseCase, SwitchColumns, switchColumns, resumeAt, step}
-use Rattle.definition.specs.Output.{block_row, valueOut}
+use Rattle.machine.specs.Machine.{choose_case, SwitchColumns, switch_columns, resume_at, step}
+use Rattle.definition.specs.Output.{block_row, value_out}
 use Rattle.machine.specs.Machine as machine
-use Rattle.definition.specs.Result.{Result, ok, refused, ◌>>=◌, refuseIf}
+use Rattle.definition.specs.Result.{Result, ok, refused, ◌>>=◌, refuse_if}
 use Rattle.definition.specs.Tree.{Row, row}
-use Rattle.definition.specs.Value.{visitValueBlock, VisitValueBlock, ValueBlockResult}
-use Rattle.machine.specs.Framed.{isSwitch}
+use Rattle.definition.specs.Value.{visit_value_block, VisitValueBlock, ValueBlockResult}
+use Rattle.machine.specs.Framed.{is_switch}
 use Rattle.control.specs.declared.ControlFlowTarget.TheVariants.{Case as CaseTarget}
-use Rattle.definition.proofs.Lines.{out-nil}
+use Rattle.definition.proofs.Lines.{out_nil}
 use Rattle.values.specs.Rows.{Written}
 use Rattle.values.specs.Stack as stack
 use Rattle.values.proofs.RowLaws.{written_held}
-use Rattle.values.proofs.StackLaws.{push-row-after, push-value-after}
+use Rattle.values.proofs.StackLaws.{push_row_after, push_value_after}
 use Rattle.values.specs.declared.result.Tally.{Tally}
 use Rattle.values.specs.declared.result.ValueResult.{ValueResult}
-use Rattle.values.specs.Met.{Met, blockResult}
-use Rattle.values.proofs.MetLaws.{then-on, then-off}
+use Rattle.values.specs.Met.{Met, block_result}
+use Rattle.values.proofs.MetLaws.{then_on_lem, then_off}
 use Rattle.statements.specs.declared.plan.Stage.{Stage}
 use Rattle.statements.specs.declared.plan.Stage.TheVariants.{Ended, Choose, Pop}
 use Rattle.statements.specs.declared.plan.Position.{Position}
 use Rattle.statements.specs.declared.plan.Frame.{Frame}
 use Rattle.statements.specs.declared.plan.Change.TheVariants.{Nothing, Schedule}
 use Rattle.statements.specs.declared.plan.Plan.{Plan}
-use Rattle.statements.specs.Plans.{frame_of, stateAt, second, applied, refusing, nesting, choosingNext, accepting}
+use Rattle.statements.specs.Plans.{frame_of, state_at, second, applied, refusing, nesting, choosing_next, accepting}
 use Rattle.statements.specs.Planned.{Seen, Stands, Fitting, Planned}
 use Rattle.definition.specs.Around.{Around}
-use Rattle.statements.specs.Turn.{inHand, FrameFits, StageFits, Ready, emitting, PlannedTurn}
-use Rattle.statements.specs.Resume.{oneBuilt, leftLess, alternating, Closing, Resuming, Choosing, Begun, closeStep, resumeStep, chooseStep, PlannedClose, PlannedOn, PlannedResume, PlannedChoice}
-use Rattle.statements.proofs.PlanLaws.{within-rest, visits-same, refuse-applied, nest-applied, choose-asked, choose-applied, accept-applied}
-use Rattle.statements.proofs.StepLaws.{seen-scheduled, turn-ok, turn-refused, turn-asked, into-busy, into-free}
-use Rattle.statements.proofs.PlannedLaws.{planned-as, planned-after, applied-visits}
+use Rattle.statements.specs.Turn.{in_hand, FrameFits, StageFits, Ready, emitting, PlannedTurn}
+use Rattle.statements.specs.Resume.{one_built, left_less, alternating, Closing, Resuming, Choosing, Begun, close_step, resume_step, choose_step, PlannedClose, PlannedOn, PlannedResume, PlannedChoice}
+use Rattle.statements.proofs.PlanLaws.{within_rest, visits_same, refuse_applied, nest_applied, choose_asked, choose_applied, accept_applied}
+use Rattle.statements.proofs.StepLaws.{seen_scheduled, turn_ok, turn_refused, turn_asked, into_busy, into_free}
+use Rattle.statements.proofs.PlannedLaws.{planned_as, planned_after, applied_visits}
 
-visits-set : (v : ℕ) (C : definition.Context) → (withVisits v C).visits ≡ v
-unfolding withVisits
-visits-set v C = refl
+visits_set : (v : ℕ) (C : definition.Context) → (with_visits v C).visits ≡ v
+unfolding with_visits
+visits_set v C = refl
 
 -- ---- a statement is resumed
 
@@ -63,149 +63,149 @@ module _ (w : List ℕ) (p : Position) (frame : Frame) where
   t = table_of w
 
   abbrev visit : VisitValueBlock
-  visit = visitValueBlock (table_of w) (128 - p.depth)
+  visit = visit_value_block (table_of w) (128 - p.depth)
 
   -- the statement closes
   abbrev pub Closed : Type 0
-  Closed = (F : List machine.Frame) (R : Output) (C : definition.Context) → resumeStep w p frame F R C ≡ closeStep w frame F R C
+  Closed = (F : List machine.Frame) (R : Output) (C : definition.Context) → resume_step w p frame F R C ≡ close_step w frame F R C
 
-  pub resumed-closed : {buffer buffer' : List ℕ} {plan : Plan} → Closed → PlannedClose w p frame buffer plan buffer' → PlannedOn w p frame buffer plan buffer'
-  resumed-closed e m = planned-as e (λ C o. o) m
+  pub resumed_closed : {buffer buffer' : List ℕ} {plan : Plan} → Closed → PlannedClose w p frame buffer plan buffer' → PlannedOn w p frame buffer plan buffer'
+  resumed_closed e m = planned_as e (λ C o. o) m
 
-  pub resumed-seen : {S H : Flags} {buffer buffer' : List ℕ} {plan : Plan} → PlannedOn w p frame buffer plan buffer' → PlannedResume w S H p frame buffer plan buffer'
-  resumed-seen m = planned-as (λ F R C. refl) (λ C o. o.visits) m
+  pub resumed_seen : {S H : Flags} {buffer buffer' : List ℕ} {plan : Plan} → PlannedOn w p frame buffer plan buffer' → PlannedResume w S H p frame buffer plan buffer'
+  resumed_seen m = planned_as (λ F R C. refl) (λ C o. o.visits) m
 
   -- it goes on with a second part that must not be scheduled
-  pub resumed-alternate : (S H : Flags) (block code at : ℕ) (plan : Plan) (buffer : List ℕ)
-      → ((F : List machine.Frame) (R : Output) (C : definition.Context) → resumeStep w p frame F R C ≡ into block code at (secondPart (frame_of frame)) F R C)
+  pub resumed_alternate : (S H : Flags) (block code at : ℕ) (plan : Plan) (buffer : List ℕ)
+      → ((F : List machine.Frame) (R : Output) (C : definition.Context) → resume_step w p frame F R C ≡ into block code at (second_part (frame_of frame)) F R C)
       → 1 ≤ p.depth → (code ≡ 0 → ⊥) → plan ≡ alternating (has S block || has H block) p frame block code at → PlannedResume w S H p frame buffer plan buffer
-  resumed-alternate S H block code at plan buffer e deep nz q = subst (λ (y : Plan). PlannedResume w S H p frame buffer y buffer) (sym q) (by (has S block || has H block) refl)
+  resumed_alternate S H block code at plan buffer e deep nz q = subst (λ (y : Plan). PlannedResume w S H p frame buffer y buffer) (sym q) (by (has S block || has H block) refl)
     where
       by : (y : Bool) → has S block || has H block ≡ y → PlannedResume w S H p frame buffer (alternating y p frame block code at) buffer
       by true u = record {
         out = [];
         held = λ z. absurd (nz z);
         same =
-            λ F R C d seen. rw (out-nil R) (ap turn
-            (e F R C ∙ into-busy block code at (secondPart (frame_of frame)) F R C (seen-scheduled S H p.visits C seen block ∙ u)) ∙ turn-refused code at
+            λ F R C d seen. rw (out_nil R) (ap turn
+            (e F R C ∙ into_busy block code at (second_part (frame_of frame)) F R C (seen_scheduled S H p.visits C seen block ∙ u)) ∙ turn_refused code at
             C.visits
-            ∙ ap (λ (v : ℕ). halt (rejected code at v)) seen.visits ∙ sym (refuse-applied p code at (frame_of frame ∷ F) R C nz));
+            ∙ ap (λ (v : ℕ). halt (rejected code at v)) seen.visits ∙ sym (refuse_applied p code at (frame_of frame ∷ F) R C nz));
         fitting = λ z. absurd (nz z);
       }
       by false u = record {
         out = [];
         held = λ _ before h. rw (append-nil before) h;
-        same = λ F R C d seen. rw (out-nil R) (ap turn (e F R C ∙ into-free block code at (secondPart (frame_of frame)) F R C (seen-scheduled S H p.visits C seen block ∙ u)) ∙ turn-ok _
-            ∙ sym (nest-applied block (second frame) p.depth p.rows p.visits 65535 65535 Nothing (frame_of frame ∷ F) R C _ refl ∙ rw
-            (no_number, visits-same p.visits C seen.visits, within-rest p.depth (frame_of frame) F d.deep)));
+        same = λ F R C d seen. rw (out_nil R) (ap turn (e F R C ∙ into_free block code at (second_part (frame_of frame)) F R C (seen_scheduled S H p.visits C seen block ∙ u)) ∙ turn_ok _
+            ∙ sym (nest_applied block (second frame) p.depth p.rows p.visits 65535 65535 Nothing (frame_of frame ∷ F) R C _ refl ∙ rw
+            (no_number, visits_same p.visits C seen.visits, within_rest p.depth (frame_of frame) F d.deep)));
         fitting = λ _. record { change = tt; handler = rw no_number tt; scope = rw no_number tt; deep = λ _. deep; next = omega arith; nested = tt };
       }
 
   module _ (re : Resuming w p frame) where
-    pub closing-of : Closing w p frame
-    closing-of = record { promise = re.promise; block = re.block; depth = re.depth; rows = omega (arith, re.rows); count = re.count }
+    pub closing_of : Closing w p frame
+    closing_of = record { promise = re.promise; block = re.block; depth = re.depth; rows = omega (arith, re.rows); count = re.count }
 
-    resume-at : (e : Terminal) (F : List machine.Frame) (R : Output) (C : definition.Context) → terminalAt t frame.block ≡ e
-        → resumeStep w p frame F R C ≡ resumeAt t visit e (block_at t frame.block) (frame_of frame) F R C
-    resume-at e F R C q = ap (λ (z : Terminal). resumeAt t visit z (block_at t frame.block) (frame_of frame) F R C) q
+    resume_at_lem : (e : Terminal) (F : List machine.Frame) (R : Output) (C : definition.Context) → terminal_at t frame.block ≡ e
+        → resume_step w p frame F R C ≡ resume_at t visit e (block_at t frame.block) (frame_of frame) F R C
+    resume_at_lem e F R C q = ap (λ (z : Terminal). resume_at t visit z (block_at t frame.block) (frame_of frame) F R C) q
 
     -- ---- If
 
     module _ {x c a f : ℕ} (ends : Ends w frame.block (if x c a f)) where
-      pub if-alternate-below : a < 1024
-      if-alternate-below = omega (arith, ends.named.2, ends.few)
+      pub if_alternate_below : a < 1024
+      if_alternate_below = omega (arith, ends.named.2, ends.few)
 
-      abbrev ifResumed : (later same : Bool) → List machine.Frame → Output → definition.Context → Result State
-      ifResumed later same F R C =
+      abbrev if_resumed : (later same : Bool) → List machine.Frame → Output → definition.Context → Result State
+      if_resumed later same F R C =
           elim later [
             | true ↦ ok (close t (frame_of frame) F R C)
-            | false ↦ elim same [ true ↦ ok (close t (frame_of frame) F R C) | false ↦ into a 13 a (secondPart (frame_of frame)) F R C ]
+            | false ↦ elim same [ true ↦ ok (close t (frame_of frame) F R C) | false ↦ into a 13 a (second_part (frame_of frame)) F R C ]
           ]
 
-      if-step : (later same : Bool) (F : List machine.Frame) (R : Output) (C : definition.Context) → frame.second ≡ later → eqb a f ≡ same
-          → resumeStep w p frame F R C ≡ ifResumed later same F R C
-      unfolding resumeAt
-      if-step later same F R C s e = resume-at _ F R C ends.is ∙ ap (λ (y : Bool). ifResumed frame.second y F R C) e ∙ ap (λ (x : Bool). ifResumed x same F R C) s
+      if_step : (later same : Bool) (F : List machine.Frame) (R : Output) (C : definition.Context) → frame.second ≡ later → eqb a f ≡ same
+          → resume_step w p frame F R C ≡ if_resumed later same F R C
+      unfolding resume_at
+      if_step later same F R C s e = resume_at_lem _ F R C ends.is ∙ ap (λ (y : Bool). if_resumed frame.second y F R C) e ∙ ap (λ (x : Bool). if_resumed x same F R C) s
 
-      pub if-second : frame.second ≡ true → Closed
-      if-second s F R C = if-step true (eqb a f) F R C s refl
+      pub if_second : frame.second ≡ true → Closed
+      if_second s F R C = if_step true (eqb a f) F R C s refl
 
-      pub if-without : frame.second ≡ false → a ≡ f → Closed
-      if-without s e F R C = if-step false true F R C s (eq-eqb a f e)
+      pub if_without : frame.second ≡ false → a ≡ f → Closed
+      if_without s e F R C = if_step false true F R C s (eq-eqb a f e)
 
-      pub if-alternate : frame.second ≡ false → (a ≡ f → ⊥) → (F : List machine.Frame) (R : Output) (C : definition.Context)
-          → resumeStep w p frame F R C ≡ into a 13 a (secondPart (frame_of frame)) F R C
-      if-alternate s e F R C = if-step false false F R C s (ne_eqb a f e)
+      pub if_alternate : frame.second ≡ false → (a ≡ f → ⊥) → (F : List machine.Frame) (R : Output) (C : definition.Context)
+          → resume_step w p frame F R C ≡ into a 13 a (second_part (frame_of frame)) F R C
+      if_alternate s e F R C = if_step false false F R C s (ne_eqb a f e)
 
     -- ---- Branch
 
     module _ {x c a : ℕ} (ends : Ends w frame.block (branch x c a)) where
-      pub branch-alternate-below : a < 1024
-      branch-alternate-below = omega (arith, ends.named.2, ends.few)
+      pub branch_alternate_below : a < 1024
+      branch_alternate_below = omega (arith, ends.named.2, ends.few)
 
-      pub branch-second : frame.second ≡ true → Closed
-      unfolding resumeAt
-      branch-second s F R C = resume-at _ F R C ends.is ∙ rw s
+      pub branch_second : frame.second ≡ true → Closed
+      unfolding resume_at
+      branch_second s F R C = resume_at_lem _ F R C ends.is ∙ rw s
 
-      pub branch-alternate : frame.second ≡ false → (F : List machine.Frame) (R : Output) (C : definition.Context)
-          → resumeStep w p frame F R C ≡ into a 19 frame.block (secondPart (frame_of frame)) F R C
-      unfolding resumeAt
-      branch-alternate s F R C = resume-at _ F R C ends.is ∙ rw s
+      pub branch_alternate : frame.second ≡ false → (F : List machine.Frame) (R : Output) (C : definition.Context)
+          → resume_step w p frame F R C ≡ into a 19 frame.block (second_part (frame_of frame)) F R C
+      unfolding resume_at
+      branch_alternate s F R C = resume_at_lem _ F R C ends.is ∙ rw s
 
     -- ---- Try
 
     module _ {x y f : ℕ} {binding : Option ℕ} (ends : Ends w frame.block (try x y f binding)) where
-      pub try-second : frame.second ≡ true → Closed
-      unfolding resumeAt
-      try-second s F R C = resume-at _ F R C ends.is ∙ rw s
+      pub try_second : frame.second ≡ true → Closed
+      unfolding resume_at
+      try_second s F R C = resume_at_lem _ F R C ends.is ∙ rw s
 
-      try-goes-on : frame.second ≡ false → (F : List machine.Frame) (R : Output) (C : definition.Context) → resumeStep w p frame F R C ≡ ok (visiting y (secondPart (frame_of frame) ∷ F) R 0 C)
-      unfolding resumeAt
-      try-goes-on s F R C = resume-at _ F R C ends.is ∙ rw s
+      try_goes_on : frame.second ≡ false → (F : List machine.Frame) (R : Output) (C : definition.Context) → resume_step w p frame F R C ≡ ok (visiting y (second_part (frame_of frame) ∷ F) R 0 C)
+      unfolding resume_at
+      try_goes_on s F R C = resume_at_lem _ F R C ends.is ∙ rw s
 
-      pub try-handler : (plan : Plan) (buffer : List ℕ) → frame.second ≡ false
+      pub try_handler : (plan : Plan) (buffer : List ℕ) → frame.second ≡ false
           → plan ≡ nesting y (second frame) p.depth p.rows p.visits 65535 65535 Nothing → PlannedOn w p frame buffer plan buffer
-      try-handler plan buffer s q = subst (λ (q : Plan). PlannedOn w p frame buffer q buffer) (sym q) (record {
+      try_handler plan buffer s q = subst (λ (q : Plan). PlannedOn w p frame buffer q buffer) (sym q) (record {
         out = [];
         held = λ _ before h. rw (append-nil before) h;
-        same = λ F R C d on. rw (out-nil R) (ap turn (try-goes-on s F R C) ∙ turn-ok _
-            ∙ sym (nest-applied y (second frame) p.depth p.rows p.visits 65535 65535 Nothing (frame_of frame ∷ F) R C _ refl ∙ rw
-            (no_number, visits-same p.visits C on, within-rest p.depth (frame_of frame) F d.deep)));
+        same = λ F R C d on. rw (out_nil R) (ap turn (try_goes_on s F R C) ∙ turn_ok _
+            ∙ sym (nest_applied y (second frame) p.depth p.rows p.visits 65535 65535 Nothing (frame_of frame ∷ F) R C _ refl ∙ rw
+            (no_number, visits_same p.visits C on, within_rest p.depth (frame_of frame) F d.deep)));
         fitting = λ _. record { change = tt; handler = rw no_number tt; scope = rw no_number tt; deep = λ _. re.depth; next = omega arith; nested = tt };
       })
 
     -- ---- Switch
 
     module _ {x i m f : ℕ} (ends : Ends w frame.block (switch x i m f)) where
-      pub case-there : i + frame.left < caseCount w
-      case-there = rw ends.is at (re.case (ap isSwitch ends.is))
+      pub case_there : i + frame.left < case_count w
+      case_there = rw ends.is at (re.case (ap is_switch ends.is))
 
       module _ {test block : ℕ} (chooses : Chooses w (i + frame.left) test block) where
-        pub case-below : block < 1024
-        case-below = omega (arith, chooses.there, chooses.few)
+        pub case_below : block < 1024
+        case_below = omega (arith, chooses.there, chooses.few)
 
         abbrev case_row : Row
         case_row = row 11 test 0 0 0 0
 
-        case-goes-on : (F : List machine.Frame) (R : Output) (C : definition.Context) → resumeStep w p frame F R C
-            ≡ schedule (target-case block) C >>= λ inside. ok (choosing (caseBuilt (frame_of frame)) F (R ⊕ (case_row ∷ [])) inside)
-        unfolding resumeAt
-        case-goes-on F R C = resume-at _ F R C ends.is
-            ∙ ap (λ (k : Case). schedule (target-case k.block) C >>= λ inside. ok (choosing (caseBuilt (frame_of frame)) F (R ⊕ (row 11 k.test 0 0 0 0 ∷ [])) inside)) (chooses.is no_case)
+        case_goes_on : (F : List machine.Frame) (R : Output) (C : definition.Context) → resume_step w p frame F R C
+            ≡ schedule (target_case block) C >>= λ inside. ok (choosing (case_built (frame_of frame)) F (R ⊕ (case_row ∷ [])) inside)
+        unfolding resume_at
+        case_goes_on F R C = resume_at_lem _ F R C ends.is
+            ∙ ap (λ (k : Case). schedule (target_case k.block) C >>= λ inside. ok (choosing (case_built (frame_of frame)) F (R ⊕ (row 11 k.test 0 0 0 0 ∷ [])) inside)) (chooses.is no_case)
 
-        abbrev casePlan : (rows target : ℕ) → Plan
-        casePlan rows target = choosingNext (oneBuilt frame) p.depth rows p.visits (Schedule (CaseTarget target))
+        abbrev case_plan : (rows target : ℕ) → Plan
+        case_plan rows target = choosing_next (one_built frame) p.depth rows p.visits (Schedule (CaseTarget target))
 
-        pub case-built : (plan : Plan) (buffer buffer' : List ℕ) (target rows : ℕ) → target ≡ block → Written buffer p.rows (row 11 test 0 0 0 0) buffer' rows
-            → plan ≡ casePlan rows target → PlannedOn w p frame buffer plan buffer'
-        case-built plan buffer buffer' target rows u put q = subst (λ (y : Plan). PlannedOn w p frame buffer y buffer') (sym (q ∙ ap (casePlan rows) u)) (record {
+        pub case_built_lem : (plan : Plan) (buffer buffer' : List ℕ) (target rows : ℕ) → target ≡ block → Written buffer p.rows (row 11 test 0 0 0 0) buffer' rows
+            → plan ≡ case_plan rows target → PlannedOn w p frame buffer plan buffer'
+        case_built_lem plan buffer buffer' target rows u put q = subst (λ (y : Plan). PlannedOn w p frame buffer y buffer') (sym (q ∙ ap (case_plan rows) u)) (record {
           out = case_row ∷ [];
-          held = λ _ before h. rw (← (push-row-after case_row before)) (written_held put (stack.pushed before []) h);
+          held = λ _ before h. rw (← (push_row_after case_row before)) (written_held put (stack.pushed before []) h);
           same =
-              λ F R C d on. ap turn (case-goes-on F R C) ∙ turn-asked _ _ ∙ sym
-              (choose-asked (oneBuilt frame) p.depth rows p.visits (Schedule (CaseTarget block)) (frame_of frame ∷ F) (R ⊕ (case_row ∷ [])) C
-              ∙ rw (visits-same p.visits C on, within-rest p.depth (frame_of frame) F d.deep, more frame.entries, more frame.built));
-          fitting = λ _. record { change = case-below; handler = rw no_number tt; scope = rw no_number tt; deep = λ _. re.depth; next = omega arith; nested = refl };
+              λ F R C d on. ap turn (case_goes_on F R C) ∙ turn_asked _ _ ∙ sym
+              (choose_asked (one_built frame) p.depth rows p.visits (Schedule (CaseTarget block)) (frame_of frame ∷ F) (R ⊕ (case_row ∷ [])) C
+              ∙ rw (visits_same p.visits C on, within_rest p.depth (frame_of frame) F d.deep, more frame.entries, more frame.built));
+          fitting = λ _. record { change = case_below; handler = rw no_number tt; scope = rw no_number tt; deep = λ _. re.depth; next = omega arith; nested = refl };
         })
           where
             more : (n : ℕ) → n + 1 ≡ suc n
@@ -213,36 +213,36 @@ module _ (w : List ℕ) (p : Position) (frame : Frame) where
 
     -- ---- DoWhile
 
-    module _ {l x f : ℕ} (ends : Ends w frame.block (do-while l x f)) where
+    module _ {l x f : ℕ} (ends : Ends w frame.block (do_while l x f)) where
       abbrev tests : ℕ → Result ValueBlockResult
-      tests visits = visitValueBlock (table_of w) (128 - p.depth) x (unlessNone 65535) (block_at t frame.block).span visits
+      tests visits = visit_value_block (table_of w) (128 - p.depth) x (unless_none 65535) (block_at t frame.block).span visits
 
       abbrev closes : List machine.Frame → Output → definition.Context → ValueBlockResult → Result State
-      closes F R C tested = ok (close t (frame_of frame) F (R ⊕ valueOut tested.value) (withVisits tested.visits C))
+      closes F R C tested = ok (close t (frame_of frame) F (R ⊕ value_out tested.value) (with_visits tested.visits C))
 
-      test-step : (F : List machine.Frame) (R : Output) (C : definition.Context) → C.visits ≡ p.visits → resumeStep w p frame F R C ≡ (tests p.visits >>= closes F R C)
-      unfolding resumeAt
-      test-step F R C on = resume-at _ F R C ends.is ∙ rw (no_number, on)
+      test_step : (F : List machine.Frame) (R : Output) (C : definition.Context) → C.visits ≡ p.visits → resume_step w p frame F R C ≡ (tests p.visits >>= closes F R C)
+      unfolding resume_at
+      test_step F R C on = resume_at_lem _ F R C ends.is ∙ rw (no_number, on)
 
       module _ (start : Tally) (buffer buffer₁ : List ℕ) (r : ValueResult)
-          (m : Met w blockResult (visitValueBlock (table_of w) (128 - p.depth) x (unlessNone 65535) (block_at t frame.block).span p.visits) start 0
+          (m : Met w block_result (visit_value_block (table_of w) (128 - p.depth) x (unless_none 65535) (block_at t frame.block).span p.visits) start 0
           buffer r buffer₁) where
-        pub test-refused : (after : Position) (plan : Plan) → after.visits ≡ r.tally.visits → (r.code ≡ 0 → ⊥) → plan ≡ refusing after r.code r.at → PlannedOn w p frame buffer plan buffer₁
-        test-refused after plan e nz q = subst (λ (y : Plan). PlannedOn w p frame buffer y buffer₁) (sym q) (record {
+        pub test_refused : (after : Position) (plan : Plan) → after.visits ≡ r.tally.visits → (r.code ≡ 0 → ⊥) → plan ≡ refusing after r.code r.at → PlannedOn w p frame buffer plan buffer₁
+        test_refused after plan e nz q = subst (λ (y : Plan). PlannedOn w p frame buffer y buffer₁) (sym q) (record {
           out = [];
           held = λ z. absurd (nz z);
-          same = λ F R C d on. rw (out-nil R) (ap turn (test-step F R C on ∙ then-off (closes F R C) m nz) ∙ turn-refused r.code r.at r.tally.visits
-              ∙ ap (λ (v : ℕ). halt (rejected r.code r.at v)) (sym e) ∙ sym (refuse-applied after r.code r.at (frame_of frame ∷ F) R C nz));
+          same = λ F R C d on. rw (out_nil R) (ap turn (test_step F R C on ∙ then_off (closes F R C) m nz) ∙ turn_refused r.code r.at r.tally.visits
+              ∙ ap (λ (v : ℕ). halt (rejected r.code r.at v)) (sym e) ∙ sym (refuse_applied after r.code r.at (frame_of frame ∷ F) R C nz));
           fitting = λ z. absurd (nz z);
         })
 
-        pub test-closed : (plan : Plan) (buffer' : List ℕ) → start.rows ≡ p.rows → r.code ≡ 0
-            → Planned (closeStep w frame) (Begun r.tally.visits) (frame_of frame ∷ []) p.depth r.tally.rows buffer₁ plan buffer' → PlannedOn w p frame buffer plan buffer'
-        test-closed plan buffer' b z closed = planned-after (valueOut m.value) (withVisits r.tally.visits)
-            (λ before h. rw (← (push-value-after m.value before)) ((m.found z).held (stack.pushed before []) (rw b h)))
-            (λ F R C on. test-step F R C on ∙ then-on (closes F R C) m z)
-            (λ C on. visits-set r.tally.visits C)
-            (λ F R C. applied-visits plan r.tally.visits F R C)
+        pub test_closed : (plan : Plan) (buffer' : List ℕ) → start.rows ≡ p.rows → r.code ≡ 0
+            → Planned (close_step w frame) (Begun r.tally.visits) (frame_of frame ∷ []) p.depth r.tally.rows buffer₁ plan buffer' → PlannedOn w p frame buffer plan buffer'
+        test_closed plan buffer' b z closed = planned_after (value_out m.value) (with_visits r.tally.visits)
+            (λ before h. rw (← (push_value_after m.value before)) ((m.found z).held (stack.pushed before []) (rw b h)))
+            (λ F R C on. test_step F R C on ∙ then_on_lem (closes F R C) m z)
+            (λ C on. visits_set r.tally.visits C)
+            (λ F R C. applied_visits plan r.tally.visits F R C)
             closed
 
     -- ---- any other
@@ -250,144 +250,144 @@ module _ (w : List ℕ) (p : Position) (frame : Frame) where
     abbrev pub Other : ℕ → Type 0
     Other c = (c ≡ 5 → ⊥) × (c ≡ 6 → ⊥) × (c ≡ 7 → ⊥) × (c ≡ 8 → ⊥) × (c ≡ 19 → ⊥)
 
-    other-closes : (e : Terminal) (b : Block) → Other (code_of e) → (F : List machine.Frame) (R : Output) (C : definition.Context)
-        → resumeAt t visit e b (frame_of frame) F R C ≡ closeStep w frame F R C
-    unfolding resumeAt
-    other-closes absent b h F R C = refl
-    other-closes unreachable b h F R C = refl
-    other-closes (throw x) b h F R C = refl
-    other-closes (return x) b h F R C = refl
-    other-closes (goto x y) b h F R C = refl
-    other-closes (if x y z u) b h F R C = absurd (h.0 refl)
-    other-closes (branch x y z) b h F R C = absurd (h.1 refl)
-    other-closes (switch x y z u) b h F R C = absurd (h.2 refl)
-    other-closes (do-while x y z) b h F R C = absurd (h.3 refl)
-    other-closes (while x y z) b h F R C = refl
-    other-closes (for x y z u v) b h F R C = refl
-    other-closes (for-of x y z u) b h F R C = refl
-    other-closes (for-in x y z) b h F R C = refl
-    other-closes (logical x y z) b h F R C = refl
-    other-closes (ternary x y) b h F R C = refl
-    other-closes (optional x y z) b h F R C = refl
-    other-closes (label x y) b h F R C = refl
-    other-closes (sequence x y) b h F R C = refl
-    other-closes (maybe-throw x) b h F R C = refl
-    other-closes (try x y z u) b h F R C = absurd (h.4 refl)
-    other-closes (scope x y z u) b h F R C = refl
+    other_closes : (e : Terminal) (b : Block) → Other (code_of e) → (F : List machine.Frame) (R : Output) (C : definition.Context)
+        → resume_at t visit e b (frame_of frame) F R C ≡ close_step w frame F R C
+    unfolding resume_at
+    other_closes absent b h F R C = refl
+    other_closes unreachable b h F R C = refl
+    other_closes (throw x) b h F R C = refl
+    other_closes (return x) b h F R C = refl
+    other_closes (goto x y) b h F R C = refl
+    other_closes (if x y z u) b h F R C = absurd (h.0 refl)
+    other_closes (branch x y z) b h F R C = absurd (h.1 refl)
+    other_closes (switch x y z u) b h F R C = absurd (h.2 refl)
+    other_closes (do_while x y z) b h F R C = absurd (h.3 refl)
+    other_closes (while x y z) b h F R C = refl
+    other_closes (for x y z u v) b h F R C = refl
+    other_closes (for_of x y z u) b h F R C = refl
+    other_closes (for_in x y z) b h F R C = refl
+    other_closes (logical x y z) b h F R C = refl
+    other_closes (ternary x y) b h F R C = refl
+    other_closes (optional x y z) b h F R C = refl
+    other_closes (label x y) b h F R C = refl
+    other_closes (sequence x y) b h F R C = refl
+    other_closes (maybe_throw x) b h F R C = refl
+    other_closes (try x y z u) b h F R C = absurd (h.4 refl)
+    other_closes (scope x y z u) b h F R C = refl
 
-    pub other-closed : Other (code_at w frame.block) → Closed
-    other-closed h F R C = other-closes (terminalAt t frame.block) (block_at t frame.block) (subst Other (sym (code-at w frame.block re.promise re.block)) h) F R C
+    pub other_closed : Other (code_at w frame.block) → Closed
+    other_closed h F R C = other_closes (terminal_at t frame.block) (block_at t frame.block) (subst Other (sym (code_at_lem w frame.block re.promise re.block)) h) F R C
 
 -- ---- a Switch chooses
 
 module _ (w : List ℕ) (p : Position) (frame : Frame) (ch : Choosing w p frame) where
   -- none is left
-  pub choice-closes : {S H : Flags} {buffer buffer' : List ℕ} {plan : Plan} → frame.left ≡ 0 → PlannedClose w p frame buffer plan buffer' → PlannedChoice w S H p frame buffer plan buffer'
-  unfolding chooseCase
-  choice-closes e m = planned-as (λ F R C. ap (λ (n : ℕ). chooseCase (table_of w) columns.first columns.fallthrough n (frame_of frame) F R C) e) (λ C o. o.visits) m
+  pub choice_closes : {S H : Flags} {buffer buffer' : List ℕ} {plan : Plan} → frame.left ≡ 0 → PlannedClose w p frame buffer plan buffer' → PlannedChoice w S H p frame buffer plan buffer'
+  unfolding choose_case
+  choice_closes e m = planned_as (λ F R C. ap (λ (n : ℕ). choose_case (table_of w) columns.first columns.fallthrough n (frame_of frame) F R C) e) (λ C o. o.visits) m
     where
       columns : SwitchColumns
-      columns = switchColumns (terminalAt (table_of w) frame.block)
+      columns = switch_columns (terminal_at (table_of w) frame.block)
 
   module _ {x i m f : ℕ} (ends : Ends w frame.block (switch x i m f)) where
     abbrev choice : ℕ → List machine.Frame → Output → definition.Context → Result State
-    choice left F R C = chooseCase (table_of w) i f left (frame_of frame) F R C
+    choice left F R C = choose_case (table_of w) i f left (frame_of frame) F R C
 
-    choose-by : (F : List machine.Frame) (R : Output) (C : definition.Context) → chooseStep w frame F R C ≡ choice frame.left F R C
-    choose-by F R C = ap (λ (e : Terminal). chooseCase (table_of w) (switchColumns e).first (switchColumns e).fallthrough frame.left (frame_of frame) F R C) ends.is
+    choose_by : (F : List machine.Frame) (R : Output) (C : definition.Context) → choose_step w frame F R C ≡ choice frame.left F R C
+    choose_by F R C = ap (λ (e : Terminal). choose_case (table_of w) (switch_columns e).first (switch_columns e).fallthrough frame.left (frame_of frame) F R C) ends.is
 
-    pub last-below : (frame.left ≡ 0 → ⊥) → i + (frame.left - 1) < caseCount w
-    last-below some_left = let most : frame.left ≤ caseCount w - i = rw ends.is at ch.case in let nz : frame.left ≡ 0 → ⊥ = some_left in omega (arith, most)
+    pub last_below : (frame.left ≡ 0 → ⊥) → i + (frame.left - 1) < case_count w
+    last_below some_left = let most : frame.left ≤ case_count w - i = rw ends.is at ch.case in let nz : frame.left ≡ 0 → ⊥ = some_left in omega (arith, most)
 
     module _ {test block : ℕ} (chooses : Chooses w (i + (frame.left - 1)) test block) (S H : Flags) (some_left : frame.left ≡ 0 → ⊥) where
       abbrev chosen : (busy : Bool) → (to left : ℕ) → List machine.Frame → Output → definition.Context → Result State
       chosen busy to left F R C =
           elim busy [
-            | true ↦ refuseIf (not (eqb to f)) 14 frame.block C.visits >>= λ _. ok (choosing (withLeft left (frame_of frame)) F R C)
-            | false ↦ ok (visiting to (withLeft left (frame_of frame) ∷ F) R 0 C)
+            | true ↦ refuse_if (not (eqb to f)) 14 frame.block C.visits >>= λ _. ok (choosing (with_left left (frame_of frame)) F R C)
+            | false ↦ ok (visiting to (with_left left (frame_of frame) ∷ F) R 0 C)
           ]
 
       more : (n : ℕ) (F : List machine.Frame) (R : Output) (C : definition.Context) → (n ≡ 0 → ⊥)
-          → choice n F R C ≡ chosen (isScheduled C (case_at (table_of w) (i + (n - 1))).block) (case_at (table_of w) (i + (n - 1))).block (n - 1) F R C
-      unfolding chooseCase
+          → choice n F R C ≡ chosen (is_scheduled C (case_at (table_of w) (i + (n - 1))).block) (case_at (table_of w) (i + (n - 1))).block (n - 1) F R C
+      unfolding choose_case
       more zero F R C h = absurd (h refl)
       more (suc n) F R C h =
           let e : n ≡ suc n - 1 = omega arith in
-          ap (λ (k : ℕ). chosen (isScheduled C (case_at (table_of w) (i + k)).block) (case_at (table_of w) (i + k)).block k F R C) e
+          ap (λ (k : ℕ). chosen (is_scheduled C (case_at (table_of w) (i + k)).block) (case_at (table_of w) (i + k)).block k F R C) e
 
-      case-chosen : (busy : Bool) (F : List machine.Frame) (R : Output) (C : definition.Context) → Seen S H p.visits C → has S block || has H block ≡ busy
-          → chooseStep w frame F R C ≡ chosen busy block (frame.left - 1) F R C
-      case-chosen busy F R C seen e = choose-by F R C ∙ more frame.left F R C some_left
-          ∙ ap (λ (k : Case). chosen (isScheduled C k.block) k.block (frame.left - 1) F R C) (chooses.is no_case)
-          ∙ ap (λ (y : Bool). chosen y block (frame.left - 1) F R C) (seen-scheduled S H p.visits C seen block ∙ e)
+      case_chosen : (busy : Bool) (F : List machine.Frame) (R : Output) (C : definition.Context) → Seen S H p.visits C → has S block || has H block ≡ busy
+          → choose_step w frame F R C ≡ chosen busy block (frame.left - 1) F R C
+      case_chosen busy F R C seen e = choose_by F R C ∙ more frame.left F R C some_left
+          ∙ ap (λ (k : Case). chosen (is_scheduled C k.block) k.block (frame.left - 1) F R C) (chooses.is no_case)
+          ∙ ap (λ (y : Bool). chosen y block (frame.left - 1) F R C) (seen_scheduled S H p.visits C seen block ∙ e)
 
-      fits : Fitting (frame_of frame ∷ []) p.depth (choosingNext (leftLess frame) p.depth p.rows p.visits Nothing)
+      fits : Fitting (frame_of frame ∷ []) p.depth (choosing_next (left_less frame) p.depth p.rows p.visits Nothing)
       fits = record { change = tt; handler = rw no_number tt; scope = rw no_number tt; deep = λ _. ch.closing.depth; next = omega arith; nested = refl }
 
-      pub choice-visits : (plan : Plan) (buffer : List ℕ) → has S block || has H block ≡ false
-          → plan ≡ nesting block (leftLess frame) p.depth p.rows p.visits 65535 65535 Nothing → PlannedChoice w S H p frame buffer plan buffer
-      choice-visits plan buffer e q = subst (λ (y : Plan). PlannedChoice w S H p frame buffer y buffer) (sym q) (record {
+      pub choice_visits : (plan : Plan) (buffer : List ℕ) → has S block || has H block ≡ false
+          → plan ≡ nesting block (left_less frame) p.depth p.rows p.visits 65535 65535 Nothing → PlannedChoice w S H p frame buffer plan buffer
+      choice_visits plan buffer e q = subst (λ (y : Plan). PlannedChoice w S H p frame buffer y buffer) (sym q) (record {
         out = [];
         held = λ _ before h. rw (append-nil before) h;
         same =
-            λ F R C d seen. rw (out-nil R) (ap turn (case-chosen false F R C seen e) ∙ turn-ok _
-            ∙ sym (nest-applied block (leftLess frame) p.depth p.rows p.visits 65535 65535 Nothing (frame_of frame ∷ F) R C _ refl ∙ rw
-            (no_number, visits-same p.visits C seen.visits, within-rest p.depth (frame_of frame) F d.deep)));
+            λ F R C d seen. rw (out_nil R) (ap turn (case_chosen false F R C seen e) ∙ turn_ok _
+            ∙ sym (nest_applied block (left_less frame) p.depth p.rows p.visits 65535 65535 Nothing (frame_of frame ∷ F) R C _ refl ∙ rw
+            (no_number, visits_same p.visits C seen.visits, within_rest p.depth (frame_of frame) F d.deep)));
         fitting = λ _. record { change = tt; handler = rw no_number tt; scope = rw no_number tt; deep = λ _. ch.closing.depth; next = omega arith; nested = tt };
       })
 
       abbrev refusal : (same : Bool) → List machine.Frame → Output → definition.Context → Result State
-      refusal same F R C = refuseIf (not same) 14 frame.block C.visits >>= λ _. ok (choosing (withLeft (frame.left - 1) (frame_of frame)) F R C)
+      refusal same F R C = refuse_if (not same) 14 frame.block C.visits >>= λ _. ok (choosing (with_left (frame.left - 1) (frame_of frame)) F R C)
 
-      case-busy : (same : Bool) (F : List machine.Frame) (R : Output) (C : definition.Context) → Seen S H p.visits C → has S block || has H block ≡ true → eqb block f ≡ same
-          → chooseStep w frame F R C ≡ refusal same F R C
-      case-busy same F R C seen e z = case-chosen true F R C seen e ∙ ap (λ (y : Bool). refusal y F R C) z
+      case_busy : (same : Bool) (F : List machine.Frame) (R : Output) (C : definition.Context) → Seen S H p.visits C → has S block || has H block ≡ true → eqb block f ≡ same
+          → choose_step w frame F R C ≡ refusal same F R C
+      case_busy same F R C seen e z = case_chosen true F R C seen e ∙ ap (λ (y : Bool). refusal y F R C) z
 
-      pub choice-refused : (plan : Plan) (buffer : List ℕ) → has S block || has H block ≡ true → (block ≡ f → ⊥) → plan ≡ refusing p 14 frame.block
+      pub choice_refused : (plan : Plan) (buffer : List ℕ) → has S block || has H block ≡ true → (block ≡ f → ⊥) → plan ≡ refusing p 14 frame.block
           → PlannedChoice w S H p frame buffer plan buffer
-      unfolding ◌>>=◌ refuseIf
-      choice-refused plan buffer e z q = subst (λ (y : Plan). PlannedChoice w S H p frame buffer y buffer) (sym q) (record {
+      unfolding ◌>>=◌ refuse_if
+      choice_refused plan buffer e z q = subst (λ (y : Plan). PlannedChoice w S H p frame buffer y buffer) (sym q) (record {
         out = [];
         held = λ y. absurd (let o : ◌≡◌ {A = ℕ} 14 0 = y in omega arith);
-        same = λ F R C d seen. rw (out-nil R) (ap turn (case-busy false F R C seen e (ne_eqb block f z)) ∙ turn-refused 14 frame.block C.visits
-            ∙ ap (λ (v : ℕ). halt (rejected 14 frame.block v)) seen.visits ∙ sym (refuse-applied p 14 frame.block (frame_of frame ∷ F) R C (λ y. omega arith)));
+        same = λ F R C d seen. rw (out_nil R) (ap turn (case_busy false F R C seen e (ne_eqb block f z)) ∙ turn_refused 14 frame.block C.visits
+            ∙ ap (λ (v : ℕ). halt (rejected 14 frame.block v)) seen.visits ∙ sym (refuse_applied p 14 frame.block (frame_of frame ∷ F) R C (λ y. omega arith)));
         fitting = λ y. absurd (let o : ◌≡◌ {A = ℕ} 14 0 = y in omega arith);
       })
 
-      pub choice-skips : (plan : Plan) (buffer : List ℕ) → has S block || has H block ≡ true → block ≡ f → plan ≡ choosingNext (leftLess frame) p.depth p.rows p.visits Nothing
+      pub choice_skips : (plan : Plan) (buffer : List ℕ) → has S block || has H block ≡ true → block ≡ f → plan ≡ choosing_next (left_less frame) p.depth p.rows p.visits Nothing
           → PlannedChoice w S H p frame buffer plan buffer
-      unfolding ◌>>=◌ refuseIf
-      choice-skips plan buffer e z q = subst (λ (y : Plan). PlannedChoice w S H p frame buffer y buffer) (sym q) (record {
+      unfolding ◌>>=◌ refuse_if
+      choice_skips plan buffer e z q = subst (λ (y : Plan). PlannedChoice w S H p frame buffer y buffer) (sym q) (record {
         out = [];
         held = λ _ before h. rw (append-nil before) h;
-        same = λ F R C d seen. rw (out-nil R) (ap turn (case-busy true F R C seen e (eq-eqb block f z)) ∙ turn-ok _
-            ∙ sym (choose-applied (leftLess frame) p.depth p.rows p.visits Nothing (frame_of frame ∷ F) R C _ refl ∙ rw
-            (visits-same p.visits C seen.visits, within-rest p.depth (frame_of frame) F d.deep)));
+        same = λ F R C d seen. rw (out_nil R) (ap turn (case_busy true F R C seen e (eq-eqb block f z)) ∙ turn_ok _
+            ∙ sym (choose_applied (left_less frame) p.depth p.rows p.visits Nothing (frame_of frame ∷ F) R C _ refl ∙ rw
+            (visits_same p.visits C seen.visits, within_rest p.depth (frame_of frame) F d.deep)));
         fitting = λ _. fits;
       })
 
 -- ---- whole turns
 
-pub hand-ended : (depth : ℕ) (frame : Frame) → 1 ≤ depth → inHand Ended depth frame ≡ frame_of frame ∷ []
-hand-ended zero frame h = absurd (omega arith)
-hand-ended (suc depth) frame h = refl
+pub hand_ended : (depth : ℕ) (frame : Frame) → 1 ≤ depth → in_hand Ended depth frame ≡ frame_of frame ∷ []
+hand_ended zero frame h = absurd (omega arith)
+hand_ended (suc depth) frame h = refl
 
-pub hand-choose : (depth : ℕ) (frame : Frame) → 1 ≤ depth → inHand Choose depth frame ≡ frame_of frame ∷ []
-hand-choose zero frame h = absurd (omega arith)
-hand-choose (suc depth) frame h = refl
+pub hand_choose : (depth : ℕ) (frame : Frame) → 1 ≤ depth → in_hand Choose depth frame ≡ frame_of frame ∷ []
+hand_choose zero frame h = absurd (omega arith)
+hand_choose (suc depth) frame h = refl
 
-pub hand-pop : (depth : ℕ) (frame : Frame) → 1 ≤ depth → inHand Pop depth frame ≡ frame_of frame ∷ []
-hand-pop zero frame h = absurd (omega arith)
-hand-pop (suc depth) frame h = refl
+pub hand_pop : (depth : ℕ) (frame : Frame) → 1 ≤ depth → in_hand Pop depth frame ≡ frame_of frame ∷ []
+hand_pop zero frame h = absurd (omega arith)
+hand_pop (suc depth) frame h = refl
 
 module _ (w : List ℕ) (p : Position) (frame : Frame) where
   -- a plan for the frame in hand is one for the turn
-  pub turn-planned : {around : Around} {On : definition.Context → Type 0} {buffer buffer' : List ℕ} {plan : Plan} {next : List machine.Frame → Output → definition.Context → Result State} (stage : Stage) (top : List machine.Frame)
-      → p.stage ≡ stage → inHand stage p.depth frame ≡ top
-      → ((F : List machine.Frame) (R : Output) (C : definition.Context) → Stands (top ++ F) R p.depth p.rows → step around.rule (table_of w) (stateAt stage p.block (top ++ F) R p.count C) ≡ turn (next F R C))
+  pub turn_planned : {around : Around} {On : definition.Context → Type 0} {buffer buffer' : List ℕ} {plan : Plan} {next : List machine.Frame → Output → definition.Context → Result State} (stage : Stage) (top : List machine.Frame)
+      → p.stage ≡ stage → in_hand stage p.depth frame ≡ top
+      → ((F : List machine.Frame) (R : Output) (C : definition.Context) → Stands (top ++ F) R p.depth p.rows → step around.rule (table_of w) (state_at stage p.block (top ++ F) R p.count C) ≡ turn (next F R C))
       → ((C : definition.Context) → emitting stage p.block C ≡ C)
       → Planned next On top p.depth p.rows buffer plan buffer' → PlannedTurn w around On p frame buffer plan buffer'
-  turn-planned {plan = plan} stage top e h steps still m = record {
+  turn_planned {plan = plan} stage top e h steps still m = record {
     out = m.out;
     held = m.held;
     same = λ F R C. rw (e, h) (λ l _ o. steps F R C l ∙ m.same F R C l o ∙ ap (λ (D : definition.Context). applied plan (top ++ F) (R ⊕ m.out) D) (sym (still C)));
@@ -401,24 +401,24 @@ module _ (w : List ℕ) (p : Position) (frame : Frame) where
 
   -- ---- an entry is taken off
 
-  pub closing-at-pop : Ready w p frame → p.stage ≡ Pop → Closing w p frame
-  closing-at-pop ready e =
+  pub closing_at_pop : Ready w p frame → p.stage ≡ Pop → Closing w p frame
+  closing_at_pop ready e =
       let at : StageFits w Pop p frame = subst (λ (s : Stage). StageFits w s p frame) e ready.stage in
-      record { promise = ready.promise; block = rw (length-blocks w) at at.1.framed.block; depth = at.0; rows = omega (arith, ready.rows); count = at.1.count }
+      record { promise = ready.promise; block = rw (length_blocks w) at at.1.framed.block; depth = at.0; rows = omega (arith, ready.rows); count = at.1.count }
 
   pub popped : {around : Around} {buffer buffer' : List ℕ} {plan : Plan} → Ready w p frame → p.stage ≡ Pop → PlannedClose w p frame buffer plan buffer' → PlannedTurn w around (Begun p.visits) p frame buffer plan buffer'
   unfolding step
-  popped ready e m = turn-planned Pop (frame_of frame ∷ []) e (hand-pop p.depth frame (closing-at-pop ready e).depth) (λ F R C l. sym (turn-ok _)) (λ C. refl) m
+  popped ready e m = turn_planned Pop (frame_of frame ∷ []) e (hand_pop p.depth frame (closing_at_pop ready e).depth) (λ F R C l. sym (turn_ok _)) (λ C. refl) m
 
   -- ---- a list has ended
 
-  ended-fits : Ready w p frame → p.stage ≡ Ended → 1 ≤ p.depth → FrameFits w 0 p.rows frame
-  ended-fits ready e = let here : StageFits w Ended p frame = subst (λ (s : Stage). StageFits w s p frame) e ready.stage in here.1
+  ended_fits : Ready w p frame → p.stage ≡ Ended → 1 ≤ p.depth → FrameFits w 0 p.rows frame
+  ended_fits ready e = let here : StageFits w Ended p frame = subst (λ (s : Stage). StageFits w s p frame) e ready.stage in here.1
 
   pub resuming : (after : Position) → Ready w p frame → p.stage ≡ Ended → 1 ≤ p.depth → after.depth ≡ p.depth → after.visits ≡ p.visits → after.rows ≡ p.rows + 1 → Resuming w after frame
   resuming after ready e deep d v r =
-      let fits : FrameFits w 0 p.rows frame = ended-fits ready e deep in
-      let below : frame.block < blockCount w = rw (length-blocks w) at fits.framed.block in
+      let fits : FrameFits w 0 p.rows frame = ended_fits ready e deep in
+      let below : frame.block < block_count w = rw (length_blocks w) at fits.framed.block in
       record {
         promise = ready.promise;
         block = below;
@@ -429,16 +429,16 @@ module _ (w : List ℕ) (p : Position) (frame : Frame) where
         count = omega (arith, r, fits.count);
         entries = omega (arith, fits.framed.entries, fits.built);
         built = fits.built;
-        case = λ is-switch. omega (arith, length-cases w, fits.framed.case is-switch);
+        case = λ is_switch'. omega (arith, length_cases w, fits.framed.case is_switch');
       }
 
   -- the root
-  pub ended-root : {around : Around} (plan : Plan) (On : definition.Context → Type 0) (buffer buffer' : List ℕ) (rows : ℕ) → p.stage ≡ Ended → p.depth ≡ 0 → ((C : definition.Context) → On C → C.visits ≡ p.visits)
+  pub ended_root : {around : Around} (plan : Plan) (On : definition.Context → Type 0) (buffer buffer' : List ℕ) (rows : ℕ) → p.stage ≡ Ended → p.depth ≡ 0 → ((C : definition.Context) → On C → C.visits ≡ p.visits)
       → Written buffer p.rows (row 9 p.count 0 0 0 0) buffer' rows → plan ≡ accepting rows p.visits → PlannedTurn w around On p frame buffer plan buffer'
   unfolding step
-  ended-root {around} plan On buffer buffer' rows e z on put q = rw q (record {
+  ended_root {around} plan On buffer buffer' rows e z on put q = rw q (record {
     out = block_row p.count ∷ [];
-    held = λ _ before h. rw (← (push-row-after (block_row p.count) before)) (written_held put (stack.pushed before []) h);
+    held = λ _ before h. rw (← (push_row_after (block_row p.count) before)) (written_held put (stack.pushed before []) h);
     same = λ F R C. rw (e, z) (λ l _ o. root F R C l.deep o);
     fitting =
         λ _. rw (e, z) (record {
@@ -453,63 +453,63 @@ module _ (w : List ℕ) (p : Position) (frame : Frame) where
     where
       root : (F : List machine.Frame) (R : Output) (C : definition.Context) → length F ≡ 0 → On C
           → step around.rule (table_of w) (ended F R p.count C) ≡ applied (accepting rows p.visits) F (R ⊕ (block_row p.count ∷ [])) C
-      root [] R C l o = ap (λ (v : ℕ). halt (accepted (R.rows ++ (block_row p.count ∷ [])) R.lines v)) (on C o) ∙ sym (accept-applied rows p.visits [] (R ⊕ (block_row p.count ∷ [])) C)
+      root [] R C l o = ap (λ (v : ℕ). halt (accepted (R.rows ++ (block_row p.count ∷ [])) R.lines v)) (on C o) ∙ sym (accept_applied rows p.visits [] (R ⊕ (block_row p.count ∷ [])) C)
       root (f ∷ F) R C l o = absurd (omega arith)
 
   -- and a nested one
-  pub ended-nested : {around : Around} (plan : Plan) (S H : Flags) (buffer buffer₁ buffer' : List ℕ) (rows : ℕ) → p.stage ≡ Ended → 1 ≤ p.depth → Written buffer p.rows (row 9 p.count 0 0 0 0) buffer₁ rows
-      → Planned (resumeStep w p frame) (Seen S H p.visits) (frame_of frame ∷ []) p.depth rows buffer₁ plan buffer' → PlannedTurn w around (Seen S H p.visits) p frame buffer plan buffer'
+  pub ended_nested : {around : Around} (plan : Plan) (S H : Flags) (buffer buffer₁ buffer' : List ℕ) (rows : ℕ) → p.stage ≡ Ended → 1 ≤ p.depth → Written buffer p.rows (row 9 p.count 0 0 0 0) buffer₁ rows
+      → Planned (resume_step w p frame) (Seen S H p.visits) (frame_of frame ∷ []) p.depth rows buffer₁ plan buffer' → PlannedTurn w around (Seen S H p.visits) p frame buffer plan buffer'
   unfolding step
-  ended-nested plan S H buffer buffer₁ buffer' rows e deep put m =
-      turn-planned Ended (frame_of frame ∷ []) e (hand-ended p.depth frame deep) (λ F R C l. ap (λ (n : ℕ). turn (resumed n F R C)) (levels F l.deep)) (λ C. refl)
-      (planned-after (block_row p.count ∷ []) (λ C. C)
-      (λ before h. rw (← (push-row-after (block_row p.count) before)) (written_held put (stack.pushed before []) h))
+  ended_nested plan S H buffer buffer₁ buffer' rows e deep put m =
+      turn_planned Ended (frame_of frame ∷ []) e (hand_ended p.depth frame deep) (λ F R C l. ap (λ (n : ℕ). turn (resumed n F R C)) (levels F l.deep)) (λ C. refl)
+      (planned_after (block_row p.count ∷ []) (λ C. C)
+      (λ before h. rw (← (push_row_after (block_row p.count) before)) (written_held put (stack.pushed before []) h))
       (λ F R C on. refl) (λ C on. on) (λ F R C. refl) m)
     where
       resumed : ℕ → List machine.Frame → Output → definition.Context → Result State
       resumed n F R C =
-          resumeAt (table_of w) (visitValueBlock (table_of w) n) (terminalAt (table_of w) frame.block) (block_at (table_of w) frame.block) (frame_of frame) F (R ⊕ (block_row p.count ∷ [])) C
+          resume_at (table_of w) (visit_value_block (table_of w) n) (terminal_at (table_of w) frame.block) (block_at (table_of w) frame.block) (frame_of frame) F (R ⊕ (block_row p.count ∷ [])) C
 
       levels : (F : List machine.Frame) → suc (length F) ≡ p.depth → 127 - length F ≡ 128 - p.depth
       levels F l = omega arith
 
   -- ---- a Switch chooses
 
-  switch-code : (e : Terminal) → isSwitch e ≡ true → code_of e ≡ 7
-  switch-code absent h = cc
-  switch-code unreachable h = cc
-  switch-code (throw x) h = cc
-  switch-code (return x) h = cc
-  switch-code (goto x y) h = cc
-  switch-code (if x y z u) h = cc
-  switch-code (branch x y z) h = cc
-  switch-code (switch x y z u) h = refl
-  switch-code (do-while x y z) h = cc
-  switch-code (while x y z) h = cc
-  switch-code (for x y z u v) h = cc
-  switch-code (for-of x y z u) h = cc
-  switch-code (for-in x y z) h = cc
-  switch-code (logical x y z) h = cc
-  switch-code (ternary x y) h = cc
-  switch-code (optional x y z) h = cc
-  switch-code (label x y) h = cc
-  switch-code (sequence x y) h = cc
-  switch-code (maybe-throw x) h = cc
-  switch-code (try x y z u) h = cc
-  switch-code (scope x y z u) h = cc
+  switch_code : (e : Terminal) → is_switch e ≡ true → code_of e ≡ 7
+  switch_code absent h = cc
+  switch_code unreachable h = cc
+  switch_code (throw x) h = cc
+  switch_code (return x) h = cc
+  switch_code (goto x y) h = cc
+  switch_code (if x y z u) h = cc
+  switch_code (branch x y z) h = cc
+  switch_code (switch x y z u) h = refl
+  switch_code (do_while x y z) h = cc
+  switch_code (while x y z) h = cc
+  switch_code (for x y z u v) h = cc
+  switch_code (for_of x y z u) h = cc
+  switch_code (for_in x y z) h = cc
+  switch_code (logical x y z) h = cc
+  switch_code (ternary x y) h = cc
+  switch_code (optional x y z) h = cc
+  switch_code (label x y) h = cc
+  switch_code (sequence x y) h = cc
+  switch_code (maybe_throw x) h = cc
+  switch_code (try x y z u) h = cc
+  switch_code (scope x y z u) h = cc
 
-  pub choosing-fits : Ready w p frame → p.stage ≡ Choose → Choosing w p frame
-  choosing-fits ready e =
+  pub choosing_fits : Ready w p frame → p.stage ≡ Choose → Choosing w p frame
+  choosing_fits ready e =
       let here : StageFits w Choose p frame = subst (λ (s : Stage). StageFits w s p frame) e ready.stage in
-      let below : frame.block < blockCount w = rw (length-blocks w) at here.2.framed.block in
-      let code : code_at w frame.block ≡ 7 = sym (code-at w frame.block ready.promise below) ∙ switch-code (terminalAt (table_of w) frame.block) here.1 in
+      let below : frame.block < block_count w = rw (length_blocks w) at here.2.framed.block in
+      let code : code_at w frame.block ≡ 7 = sym (code_at_lem w frame.block ready.promise below) ∙ switch_code (terminal_at (table_of w) frame.block) here.1 in
       record {
         code = code;
         closing = record { promise = ready.promise; block = below; depth = here.0; rows = omega (arith, ready.rows); count = here.2.count };
-        case = omega (arith, length-cases w, here.2.framed.case here.1);
+        case = omega (arith, length_cases w, here.2.framed.case here.1);
       }
 
-  pub chosen-turn : {around : Around} {S H : Flags} {buffer buffer' : List ℕ} {plan : Plan} → Ready w p frame → p.stage ≡ Choose
+  pub chosen_turn : {around : Around} {S H : Flags} {buffer buffer' : List ℕ} {plan : Plan} → Ready w p frame → p.stage ≡ Choose
       → PlannedChoice w S H p frame buffer plan buffer' → PlannedTurn w around (Seen S H p.visits) p frame buffer plan buffer'
   unfolding step
-  chosen-turn ready e m = turn-planned Choose (frame_of frame ∷ []) e (hand-choose p.depth frame (choosing-fits ready e).closing.depth) (λ F R C l. refl) (λ C. refl) m
+  chosen_turn ready e m = turn_planned Choose (frame_of frame ∷ []) e (hand_choose p.depth frame (choosing_fits ready e).closing.depth) (λ F R C l. refl) (λ C. refl) m

@@ -7,24 +7,24 @@ use mathlib.Core.List.{List}
 use mathlib.Core.Option.{Option, none}
 use lib.Dec.{eqb}
 use borrow.Author.Tests.{eq-eqb, ne_eqb, eqb-true, eqb-false}
-use Rattle.table.specs.Words.{blockCount, code_at}
+use Rattle.table.specs.Words.{block_count, code_at}
 use Rattle.table.specs.Promise.{Promise, Ends}
-use Rattle.table.specs.Table.{Terminal, absent, unreachable, throw, return, goto, if, branch, switch, do-while, while, for, for-of, for-in, logical, ternary}
-use Rattle.table.specs.Table.{optional, label, sequence, maybe-throw, try, scope, Break, Continue, Try, code_of, table_of, terminalAt, variant_of}
-use Rattle.table.proofs.BlockLaws.{code-at, try-variant}
-use Rattle.definition.specs.Context.{Flags, has, isScheduled, loops_of, breakTargetFrom, continueTargetFrom, getBreakTarget, getContinueTarget}
+use Rattle.table.specs.Table.{Terminal, absent, unreachable, throw, return, goto, if, branch, switch, do_while, while, for, for_of, for_in, logical, ternary}
+use Rattle.table.specs.Table.{optional, label, sequence, maybe_throw, try, scope, Break, Continue, Try, code_of, table_of, terminal_at, variant_of}
+use Rattle.table.proofs.BlockLaws.{code_at_lem, try_variant}
+use Rattle.definition.specs.Context.{Flags, has, is_scheduled, loops_of, break_target_from, continue_target_from, get_break_target, get_continue_target}
 use Rattle.definition.specs.Context as definition
 use Rattle.definition.specs.Around.{Around}
-use Rattle.machine.specs.Goal.{Goal, breakGoal, continueGoal, goals}
+use Rattle.machine.specs.Goal.{Goal, break_goal, continue_goal, goals}
 use Rattle.control.specs.declared.Context.{Context}
 use Rattle.control.specs.declared.Entry.{Entry}
 use Rattle.control.specs.Abstraction.{stack_of, context_of}
-use Rattle.control.proofs.SearchLaws.{lastTarget, break-none, break-found, break-missed, continue-none, continue-found, continue-missed}
+use Rattle.control.proofs.SearchLaws.{last_target, break_none, break_found, break_missed, continue_none, continue_found, continue_missed}
 use Rattle.statements.specs.declared.search.Jump.{Jump}
 use Rattle.statements.specs.declared.search.Jump.TheVariants.{Nothing}
 use Rattle.statements.specs.declared.search.Jump.TheVariants as jump
 use Rattle.statements.specs.Turn.{Resolves}
-use Rattle.statements.specs.Search.{foundBy, searchedFrom, isMet, resolvedAt, Searches}
+use Rattle.statements.specs.Search.{found_by, searched_from, is_met, resolved_at, Searches}
 
 -- a terminal that is no jump
 quiet : (e : Terminal) (around : Around) (cx : definition.Context) (aim : Option Goal) → (code_of e ≡ 4 → ⊥) → (code_of e ≡ 6 → ⊥) → Resolves e around cx aim
@@ -36,100 +36,100 @@ quiet (goto target variant) around cx aim f g = absurd (f refl)
 quiet (if test consequent alternate fallthrough) around cx aim f g = tt
 quiet (branch test consequent alternate) around cx aim f g = absurd (g refl)
 quiet (switch test first number fallthrough) around cx aim f g = tt
-quiet (do-while loop test fallthrough) around cx aim f g = tt
+quiet (do_while loop test fallthrough) around cx aim f g = tt
 quiet (while test loop fallthrough) around cx aim f g = tt
 quiet (for init test update loop fallthrough) around cx aim f g = tt
-quiet (for-of init test loop fallthrough) around cx aim f g = tt
-quiet (for-in init loop fallthrough) around cx aim f g = tt
+quiet (for_of init test loop fallthrough) around cx aim f g = tt
+quiet (for_in init loop fallthrough) around cx aim f g = tt
 quiet (logical operator test fallthrough) around cx aim f g = tt
 quiet (ternary test fallthrough) around cx aim f g = tt
 quiet (optional chain test fallthrough) around cx aim f g = tt
 quiet (label body fallthrough) around cx aim f g = tt
 quiet (sequence body fallthrough) around cx aim f g = tt
-quiet (maybe-throw continuation) around cx aim f g = tt
+quiet (maybe_throw continuation) around cx aim f g = tt
 quiet (try body handler fallthrough binding) around cx aim f g = tt
 quiet (scope pruned body fallthrough number) around cx aim f g = tt
 
 module _ (w : List ℕ) (S H : Flags) (b : ℕ) where
-  pub no_jump : Promise w → b < blockCount w → (code_at w b ≡ 4 → ⊥) → (code_at w b ≡ 6 → ⊥) → Searches w S H b Nothing
+  pub no_jump : Promise w → b < block_count w → (code_at w b ≡ 4 → ⊥) → (code_at w b ≡ 6 → ⊥) → Searches w S H b Nothing
   no_jump pr below f g =
-      record { resolves = λ around cx s h. quiet (terminalAt (table_of w) b) around cx none (λ e. f (sym (code-at w b pr below) ∙ e)) (λ e. g (sym (code-at w b pr below) ∙ e)) }
+      record { resolves = λ around cx s h. quiet (terminal_at (table_of w) b) around cx none (λ e. f (sym (code_at_lem w b pr below) ∙ e)) (λ e. g (sym (code_at_lem w b pr below) ∙ e)) }
 
   -- ---- Goto
 
   module _ {target variant : ℕ} (ends : Ends w b (goto target (variant_of variant))) where
-    pub goto-breaks : (n : ℕ) → n ≡ target → variant ≡ 0 → Searches w S H b (jump.Break n)
+    pub goto_breaks : (n : ℕ) → n ≡ target → variant ≡ 0 → Searches w S H b (jump.Break n)
     unfolding variant_of
-    goto-breaks n s e = record {
-      resolves = λ around cx _ _. subst (λ (z : Terminal). Resolves z around cx (goals (breakGoal around) (getBreakTarget cx n))) (sym (ends.is ∙ ap (λ (v : ℕ). goto target (variant_of v)) e))
-          (ap (λ (k : ℕ). goals (breakGoal around) (getBreakTarget cx k)) s);
+    goto_breaks n s e = record {
+      resolves = λ around cx _ _. subst (λ (z : Terminal). Resolves z around cx (goals (break_goal around) (get_break_target cx n))) (sym (ends.is ∙ ap (λ (v : ℕ). goto target (variant_of v)) e))
+          (ap (λ (k : ℕ). goals (break_goal around) (get_break_target cx k)) s);
     }
 
-    pub goto-continues : (n : ℕ) → n ≡ target → variant ≡ 1 → Searches w S H b (jump.Continue n)
+    pub goto_continues : (n : ℕ) → n ≡ target → variant ≡ 1 → Searches w S H b (jump.Continue n)
     unfolding variant_of
-    goto-continues n s e = record {
-      resolves = λ around cx _ _. subst (λ (z : Terminal). Resolves z around cx (goals (continueGoal around) (getContinueTarget cx n)))
-          (sym (ends.is ∙ ap (λ (v : ℕ). goto target (variant_of v)) e)) (ap (λ (k : ℕ). goals (continueGoal around) (getContinueTarget cx k)) s);
+    goto_continues n s e = record {
+      resolves = λ around cx _ _. subst (λ (z : Terminal). Resolves z around cx (goals (continue_goal around) (get_continue_target cx n)))
+          (sym (ends.is ∙ ap (λ (v : ℕ). goto target (variant_of v)) e)) (ap (λ (k : ℕ). goals (continue_goal around) (get_continue_target cx k)) s);
     }
 
-    pub goto-tries : (variant ≡ 0 → ⊥) → (variant ≡ 1 → ⊥) → Searches w S H b Nothing
-    goto-tries f g = record { resolves = λ around cx _ _. subst (λ (z : Terminal). Resolves z around cx none) (sym (ends.is ∙ ap (goto target) (try-variant variant f g))) tt }
+    pub goto_tries : (variant ≡ 0 → ⊥) → (variant ≡ 1 → ⊥) → Searches w S H b Nothing
+    goto_tries f g = record { resolves = λ around cx _ _. subst (λ (z : Terminal). Resolves z around cx none) (sym (ends.is ∙ ap (goto target) (try_variant variant f g))) tt }
 
   -- ---- Branch
 
   module _ {test consequent alternate : ℕ} (ends : Ends w b (branch test consequent alternate)) where
-    pub branch-breaks : (n : ℕ) → n ≡ consequent → Searches w S H b (jump.Break n)
-    branch-breaks n s = record {
-      resolves = λ around cx _ _. subst (λ (z : Terminal). Resolves z around cx (goals (breakGoal around) (getBreakTarget cx n))) (sym ends.is)
-          (λ _. ap (λ (k : ℕ). goals (breakGoal around) (getBreakTarget cx k)) s);
+    pub branch_breaks : (n : ℕ) → n ≡ consequent → Searches w S H b (jump.Break n)
+    branch_breaks n s = record {
+      resolves = λ around cx _ _. subst (λ (z : Terminal). Resolves z around cx (goals (break_goal around) (get_break_target cx n))) (sym ends.is)
+          (λ _. ap (λ (k : ℕ). goals (break_goal around) (get_break_target cx k)) s);
     }
 
-    pub branch-goes : has S consequent || has H consequent ≡ false → Searches w S H b Nothing
-    unfolding isScheduled
-    branch-goes e = record { resolves = λ around cx s h. subst (λ (z : Terminal). Resolves z around cx none) (sym ends.is) (λ q. absurd (differ (sym q ∙ rw (s, h) e))) }
+    pub branch_goes : has S consequent || has H consequent ≡ false → Searches w S H b Nothing
+    unfolding is_scheduled
+    branch_goes e = record { resolves = λ around cx s h. subst (λ (z : Terminal). Resolves z around cx none) (sym ends.is) (λ q. absurd (differ (sym q ∙ rw (s, h) e))) }
       where
         differ : ◌≡◌ {A = Bool} true false → ⊥
         differ e = let o : ◌≡◌ {A = ℕ} 0 1 = ap (λ (y : Bool). elim y [ true ↦ 0 | false ↦ 1 ]) e in omega arith
 
 -- ---- the search
 
-abbrev foundAmong : Jump → List definition.Entry → (top : Bool) → (loopsAbove : ℕ) → Option definition.Resolution
-foundAmong Nothing entries top loopsAbove = none
-foundAmong (jump.Break block) entries top loopsAbove = breakTargetFrom entries block top loopsAbove
-foundAmong (jump.Continue block) entries top loopsAbove = continueTargetFrom entries block top loopsAbove
+abbrev found_among : Jump → List definition.Entry → (top : Bool) → (loops_above : ℕ) → Option definition.Resolution
+found_among Nothing entries top loops_above = none
+found_among (jump.Break block) entries top loops_above = break_target_from entries block top loops_above
+found_among (jump.Continue block) entries top loops_above = continue_target_from entries block top loops_above
 
 -- the first so many entries give what all give; the innermost is the last of all
-pub record Searching (sought : Jump) (cx : Context) (at : ℕ) (loopsAbove : ℕ) : Type 0 where
-  pub within : loopsAbove + at ≤ cx.len
-  pub rest : foundAmong sought (stack_of cx.stack cx.len) true 0 ≡ foundAmong sought (stack_of cx.stack at) (eqb at cx.len) loopsAbove
+pub record Searching (sought : Jump) (cx : Context) (at : ℕ) (loops_above : ℕ) : Type 0 where
+  pub within : loops_above + at ≤ cx.len
+  pub rest : found_among sought (stack_of cx.stack cx.len) true 0 ≡ found_among sought (stack_of cx.stack at) (eqb at cx.len) loops_above
 
-pub search-start : (sought : Jump) (cx : Context) (n : ℕ) → n ≡ searchedFrom sought cx.len → Searching sought cx n 0
-search-start Nothing cx n e = record { within = omega (arith, e); rest = refl }
-search-start (jump.Break b) cx n e = record { within = omega (arith, e); rest = rw (eq-eqb n cx.len e, e) refl }
-search-start (jump.Continue b) cx n e = record { within = omega (arith, e); rest = rw (eq-eqb n cx.len e, e) refl }
+pub search_start : (sought : Jump) (cx : Context) (n : ℕ) → n ≡ searched_from sought cx.len → Searching sought cx n 0
+search_start Nothing cx n e = record { within = omega (arith, e); rest = refl }
+search_start (jump.Break b) cx n e = record { within = omega (arith, e); rest = rw (eq-eqb n cx.len e, e) refl }
+search_start (jump.Continue b) cx n e = record { within = omega (arith, e); rest = rw (eq-eqb n cx.len e, e) refl }
 
 module _ (cx : Context) (at : ℕ) (above : ℕ) where
   below_top : (sought : Jump) → Searching sought cx at above → (at ≡ 0 → ⊥) → eqb (at - 1) cx.len ≡ false
   below_top sought h f = ne_eqb (at - 1) cx.len (λ (q : at - 1 ≡ cx.len). omega (arith, h.within, f, q))
 
   -- one entry further down, with the loops counted
-  pub search-on : {counted : ℕ} (sought : Jump) → Searching sought cx at above → (at ≡ 0 → ⊥) → isMet sought (lastTarget cx.stack at) ≡ false
-      → (counted ≡ loops_of (lastTarget cx.stack at) + above) × (counted ≤ above + 1) → Searching sought cx (at - 1) counted
-  search-on Nothing h f m (e, one) = record { within = omega (arith, h.within, one); rest = refl }
-  search-on (jump.Break b) h f m (e, one) =
-      record { within = omega (arith, h.within, one); rest = h.rest ∙ rw (e, below_top _ h f) (break-missed _ _ _ _ _ f (eqb-false _ _ m)) }
-  search-on (jump.Continue b) h f m (e, one) =
-      record { within = omega (arith, h.within, one); rest = h.rest ∙ rw (e, below_top _ h f) (continue-missed _ _ _ _ _ f m) }
+  pub search_on : {counted : ℕ} (sought : Jump) → Searching sought cx at above → (at ≡ 0 → ⊥) → is_met sought (last_target cx.stack at) ≡ false
+      → (counted ≡ loops_of (last_target cx.stack at) + above) × (counted ≤ above + 1) → Searching sought cx (at - 1) counted
+  search_on Nothing h f m (e, one) = record { within = omega (arith, h.within, one); rest = refl }
+  search_on (jump.Break b) h f m (e, one) =
+      record { within = omega (arith, h.within, one); rest = h.rest ∙ rw (e, below_top _ h f) (break_missed _ _ _ _ _ f (eqb-false _ _ m)) }
+  search_on (jump.Continue b) h f m (e, one) =
+      record { within = omega (arith, h.within, one); rest = h.rest ∙ rw (e, below_top _ h f) (continue_missed _ _ _ _ _ f m) }
 
-  pub search-none : (sought : Jump) → Searching sought cx at above → at ≡ 0 → (visits : ℕ) → none ≡ foundBy sought (context_of visits cx)
-  unfolding getBreakTarget getContinueTarget context_of
-  search-none Nothing h e visits = refl
-  search-none (jump.Break b) h e visits = sym (h.rest ∙ break-none _ _ _ _ _ e)
-  search-none (jump.Continue b) h e visits = sym (h.rest ∙ continue-none _ _ _ _ _ e)
+  pub search_none : (sought : Jump) → Searching sought cx at above → at ≡ 0 → (visits : ℕ) → none ≡ found_by sought (context_of visits cx)
+  unfolding get_break_target get_continue_target context_of
+  search_none Nothing h e visits = refl
+  search_none (jump.Break b) h e visits = sym (h.rest ∙ break_none _ _ _ _ _ e)
+  search_none (jump.Continue b) h e visits = sym (h.rest ∙ continue_none _ _ _ _ _ e)
 
-  pub search-found : (sought : Jump) → Searching sought cx at above → (at ≡ 0 → ⊥) → isMet sought (lastTarget cx.stack at) ≡ true → (visits : ℕ)
-      → resolvedAt sought (lastTarget cx.stack at) (eqb at cx.len) above ≡ foundBy sought (context_of visits cx)
-  unfolding getBreakTarget getContinueTarget context_of
-  search-found Nothing h f m visits = refl
-  search-found (jump.Break b) h f m visits = sym (h.rest ∙ break-found _ _ _ _ _ f (eqb-true _ _ m))
-  search-found (jump.Continue b) h f m visits = sym (h.rest ∙ continue-found _ _ _ _ _ f m)
+  pub search_found : (sought : Jump) → Searching sought cx at above → (at ≡ 0 → ⊥) → is_met sought (last_target cx.stack at) ≡ true → (visits : ℕ)
+      → resolved_at sought (last_target cx.stack at) (eqb at cx.len) above ≡ found_by sought (context_of visits cx)
+  unfolding get_break_target get_continue_target context_of
+  search_found Nothing h f m visits = refl
+  search_found (jump.Break b) h f m visits = sym (h.rest ∙ break_found _ _ _ _ _ f (eqb-true _ _ m))
+  search_found (jump.Continue b) h f m visits = sym (h.rest ∙ continue_found _ _ _ _ _ f m)

@@ -4,14 +4,14 @@ use native.Mathlib.Omega.{arith}
 use mathlib.Core.Path.{◌≡◌, refl, sym, ap, subst}
 use mathlib.Core.List.{List, [], ◌∷◌, ◌++◌}
 use lib.ListN.{length}
-use Rattle.table.specs.Table.{table_of, terminalAt, block_at, unlessNone}
-use Rattle.table.proofs.TableLaws.{length-blocks}
+use Rattle.table.specs.Table.{table_of, terminal_at, block_at, unless_none}
+use Rattle.table.proofs.TableLaws.{length_blocks}
 use Rattle.definition.specs.Around.{Around}
 use Rattle.definition.specs.Context as definition
-use Rattle.machine.specs.Machine.{turn, makeAt, depthLeft, step}
+use Rattle.machine.specs.Machine.{turn, make_at, depth_left, step}
 use Rattle.definition.specs.Output.{Output}
 use Rattle.machine.specs.Machine as machine
-use Rattle.definition.specs.Value.{visitValueBlock}
+use Rattle.definition.specs.Value.{visit_value_block}
 use Rattle.statements.specs.declared.plan.Stage.{Stage}
 use Rattle.statements.specs.declared.plan.Stage.TheVariants.{Values}
 use Rattle.statements.specs.declared.plan.Position.{Position}
@@ -19,25 +19,25 @@ use Rattle.statements.specs.declared.plan.Frame.{Frame}
 use Rattle.statements.specs.declared.plan.Plan.{Plan}
 use Rattle.statements.specs.Plans.{frame_of}
 use Rattle.statements.specs.Planned.{SameVisits}
-use Rattle.statements.specs.Turn.{inHand, StageFits, Ready, PlannedTurn}
+use Rattle.statements.specs.Turn.{in_hand, StageFits, Ready, PlannedTurn}
 use Rattle.statements.specs.Loops.{Making, PlannedValues}
-use Rattle.statements.proofs.ResumeLaws.{turn-planned}
+use Rattle.statements.proofs.ResumeLaws.{turn_planned}
 
-hand-values : (depth : ℕ) (frame : Frame) → 1 ≤ depth → inHand Values depth frame ≡ frame_of frame ∷ []
-hand-values zero frame h = absurd (omega arith)
-hand-values (suc depth) frame h = refl
+hand_values : (depth : ℕ) (frame : Frame) → 1 ≤ depth → in_hand Values depth frame ≡ frame_of frame ∷ []
+hand_values zero frame h = absurd (omega arith)
+hand_values (suc depth) frame h = refl
 
 module _ (w : List ℕ) (p : Position) (frame : Frame) where
   pub making : Ready w p frame → p.stage ≡ Values → Making w p frame
   making ready e =
       let at : StageFits w Values p frame = subst (λ (s : Stage). StageFits w s p frame) e ready.stage in
-      record { promise = ready.promise; block = rw (length-blocks w) at at.1.framed.block; depth = at.0; deep = ready.depth; visits = ready.visits; rows = omega (arith, ready.rows); count = at.1.count }
+      record { promise = ready.promise; block = rw (length_blocks w) at at.1.framed.block; depth = at.0; deep = ready.depth; visits = ready.visits; rows = omega (arith, ready.rows); count = at.1.count }
 
   pub valued : {around : Around} {buffer buffer' : List ℕ} {plan : Plan} → Ready w p frame → p.stage ≡ Values → PlannedValues w p frame buffer plan buffer'
       → PlannedTurn w around (SameVisits p) p frame buffer plan buffer'
   unfolding step
   valued ready e m =
-      turn-planned w p frame Values (frame_of frame ∷ []) e (hand-values p.depth frame (making ready e).depth) (λ F R C l.
-      let n : depthLeft F ≡ 128 - p.depth = omega (arith, l.deep) in
-      ap (λ (z : ℕ). turn (makeAt (table_of w) (visitValueBlock (table_of w) z) (terminalAt (table_of w) frame.block) (block_at (table_of w) frame.block) (unlessNone p.block) (frame_of frame) F R C)) n)
+      turn_planned w p frame Values (frame_of frame ∷ []) e (hand_values p.depth frame (making ready e).depth) (λ F R C l.
+      let n : depth_left F ≡ 128 - p.depth = omega (arith, l.deep) in
+      ap (λ (z : ℕ). turn (make_at (table_of w) (visit_value_block (table_of w) z) (terminal_at (table_of w) frame.block) (block_at (table_of w) frame.block) (unless_none p.block) (frame_of frame) F R C)) n)
       (λ C. refl) m

@@ -7,204 +7,204 @@ use mathlib.Core.List.{List, [], ◌∷◌}
 use mathlib.Core.Option.{Option, none, some}
 use lib.Dec.{eqb}
 use lib.ListN.{length, take, drop, length-drop, length-reverse}
-use Rattle.table.specs.Words.{blockCount, caseCount, code_at}
+use Rattle.table.specs.Words.{block_count, case_count, code_at}
 use Rattle.table.specs.Promise.{Ends}
-use Rattle.table.specs.Table.{Case, Terminal, table_of, terminalOf, unlessNone, if, switch, label, maybe-throw, try}
-use Rattle.table.proofs.TableLaws.{length-cases}
+use Rattle.table.specs.Table.{Case, Terminal, table_of, terminal_of, unless_none, if, switch, label, maybe_throw, try}
+use Rattle.table.proofs.TableLaws.{length_cases}
 use Rattle.table.proofs.BlockLaws.{no_number, some_number, end_by}
-use Rattle.definition.specs.Context.{Flags, has, pushed, scheduleCatchHandler}
+use Rattle.definition.specs.Context.{Flags, has, pushed, schedule_catch_handler}
 use Rattle.definition.specs.Context as definition
-use Rattle.machine.specs.Machine.{visiting, choosing, going, turn, leave, into, scheduledIf, scheduledSwitch, withLeft, numberOfCases, terminalTurn}
+use Rattle.machine.specs.Machine.{visiting, choosing, going, turn, leave, into, scheduled_if, scheduled_switch, with_left, number_of_cases, terminal_turn}
 use Rattle.definition.specs.Output.{Output}
 use Rattle.machine.specs.Machine as machine
 use Rattle.definition.specs.Result.{ok}
-use Rattle.definition.specs.Statement.{casesLastFirst}
+use Rattle.definition.specs.Statement.{cases_last_first}
 use Rattle.definition.specs.Tree.{Row}
 use Rattle.statements.specs.declared.plan.Position.{Position}
 use Rattle.statements.specs.declared.plan.Frame.{Frame}
 use Rattle.statements.specs.declared.plan.Change.{Change}
 use Rattle.statements.specs.declared.plan.Change.TheVariants.{Nothing}
 use Rattle.statements.specs.declared.plan.Plan.{Plan}
-use Rattle.statements.specs.Plans.{applied, openFrame, refusing, leaving, nesting, choosingNext, entriesIf, scheduleIf, scheduleSwitch, scheduledWith, enclosing, withHandler}
+use Rattle.statements.specs.Plans.{applied, open_frame, refusing, leaving, nesting, choosing_next, entries_if, schedule_if, schedule_switch, scheduled_with, enclosing, with_handler}
 use Rattle.statements.specs.Planned.{Stands, Seen, NamedChange, Fitting, PlannedBare, Entered}
-use Rattle.statements.proofs.PlanLaws.{within_all, visits-same, leave-applied, leave-nested, nest-applied, choose-applied, Label, label-below, label-entries, label-if, label-switch}
-use Rattle.statements.proofs.StepLaws.{label-scheduled, enclose-same, turn-ok}
-use Rattle.statements.proofs.PlannedLaws.{bare-planned, step_by, Rest, Asks, Reached, Takes, here, reached-missing, reached-same, reached-label}
+use Rattle.statements.proofs.PlanLaws.{within_all, visits_same, leave_applied, leave_nested, nest_applied, choose_applied, Label, label_below, label_entries, label_if, label_switch}
+use Rattle.statements.proofs.StepLaws.{label_scheduled, enclose_same, turn_ok}
+use Rattle.statements.proofs.PlannedLaws.{bare_planned, step_by, Rest, Asks, Reached, Takes, here, reached_missing, reached_same, reached_label}
 
 -- ---- plans that enclose
 
-pub named-if : {S : Flags} (n : ℕ) → Label S n → NamedChange 0 (scheduleIf (eqb n 65535) n)
-named-if n l = at (eqb n 65535) (λ e. label-below l e)
+pub named_if : {S : Flags} (n : ℕ) → Label S n → NamedChange 0 (schedule_if (eqb n 65535) n)
+named_if n l = at (eqb n 65535) (λ e. label_below l e)
   where
-    at : (y : Bool) → (y ≡ false → n < 1024) → NamedChange 0 (scheduleIf y n)
+    at : (y : Bool) → (y ≡ false → n < 1024) → NamedChange 0 (schedule_if y n)
     at true h = tt
     at false h = h refl
 
-enclosing-fits : {S : Flags} (y : Bool) (p : Position) (n block code at : ℕ) → Label S n → (code ≡ 0 → ⊥) → (enclosing y p n block code at).code ≡ 0
+enclosing_fits : {S : Flags} (y : Bool) (p : Position) (n block code at : ℕ) → Label S n → (code ≡ 0 → ⊥) → (enclosing y p n block code at).code ≡ 0
     → Fitting [] p.depth (enclosing y p n block code at)
-enclosing-fits true p n block code at l h e = absurd (h e)
-enclosing-fits false p n block code at l h e = record { change = named-if n l; handler = rw no_number tt; scope = rw no_number tt; deep = λ _. omega arith; next = omega arith; nested = tt }
+enclosing_fits true p n block code at l h e = absurd (h e)
+enclosing_fits false p n block code at l h e = record { change = named_if n l; handler = rw no_number tt; scope = rw no_number tt; deep = λ _. omega arith; next = omega arith; nested = tt }
 
-enclosing-rows : (y : Bool) (p : Position) (n block code at : ℕ) → (enclosing y p n block code at).position.rows ≡ p.rows
-enclosing-rows true p n block code at = refl
-enclosing-rows false p n block code at = refl
+enclosing_rows : (y : Bool) (p : Position) (n block code at : ℕ) → (enclosing y p n block code at).position.rows ≡ p.rows
+enclosing_rows true p n block code at = refl
+enclosing_rows false p n block code at = refl
 
 -- ---- terminals that ask whether their fallthrough is reachable, and then have one nested block
 
 module _ (w : List ℕ) (S H : Flags) (p : Position) (en : Entered w p) (e : Terminal) (f x code at : ℕ) (ends : Ends w p.block e)
-    (asks : Asks w p e f (λ F R C taken. into x code at (here p R taken) F R (scheduledIf taken C))) (h : f < blockCount w) (u : x < blockCount w) (nz : code ≡ 0 → ⊥) where
-  reached-enclosed : (n : ℕ) (plan : Plan) → (code_at w f ≡ 0 → ⊥) → Reached w S H f n → plan ≡ enclosing (scheduledWith (has S x || has H x) n x) p n x code at → PlannedBare w S H p plan
-  reached-enclosed n plan z r o = rw o
-      (reached-same w S H p en e f _ ends asks h n (enclosing busy p n x code at) z r
-      (λ _. enclosing-rows busy p n x code at) (enclosing-fits busy p n x code at l nz)
-      (λ F R C d seen. enclose-same S H p n x code at F R C l (omega (arith, u, ends.few)) nz seen d))
+    (asks : Asks w p e f (λ F R C taken. into x code at (here p R taken) F R (scheduled_if taken C))) (h : f < block_count w) (u : x < block_count w) (nz : code ≡ 0 → ⊥) where
+  reached_enclosed : (n : ℕ) (plan : Plan) → (code_at w f ≡ 0 → ⊥) → Reached w S H f n → plan ≡ enclosing (scheduled_with (has S x || has H x) n x) p n x code at → PlannedBare w S H p plan
+  reached_enclosed n plan z r o = rw o
+      (reached_same w S H p en e f _ ends asks h n (enclosing busy p n x code at) z r
+      (λ _. enclosing_rows busy p n x code at) (enclosing_fits busy p n x code at l nz)
+      (λ F R C d seen. enclose_same S H p n x code at F R C l (omega (arith, u, ends.few)) nz seen d))
     where
       busy : Bool
-      busy = scheduledWith (has S x || has H x) n x
+      busy = scheduled_with (has S x || has H x) n x
 
       l : Label S n
-      l = reached-label w S H p en e f _ ends asks h n r
+      l = reached_label w S H p en e f _ ends asks h n r
 
 -- as many cases as the terminal lists
-number_is : (w : List ℕ) (first number : ℕ) → first + number ≤ caseCount w → numberOfCases (table_of w) first number ≡ number
-unfolding numberOfCases casesLastFirst
+number_is : (w : List ℕ) (first number : ℕ) → first + number ≤ case_count w → number_of_cases (table_of w) first number ≡ number
+unfolding number_of_cases cases_last_first
 number_is w first number h =
     length-reverse (take number (drop first (table_of w).cases)) ∙ whole number (drop first (table_of w).cases)
-    (omega (arith, length-drop first (table_of w).cases, length-cases w))
+    (omega (arith, length-drop first (table_of w).cases, length_cases w))
   where
     whole : (n : ℕ) (l : List Case) → n ≤ length l → length (take n l) ≡ n
     whole zero l k = refl
     whole (suc n) [] k = absurd (omega arith)
     whole (suc n) (x ∷ l) k = ap suc (whole n l (omega arith))
 
-abbrev switchFrame : Position → (n entries left : ℕ) → Frame
-switchFrame p n entries left = record { block = p.block; label = n; entries = entries; left = left; built = 0; first = p.rows; count = p.count; second = false }
+abbrev switch_frame : Position → (n entries left : ℕ) → Frame
+switch_frame p n entries left = record { block = p.block; label = n; entries = entries; left = left; built = 0; first = p.rows; count = p.count; second = false }
 
-if-asks : (w : List ℕ) (p : Position) (t c a f : ℕ) → Asks w p (if t c a f) f (λ F R C taken. into c 12 c (here p R taken) F R (scheduledIf taken C))
-unfolding terminalTurn
-if-asks w p t c a f F R C = refl
+if_asks : (w : List ℕ) (p : Position) (t c a f : ℕ) → Asks w p (if t c a f) f (λ F R C taken. into c 12 c (here p R taken) F R (scheduled_if taken C))
+unfolding terminal_turn
+if_asks w p t c a f F R C = refl
 
-label-asks : (w : List ℕ) (p : Position) (x f : ℕ) → Asks w p (label x f) f (λ F R C taken. into x 17 p.block (here p R taken) F R (scheduledIf taken C))
-unfolding terminalTurn
-label-asks w p x f F R C = refl
+label_asks : (w : List ℕ) (p : Position) (x f : ℕ) → Asks w p (label x f) f (λ F R C taken. into x 17 p.block (here p R taken) F R (scheduled_if taken C))
+unfolding terminal_turn
+label_asks w p x f F R C = refl
 
-abbrev switchRest : List ℕ → Position → (i m : ℕ) → Rest
-switchRest w p i m F R C taken = ok (choosing (withLeft (numberOfCases (table_of w) i m) (here p R taken)) F R (scheduledSwitch taken C))
+abbrev switch_rest : List ℕ → Position → (i m : ℕ) → Rest
+switch_rest w p i m F R C taken = ok (choosing (with_left (number_of_cases (table_of w) i m) (here p R taken)) F R (scheduled_switch taken C))
 
-switch_asks : (w : List ℕ) (p : Position) (t i m f : ℕ) → Asks w p (switch t i m f) f (switchRest w p i m)
-unfolding terminalTurn
+switch_asks : (w : List ℕ) (p : Position) (t i m f : ℕ) → Asks w p (switch t i m f) f (switch_rest w p i m)
+unfolding terminal_turn
 switch_asks w p t i m f F R C = refl
 
-abbrev tryRest : Position → (x y : ℕ) → Rest
-tryRest p x y F R C taken = ok (visiting x (here p R taken ∷ F) R 0 (scheduleCatchHandler y (scheduledIf taken C)))
+abbrev try_rest : Position → (x y : ℕ) → Rest
+try_rest p x y F R C taken = ok (visiting x (here p R taken ∷ F) R 0 (schedule_catch_handler y (scheduled_if taken C)))
 
-try-asks : (w : List ℕ) (p : Position) (x y f : ℕ) (binding : Option ℕ) → Asks w p (try x y f binding) f (tryRest p x y)
-unfolding terminalTurn
-try-asks w p x y f binding F R C = refl
+try_asks : (w : List ℕ) (p : Position) (x y f : ℕ) (binding : Option ℕ) → Asks w p (try x y f binding) f (try_rest p x y)
+unfolding terminal_turn
+try_asks w p x y f binding F R C = refl
 
-abbrev tryPlan : Position → (x y n : ℕ) → Plan
-tryPlan p x y n = nesting x (openFrame p n (entriesIf (eqb n 65535))) (p.depth + 1) p.rows p.visits y 65535 (scheduleIf (eqb n 65535) n)
+abbrev try_plan : Position → (x y n : ℕ) → Plan
+try_plan p x y n = nesting x (open_frame p n (entries_if (eqb n 65535))) (p.depth + 1) p.rows p.visits y 65535 (schedule_if (eqb n 65535) n)
 
 -- ---- what the code of such a terminal returns. A premise is a contract's own words or a test's
 
 module _ {w : List ℕ} {S H : Flags} {p : Position} {plan : Plan} (en : Entered w p) where
   module _ {t c a f kind : ℕ} (ends : Ends w p.block (if t c a f)) (reached : kind ≡ code_at w f) where
-    pub if-missing : kind ≡ 0 → plan ≡ refusing p 10 f → PlannedBare w S H p plan
-    if-missing z q = reached-missing w S H p en (if t c a f) f _ ends (if-asks w p t c a f) ends.named.3 plan (sym reached ∙ z) q
+    pub if_missing : kind ≡ 0 → plan ≡ refusing p 10 f → PlannedBare w S H p plan
+    if_missing z q = reached_missing w S H p en (if t c a f) f _ ends (if_asks w p t c a f) ends.named.3 plan (sym reached ∙ z) q
 
-    pub if-nested : {n : ℕ} {busy : Bool} → (kind ≡ 0 → ⊥) → Reached w S H f n → busy ≡ has S c || has H c → plan ≡ enclosing (scheduledWith busy n c) p n c 12 c → PlannedBare w S H p plan
-    if-nested {n} z r b q = reached-enclosed w S H p en (if t c a f) f c 12 c ends (if-asks w p t c a f) ends.named.3 ends.named.1 (λ x. omega arith) n plan (λ y. z (reached ∙ y)) r
-        (q ∙ ap (λ (y : Bool). enclosing (scheduledWith y n c) p n c 12 c) b)
+    pub if_nested : {n : ℕ} {busy : Bool} → (kind ≡ 0 → ⊥) → Reached w S H f n → busy ≡ has S c || has H c → plan ≡ enclosing (scheduled_with busy n c) p n c 12 c → PlannedBare w S H p plan
+    if_nested {n} z r b q = reached_enclosed w S H p en (if t c a f) f c 12 c ends (if_asks w p t c a f) ends.named.3 ends.named.1 (λ x. omega arith) n plan (λ y. z (reached ∙ y)) r
+        (q ∙ ap (λ (y : Bool). enclosing (scheduled_with y n c) p n c 12 c) b)
 
   module _ {x f kind : ℕ} (ends : Ends w p.block (label x f)) (reached : kind ≡ code_at w f) where
-    pub label-absent : kind ≡ 0 → plan ≡ refusing p 10 f → PlannedBare w S H p plan
-    label-absent z q = reached-missing w S H p en (label x f) f _ ends (label-asks w p x f) ends.named.1 plan (sym reached ∙ z) q
+    pub label_absent : kind ≡ 0 → plan ≡ refusing p 10 f → PlannedBare w S H p plan
+    label_absent z q = reached_missing w S H p en (label x f) f _ ends (label_asks w p x f) ends.named.1 plan (sym reached ∙ z) q
 
-    pub label-nested : {n : ℕ} {busy : Bool} → (kind ≡ 0 → ⊥) → Reached w S H f n → busy ≡ has S x || has H x → plan ≡ enclosing (scheduledWith busy n x) p n x 17 p.block → PlannedBare w S H p plan
-    label-nested {n} z r b q = reached-enclosed w S H p en (label x f) f x 17 p.block ends (label-asks w p x f) ends.named.1 ends.named.0 (λ y. omega arith) n plan (λ y. z (reached ∙ y)) r
-        (q ∙ ap (λ (y : Bool). enclosing (scheduledWith y n x) p n x 17 p.block) b)
+    pub label_nested : {n : ℕ} {busy : Bool} → (kind ≡ 0 → ⊥) → Reached w S H f n → busy ≡ has S x || has H x → plan ≡ enclosing (scheduled_with busy n x) p n x 17 p.block → PlannedBare w S H p plan
+    label_nested {n} z r b q = reached_enclosed w S H p en (label x f) f x 17 p.block ends (label_asks w p x f) ends.named.1 ends.named.0 (λ y. omega arith) n plan (λ y. z (reached ∙ y)) r
+        (q ∙ ap (λ (y : Bool). enclosing (scheduled_with y n x) p n x 17 p.block) b)
 
   module _ {t i m f kind : ℕ} (ends : Ends w p.block (switch t i m f)) (reached : kind ≡ code_at w f) where
-    pub switch-missing : kind ≡ 0 → plan ≡ refusing p 10 f → PlannedBare w S H p plan
-    switch-missing z q = reached-missing w S H p en (switch t i m f) f (switchRest w p i m) ends (switch_asks w p t i m f) ends.named.2 plan (sym reached ∙ z) q
+    pub switch_missing : kind ≡ 0 → plan ≡ refusing p 10 f → PlannedBare w S H p plan
+    switch_missing z q = reached_missing w S H p en (switch t i m f) f (switch_rest w p i m) ends (switch_asks w p t i m f) ends.named.2 plan (sym reached ∙ z) q
 
-    pub switch-begins : {n entries : ℕ} {change : Change} → (kind ≡ 0 → ⊥) → Reached w S H f n → entries ≡ entriesIf (eqb n 65535) → change ≡ scheduleSwitch (eqb n 65535) n
-        → plan ≡ choosingNext (switchFrame p n entries m) (p.depth + 1) p.rows p.visits change → PlannedBare w S H p plan
-    switch-begins {n} z r o g q =
-        rw (q, o, g) (reached-same w S H p en (switch t i m f) f (switchRest w p i m) ends (switch_asks w p t i m f) ends.named.2 n
-        (choosingNext frame (p.depth + 1) p.rows p.visits (scheduleSwitch (eqb n 65535) n))
+    pub switch_begins : {n entries : ℕ} {change : Change} → (kind ≡ 0 → ⊥) → Reached w S H f n → entries ≡ entries_if (eqb n 65535) → change ≡ schedule_switch (eqb n 65535) n
+        → plan ≡ choosing_next (switch_frame p n entries m) (p.depth + 1) p.rows p.visits change → PlannedBare w S H p plan
+    switch_begins {n} z r o g q =
+        rw (q, o, g) (reached_same w S H p en (switch t i m f) f (switch_rest w p i m) ends (switch_asks w p t i m f) ends.named.2 n
+        (choosing_next frame (p.depth + 1) p.rows p.visits (schedule_switch (eqb n 65535) n))
         (λ y. z (reached ∙ y)) r (λ _. refl)
-        (λ _. record { change = named (eqb n 65535) (λ y. label-below l y); handler = rw no_number tt; scope = rw no_number tt; deep = λ _. omega arith; next = omega arith; nested = refl }) same)
+        (λ _. record { change = named (eqb n 65535) (λ y. label_below l y); handler = rw no_number tt; scope = rw no_number tt; deep = λ _. omega arith; next = omega arith; nested = refl }) same)
       where
         frame : Frame
-        frame = switchFrame p n (entriesIf (eqb n 65535)) m
+        frame = switch_frame p n (entries_if (eqb n 65535)) m
 
         l : Label S n
-        l = reached-label w S H p en (switch t i m f) f (switchRest w p i m) ends (switch_asks w p t i m f) ends.named.2 n r
+        l = reached_label w S H p en (switch t i m f) f (switch_rest w p i m) ends (switch_asks w p t i m f) ends.named.2 n r
 
-        named : (y : Bool) → (y ≡ false → n < 1024) → NamedChange 0 (scheduleSwitch y n)
+        named : (y : Bool) → (y ≡ false → n < 1024) → NamedChange 0 (schedule_switch y n)
         named true h = tt
         named false h = h refl
 
         same : (F : List machine.Frame) (R : Output) (C : definition.Context) → Stands F R p.depth p.rows → Seen S H p.visits C
-            → turn (switchRest w p i m F R C (unlessNone n)) ≡ applied (choosingNext frame (p.depth + 1) p.rows p.visits (scheduleSwitch (eqb n 65535) n)) F R C
-        same F R C d seen = turn-ok _ ∙ rw (number_is w i m ends.named.1)
-            (sym (choose-applied frame (p.depth + 1) p.rows p.visits (scheduleSwitch (eqb n 65535) n) F R C (scheduledSwitch (unlessNone n) C)
-            (rw (visits-same p.visits C seen.visits) (label-switch l C seen.scheduled))
-            ∙ rw (label-entries n, d.many, within_all (p.depth + 1 - 1) F (omega (arith, d.deep)))))
+            → turn (switch_rest w p i m F R C (unless_none n)) ≡ applied (choosing_next frame (p.depth + 1) p.rows p.visits (schedule_switch (eqb n 65535) n)) F R C
+        same F R C d seen = turn_ok _ ∙ rw (number_is w i m ends.named.1)
+            (sym (choose_applied frame (p.depth + 1) p.rows p.visits (schedule_switch (eqb n 65535) n) F R C (scheduled_switch (unless_none n) C)
+            (rw (visits_same p.visits C seen.visits) (label_switch l C seen.scheduled))
+            ∙ rw (label_entries n, d.many, within_all (p.depth + 1 - 1) F (omega (arith, d.deep)))))
 
   module _ {x y f kind : ℕ} {binding : Option ℕ} (ends : Ends w p.block (try x y f binding)) (reached : kind ≡ code_at w f) where
-    pub try-missing : kind ≡ 0 → plan ≡ refusing p 10 f → PlannedBare w S H p plan
-    try-missing z q = reached-missing w S H p en (try x y f binding) f (tryRest p x y) ends (try-asks w p x y f binding) ends.named.2 plan (sym reached ∙ z) q
+    pub try_missing : kind ≡ 0 → plan ≡ refusing p 10 f → PlannedBare w S H p plan
+    try_missing z q = reached_missing w S H p en (try x y f binding) f (try_rest p x y) ends (try_asks w p x y f binding) ends.named.2 plan (sym reached ∙ z) q
 
-    pub try-nested : {n entries : ℕ} {frame : Frame} {change : Change} {inner : Plan} → (kind ≡ 0 → ⊥) → Reached w S H f n → entries ≡ entriesIf (eqb n 65535) → frame ≡ openFrame p n entries
-        → change ≡ scheduleIf (eqb n 65535) n → inner ≡ nesting x frame (p.depth + 1) p.rows p.visits 65535 65535 change → plan ≡ withHandler inner y → PlannedBare w S H p plan
-    try-nested {n} z r o g k q e =
-        rw (e, q, g, o, k) (reached-same w S H p en (try x y f binding) f (tryRest p x y) ends (try-asks w p x y f binding) ends.named.2 n (tryPlan p x y n)
+    pub try_nested : {n entries : ℕ} {frame : Frame} {change : Change} {inner : Plan} → (kind ≡ 0 → ⊥) → Reached w S H f n → entries ≡ entries_if (eqb n 65535) → frame ≡ open_frame p n entries
+        → change ≡ schedule_if (eqb n 65535) n → inner ≡ nesting x frame (p.depth + 1) p.rows p.visits 65535 65535 change → plan ≡ with_handler inner y → PlannedBare w S H p plan
+    try_nested {n} z r o g k q e =
+        rw (e, q, g, o, k) (reached_same w S H p en (try x y f binding) f (try_rest p x y) ends (try_asks w p x y f binding) ends.named.2 n (try_plan p x y n)
         (λ v. z (reached ∙ v)) r (λ _. refl)
-        (λ _. record { change = named-if n l; handler = rw (some_number y (λ v. omega (arith, few))) few; scope = rw no_number tt; deep = λ _. omega arith; next = omega arith; nested = tt }) same)
+        (λ _. record { change = named_if n l; handler = rw (some_number y (λ v. omega (arith, few))) few; scope = rw no_number tt; deep = λ _. omega arith; next = omega arith; nested = tt }) same)
       where
         few : y < 1024
         few = omega (arith, ends.named.1, ends.few)
 
         l : Label S n
-        l = reached-label w S H p en (try x y f binding) f (tryRest p x y) ends (try-asks w p x y f binding) ends.named.2 n r
+        l = reached_label w S H p en (try x y f binding) f (try_rest p x y) ends (try_asks w p x y f binding) ends.named.2 n r
 
-        caught : (g : Option ℕ) (C : definition.Context) → scheduleCatchHandler y (scheduledIf g C) ≡ scheduledIf g (scheduleCatchHandler y C)
+        caught : (g : Option ℕ) (C : definition.Context) → schedule_catch_handler y (scheduled_if g C) ≡ scheduled_if g (schedule_catch_handler y C)
         caught none C = refl
-        caught (some v) C = unfold pushed scheduleCatchHandler in refl
+        caught (some v) C = unfold pushed schedule_catch_handler in refl
 
-        handler-seen : (C : definition.Context) → Seen S H p.visits C → (scheduleCatchHandler y C).scheduled ≡ S
-        handler-seen C seen = unfold scheduleCatchHandler in seen.scheduled
+        handler_seen : (C : definition.Context) → Seen S H p.visits C → (schedule_catch_handler y C).scheduled ≡ S
+        handler_seen C seen = unfold schedule_catch_handler in seen.scheduled
 
         same : (F : List machine.Frame) (R : Output) (C : definition.Context) → Stands F R p.depth p.rows → Seen S H p.visits C
-            → turn (tryRest p x y F R C (unlessNone n)) ≡ applied (tryPlan p x y n) F R C
-        same F R C d seen = turn-ok _
-            ∙ sym (nest-applied x (openFrame p n (entriesIf (eqb n 65535))) (p.depth + 1) p.rows p.visits y 65535 (scheduleIf (eqb n 65535) n) F R C
-            (scheduleCatchHandler y (scheduledIf (unlessNone n) C))
-            (rw (no_number, some_number y (λ v. omega (arith, few)), visits-same p.visits C seen.visits, caught (unlessNone n) C) (label-if l (scheduleCatchHandler y C) (handler-seen C seen)))
-            ∙ rw (label-entries n, d.many, within_all (p.depth + 1 - 1) F (omega (arith, d.deep))))
+            → turn (try_rest p x y F R C (unless_none n)) ≡ applied (try_plan p x y n) F R C
+        same F R C d seen = turn_ok _
+            ∙ sym (nest_applied x (open_frame p n (entries_if (eqb n 65535))) (p.depth + 1) p.rows p.visits y 65535 (schedule_if (eqb n 65535) n) F R C
+            (schedule_catch_handler y (scheduled_if (unless_none n) C))
+            (rw (no_number, some_number y (λ v. omega (arith, few)), visits_same p.visits C seen.visits, caught (unless_none n) C) (label_if l (schedule_catch_handler y C) (handler_seen C seen)))
+            ∙ rw (label_entries n, d.many, within_all (p.depth + 1 - 1) F (omega (arith, d.deep))))
 
   -- ---- MaybeThrow and Unreachable
 
-  pub maybe-throw-left : {f n : ℕ} → Ends w p.block (maybe-throw f) → Takes S H f n → plan ≡ leaving n p.depth p.count p.rows p.visits Nothing → PlannedBare w S H p plan
-  unfolding terminalTurn
-  maybe-throw-left {f} {n} ends q e = rw e (bare-planned w S H p (leaving n p.depth p.count p.rows p.visits Nothing) (λ _. refl) (λ F R C d seen.
-      ap turn (step_by w p _ F R C ends.is) ∙ turn-ok _
-      ∙ ap (λ (z : Option ℕ). going (leave z F R p.count C)) (label-scheduled w en.promise S H p.visits C seen f (omega (arith, ends.named, ends.few)) ∙ ap unlessNone (sym q))
-      ∙ sym (leave-applied n p.depth p.count p.rows p.visits Nothing F R C _ refl ∙ rw (visits-same p.visits C seen.visits, within_all p.depth F d.deep)))
+  pub maybe_throw_left : {f n : ℕ} → Ends w p.block (maybe_throw f) → Takes S H f n → plan ≡ leaving n p.depth p.count p.rows p.visits Nothing → PlannedBare w S H p plan
+  unfolding terminal_turn
+  maybe_throw_left {f} {n} ends q e = rw e (bare_planned w S H p (leaving n p.depth p.count p.rows p.visits Nothing) (λ _. refl) (λ F R C d seen.
+      ap turn (step_by w p _ F R C ends.is) ∙ turn_ok _
+      ∙ ap (λ (z : Option ℕ). going (leave z F R p.count C)) (label_scheduled w en.promise S H p.visits C seen f (omega (arith, ends.named, ends.few)) ∙ ap unless_none (sym q))
+      ∙ sym (leave_applied n p.depth p.count p.rows p.visits Nothing F R C _ refl ∙ rw (visits_same p.visits C seen.visits, within_all p.depth F d.deep)))
       (λ _. record {
         change = tt;
         handler = rw no_number tt;
         scope = rw no_number tt;
         deep = λ z. absurd (let o : ◌≡◌ {A = ℕ} 0 1 = cc in omega arith);
         next = omega arith;
-        nested = leave-nested (eqb n 65535);
+        nested = leave_nested (eqb n 65535);
       }))
 
-  pub unreachable-left : code_at w p.block ≡ 1 → plan ≡ leaving 65535 p.depth p.count p.rows p.visits Nothing → PlannedBare w S H p plan
-  unfolding terminalTurn terminalOf
-  unreachable-left code e = rw e (bare-planned w S H p (leaving 65535 p.depth p.count p.rows p.visits Nothing) (λ _. refl) (λ F R C d seen.
-      ap turn (step_by w p _ F R C (end_by w p.block en.block 1 code)) ∙ turn-ok _
-      ∙ sym (leave-applied 65535 p.depth p.count p.rows p.visits Nothing F R C _ refl ∙ rw (no_number, visits-same p.visits C seen.visits, within_all p.depth F d.deep)))
+  pub unreachable_left : code_at w p.block ≡ 1 → plan ≡ leaving 65535 p.depth p.count p.rows p.visits Nothing → PlannedBare w S H p plan
+  unfolding terminal_turn terminal_of
+  unreachable_left code e = rw e (bare_planned w S H p (leaving 65535 p.depth p.count p.rows p.visits Nothing) (λ _. refl) (λ F R C d seen.
+      ap turn (step_by w p _ F R C (end_by w p.block en.block 1 code)) ∙ turn_ok _
+      ∙ sym (leave_applied 65535 p.depth p.count p.rows p.visits Nothing F R C _ refl ∙ rw (no_number, visits_same p.visits C seen.visits, within_all p.depth F d.deep)))
       (λ _. record { change = tt; handler = rw no_number tt; scope = rw no_number tt; deep = λ z. absurd (let o : ◌≡◌ {A = ℕ} 0 1 = cc in omega arith); next = omega arith; nested = tt }))

@@ -1,8 +1,8 @@
 -- The contract of an arm: its plan, applied, is what the machine's turn comes to, and the buffer holds the rows that it put out.
 use Rattle.std.specs.Prelude.{ℕ, suc, ◌+◌, ◌-◌, ◌≤◌, ◌<◌, ◌≡◌, Bool, true, false, List, [], ◌∷◌, ◌++◌, length}
-use Rattle.table.specs.Words.{blockCount}
+use Rattle.table.specs.Words.{block_count}
 use Rattle.table.specs.Promise.{Promise}
-use Rattle.table.specs.Table.{table_of, terminalAt, block_at, unlessNone}
+use Rattle.table.specs.Table.{table_of, terminal_at, block_at, unless_none}
 use Rattle.definition.specs.Around.{rust, Around, outermost}
 use Rattle.definition.specs.Context.{Flags}
 use Rattle.definition.specs.Context as definition
@@ -11,7 +11,7 @@ use Rattle.definition.specs.Output.{Output, ◌⊕◌}
 use Rattle.machine.specs.Machine as machine
 use Rattle.definition.specs.Result.{Result}
 use Rattle.definition.specs.Tree.{Row}
-use Rattle.definition.specs.Value.{visitValueBlock}
+use Rattle.definition.specs.Value.{visit_value_block}
 use Rattle.machine.specs.Framed.{Below}
 use Rattle.control.specs.Contract.{Named}
 use Rattle.values.specs.Rows.{Holds}
@@ -25,11 +25,11 @@ use Rattle.statements.specs.declared.plan.Plan.{Plan}
 use Rattle.statements.specs.Plans.{applied}
 
 -- an arm sees the sets and the visits of this Context
-pub record Seen (scheduledSet handlerSet : Flags) (begun : ℕ) (cx : definition.Context) : Type 0 where
-  pub scheduled : cx.scheduled ≡ scheduledSet
-  pub handlers : cx.catchHandlers ≡ handlerSet
+pub record Seen (scheduled_set handler_set : Flags) (begun : ℕ) (cx : definition.Context) : Type 0 where
+  pub scheduled : cx.scheduled ≡ scheduled_set
+  pub handlers : cx.catch_handlers ≡ handler_set
   pub visits : cx.visits ≡ begun
-  pub wide : length scheduledSet ≡ 1024
+  pub wide : length scheduled_set ≡ 1024
 
 -- the blocks that a change names are among the 1,024; an entry is taken off only where the statement has one
 abbrev pub NamedChange : (entries : ℕ) → Change → Type 0
@@ -37,9 +37,9 @@ NamedChange entries Nothing = Unit {0}
 NamedChange entries (Schedule target) = Named target
 NamedChange entries Unschedule = 1 ≤ entries
 
-abbrev pub entriesOnTop : List machine.Frame → ℕ
-entriesOnTop [] = 0
-entriesOnTop (frame ∷ frames) = frame.entries
+abbrev pub entries_on_top : List machine.Frame → ℕ
+entries_on_top [] = 0
+entries_on_top (frame ∷ frames) = frame.entries
 
 -- the greatest depth that a plan may come to: one more if it keeps a frame
 abbrev pub deepest : (keep : Bool) → ℕ → ℕ
@@ -57,9 +57,9 @@ Nested Halt keep = Unit {0}
 
 -- what the walk needs to apply a plan. `top` is the frame in hand, if any
 pub record Fitting (top : List machine.Frame) (depth : ℕ) (plan : Plan) : Type 0 where
-  pub change : NamedChange (entriesOnTop top) plan.change
-  pub handler : Below 1024 (unlessNone plan.handler)
-  pub scope : Below 1024 (unlessNone plan.scope)
+  pub change : NamedChange (entries_on_top top) plan.change
+  pub handler : Below 1024 (unless_none plan.handler)
+  pub scope : Below 1024 (unless_none plan.scope)
   pub deep : plan.keep ≡ true → 1 ≤ plan.position.depth
   pub next : plan.position.depth ≤ deepest plan.keep depth
   pub nested : Nested plan.position.stage plan.keep
@@ -81,22 +81,22 @@ pub record Planned (step : List machine.Frame → Output → definition.Context 
 -- ---- the terminal of a block that is entered
 
 -- what the machine's turn comes to, with this around
-abbrev pub terminalStepIn : Around → List ℕ → Position → List machine.Frame → Output → definition.Context → Result State
-terminalStepIn around words p frames before cx =
-    machine.terminalTurn around (table_of words) (visitValueBlock (table_of words) (127 - p.depth)) (terminalAt (table_of words) p.block) p.block
+abbrev pub terminal_step_in : Around → List ℕ → Position → List machine.Frame → Output → definition.Context → Result State
+terminal_step_in around words p frames before cx =
+    machine.terminal_turn around (table_of words) (visit_value_block (table_of words) (127 - p.depth)) (terminal_at (table_of words) p.block) p.block
     (block_at (table_of words) p.block) frames before p.count cx
 
--- Only Goto and Branch look at what is around (PlannedLaws, `around-unread`): the turn of any other terminal is this one
+-- Only Goto and Branch look at what is around (PlannedLaws, `around_unread`): the turn of any other terminal is this one
 abbrev pub nowhere : Around
 nowhere = outermost rust
 
-abbrev pub terminalStep : List ℕ → Position → List machine.Frame → Output → definition.Context → Result State
-terminalStep words p = terminalStepIn nowhere words p
+abbrev pub terminal_step : List ℕ → Position → List machine.Frame → Output → definition.Context → Result State
+terminal_step words p = terminal_step_in nowhere words p
 
 -- what holds of a position there
 pub record Entered (words : List ℕ) (p : Position) : Type 0 where
   pub promise : Promise words
-  pub block : p.block < blockCount words
+  pub block : p.block < block_count words
   pub depth : p.depth < 128
   pub visits : p.visits ≤ 8192
   pub rows : p.rows ≤ 100000000
@@ -104,7 +104,7 @@ pub record Entered (words : List ℕ) (p : Position) : Type 0 where
 
 -- an arm that puts out no row
 abbrev pub PlannedBare : List ℕ → Flags → Flags → Position → Plan → Type 0
-PlannedBare words scheduledSet handlerSet p plan = (buffer : List ℕ) → Planned (terminalStep words p) (Seen scheduledSet handlerSet p.visits) [] p.depth p.rows buffer plan buffer
+PlannedBare words scheduled_set handler_set p plan = (buffer : List ℕ) → Planned (terminal_step words p) (Seen scheduled_set handler_set p.visits) [] p.depth p.rows buffer plan buffer
 
 abbrev pub SameVisits : Position → definition.Context → Type 0
 SameVisits p cx = cx.visits ≡ p.visits

@@ -1,9 +1,9 @@
 -- What a plan means for the machine of turns.
 use Rattle.std.specs.Prelude.{ℕ, zero, suc, ◌+◌, ◌-◌, Bool, true, false, ◌||◌, List, [], ◌∷◌, ◌++◌, eqb, length, get_or, drop}
 use Rattle.std.proofs.Math.Option.{Option, none, some}
-use Rattle.table.specs.Table.{unlessNone}
+use Rattle.table.specs.Table.{unless_none}
 use Rattle.definition.specs.Build.{accepted, rejected}
-use Rattle.definition.specs.Context.{schedule, scheduleCatchHandler, markScopeFallthrough, withVisits}
+use Rattle.definition.specs.Context.{schedule, schedule_catch_handler, mark_scope_fallthrough, with_visits}
 use Rattle.definition.specs.Context as definition
 use Rattle.machine.specs.Machine.{State, visiting, ended, choosing, popping, making, Turn, going, halt, unscheduled}
 use Rattle.definition.specs.Output.{Output}
@@ -25,27 +25,27 @@ use Rattle.statements.specs.declared.plan.Plan.{Plan}
 -- ---- from the code's records to the machine's
 
 abbrev pub frame_of : Frame → machine.Frame
-frame_of frame = record { block = frame.block; second = frame.second; label = unlessNone frame.label; entries = frame.entries; left = frame.left; built = frame.built; first = frame.first; count = frame.count }
+frame_of frame = record { block = frame.block; second = frame.second; label = unless_none frame.label; entries = frame.entries; left = frame.left; built = frame.built; first = frame.first; count = frame.count }
 
-abbrev pub noFrame : Frame
-noFrame = record { block = 0; label = 65535; entries = 0; left = 0; built = 0; first = 0; count = 0; second = false }
+abbrev pub no_frame : Frame
+no_frame = record { block = 0; label = 65535; entries = 0; left = 0; built = 0; first = 0; count = 0; second = false }
 
 -- the first frames of the array, as many as the number says, the last of them first
-unfoldable pub framesOf : List Frame → ℕ → List machine.Frame
-framesOf frames zero = []
-framesOf frames (suc n) = frame_of (get_or frames n noFrame) ∷ framesOf frames n
+unfoldable pub frames_of : List Frame → ℕ → List machine.Frame
+frames_of frames zero = []
+frames_of frames (suc n) = frame_of (get_or frames n no_frame) ∷ frames_of frames n
 
 -- the state at a stage. (Choose, Pop and Values do not occur where there is no frame. Halt never occurs.)
-abbrev pub stateAt : Stage → (block : ℕ) → List machine.Frame → Output → (count : ℕ) → definition.Context → State
-stateAt Visit block frames out count cx = visiting block frames out count cx
-stateAt Ended block frames out count cx = ended frames out count cx
-stateAt Choose block [] out count cx = ended [] out count cx
-stateAt Choose block (frame ∷ frames) out count cx = choosing frame frames out cx
-stateAt Pop block [] out count cx = ended [] out count cx
-stateAt Pop block (frame ∷ frames) out count cx = popping frame frames out cx
-stateAt Values block [] out count cx = ended [] out count cx
-stateAt Values block (frame ∷ frames) out count cx = making (unlessNone block) frame frames out cx
-stateAt Halt block frames out count cx = ended frames out count cx
+abbrev pub state_at : Stage → (block : ℕ) → List machine.Frame → Output → (count : ℕ) → definition.Context → State
+state_at Visit block frames out count cx = visiting block frames out count cx
+state_at Ended block frames out count cx = ended frames out count cx
+state_at Choose block [] out count cx = ended [] out count cx
+state_at Choose block (frame ∷ frames) out count cx = choosing frame frames out cx
+state_at Pop block [] out count cx = ended [] out count cx
+state_at Pop block (frame ∷ frames) out count cx = popping frame frames out cx
+state_at Values block [] out count cx = ended [] out count cx
+state_at Values block (frame ∷ frames) out count cx = making (unless_none block) frame frames out cx
+state_at Halt block frames out count cx = ended frames out count cx
 
 -- ---- what the walk does with a plan
 
@@ -57,11 +57,11 @@ changed Unschedule cx = ok (unscheduled cx)
 
 abbrev pub handled : Option ℕ → definition.Context → definition.Context
 handled none cx = cx
-handled (some handler) cx = scheduleCatchHandler handler cx
+handled (some handler) cx = schedule_catch_handler handler cx
 
 abbrev pub scoped : Option ℕ → definition.Context → definition.Context
 scoped none cx = cx
-scoped (some fallthrough) cx = markScopeFallthrough fallthrough cx
+scoped (some fallthrough) cx = mark_scope_fallthrough fallthrough cx
 
 -- the innermost frames, as many as the number says
 abbrev pub within : ℕ → List machine.Frame → List machine.Frame
@@ -71,35 +71,35 @@ abbrev pub kept : Bool → Frame → (depth : ℕ) → List machine.Frame → Li
 kept true frame depth frames = frame_of frame ∷ within (depth - 1) frames
 kept false frame depth frames = within depth frames
 
-abbrev pub contextAfter : Plan → definition.Context → Result definition.Context
-contextAfter plan cx = changed plan.change (scoped (unlessNone plan.scope) (handled (unlessNone plan.handler) (withVisits plan.position.visits cx)))
+abbrev pub context_after : Plan → definition.Context → Result definition.Context
+context_after plan cx = changed plan.change (scoped (unless_none plan.scope) (handled (unless_none plan.handler) (with_visits plan.position.visits cx)))
 
 -- a change that is refused ends the walk
-abbrev pub unlessRefused : Result definition.Context → (definition.Context → State) → Turn
-unlessRefused (ok cx) more = going (more cx)
-unlessRefused (refused code at visits) more = halt (rejected code at visits)
+abbrev pub unless_refused : Result definition.Context → (definition.Context → State) → Turn
+unless_refused (ok cx) more = going (more cx)
+unless_refused (refused code at visits) more = halt (rejected code at visits)
 
 abbrev pub onward : Stage → Plan → List machine.Frame → Output → Result definition.Context → Turn
-onward Visit plan frames out after = unlessRefused after (visiting plan.position.block (kept plan.keep plan.frame plan.position.depth frames) out plan.position.count)
-onward Ended plan frames out after = unlessRefused after (ended (kept plan.keep plan.frame plan.position.depth frames) out plan.position.count)
-onward Choose plan frames out after = unlessRefused after (stateAt Choose 0 (kept plan.keep plan.frame plan.position.depth frames) out 0)
-onward Pop plan frames out after = unlessRefused after (stateAt Pop 0 (kept plan.keep plan.frame plan.position.depth frames) out 0)
-onward Values plan frames out after = unlessRefused after (stateAt Values plan.position.block (kept plan.keep plan.frame plan.position.depth frames) out 0)
+onward Visit plan frames out after = unless_refused after (visiting plan.position.block (kept plan.keep plan.frame plan.position.depth frames) out plan.position.count)
+onward Ended plan frames out after = unless_refused after (ended (kept plan.keep plan.frame plan.position.depth frames) out plan.position.count)
+onward Choose plan frames out after = unless_refused after (state_at Choose 0 (kept plan.keep plan.frame plan.position.depth frames) out 0)
+onward Pop plan frames out after = unless_refused after (state_at Pop 0 (kept plan.keep plan.frame plan.position.depth frames) out 0)
+onward Values plan frames out after = unless_refused after (state_at Values plan.position.block (kept plan.keep plan.frame plan.position.depth frames) out 0)
 onward Halt plan frames out after = halt (accepted out.rows out.lines plan.position.visits)
 
 -- the line of a statement (M-101) whose closing row is the last of the rows that are out
-abbrev pub linesBy : Line → (rows : ℕ) → List index.Line
-linesBy line.Nothing rows = []
-linesBy (line.Put label first) rows = record { label = label; first = first; closing = rows - 1 } ∷ []
+abbrev pub lines_by : Line → (rows : ℕ) → List index.Line
+lines_by line.Nothing rows = []
+lines_by (line.Put label first) rows = record { label = label; first = first; closing = rows - 1 } ∷ []
 
 abbrev pub lined : Line → (rows : ℕ) → Output → Output
 lined line.Nothing rows out = out
-lined (line.Put label first) rows out = record { rows = out.rows; lines = out.lines ++ linesBy (line.Put label first) rows }
+lined (line.Put label first) rows out = record { rows = out.rows; lines = out.lines ++ lines_by (line.Put label first) rows }
 
 unfoldable pub applied : Plan → List machine.Frame → Output → definition.Context → Turn
 applied plan frames out cx =
     elim (eqb plan.code 0) [
-      | true ↦ onward plan.position.stage plan frames (lined plan.line plan.position.rows out) (contextAfter plan cx)
+      | true ↦ onward plan.position.stage plan frames (lined plan.line plan.position.rows out) (context_after plan cx)
       | false ↦ halt (rejected plan.code plan.at plan.position.visits)
     ]
 
@@ -109,32 +109,32 @@ applied plan frames out cx =
 abbrev pub advanced : Position → (count rows visits : ℕ) → Stage → Position
 advanced p count rows visits stage = record { block = p.block; depth = p.depth; count = count; rows = rows; visits = visits; stage = stage }
 
-abbrev pub openFrame : Position → (label entries : ℕ) → Frame
-openFrame p taken entries = record { block = p.block; label = taken; entries = entries; left = 0; built = 0; first = p.rows; count = p.count; second = false }
+abbrev pub open_frame : Position → (label entries : ℕ) → Frame
+open_frame p taken entries = record { block = p.block; label = taken; entries = entries; left = 0; built = 0; first = p.rows; count = p.count; second = false }
 
 abbrev pub second : Frame → Frame
 second frame = record { block = frame.block; label = frame.label; entries = frame.entries; left = frame.left; built = frame.built; first = frame.first; count = frame.count; second = true }
 
-abbrev pub withCounts : Frame → (entries left built : ℕ) → Frame
-withCounts frame entries left built = record { block = frame.block; label = frame.label; entries = entries; left = left; built = built; first = frame.first; count = frame.count; second = frame.second }
+abbrev pub with_counts : Frame → (entries left built : ℕ) → Frame
+with_counts frame entries left built = record { block = frame.block; label = frame.label; entries = entries; left = left; built = built; first = frame.first; count = frame.count; second = frame.second }
 
 -- on to the position, and nothing else
-abbrev pub goingOn : Position → Plan
-goingOn position = record { code = 0; at = 0; position = position; frame = noFrame; keep = false; handler = 65535; scope = 65535; change = Nothing; line = line.Nothing }
+abbrev pub going_on : Position → Plan
+going_on position = record { code = 0; at = 0; position = position; frame = no_frame; keep = false; handler = 65535; scope = 65535; change = Nothing; line = line.Nothing }
 
 abbrev pub refusing : Position → (code at : ℕ) → Plan
-refusing p code at = record { code = code; at = at; position = p; frame = noFrame; keep = false; handler = 65535; scope = 65535; change = Nothing; line = line.Nothing }
+refusing p code at = record { code = code; at = at; position = p; frame = no_frame; keep = false; handler = 65535; scope = 65535; change = Nothing; line = line.Nothing }
 
-abbrev pub stageAfter : Bool → Stage
-stageAfter true = Ended
-stageAfter false = Visit
+abbrev pub stage_after : Bool → Stage
+stage_after true = Ended
+stage_after false = Visit
 
 abbrev pub leaving : (next depth count rows visits : ℕ) → Change → Plan
 leaving next depth count rows visits change = record {
   code = 0;
   at = 0;
-  position = record { block = next; depth = depth; count = count; rows = rows; visits = visits; stage = stageAfter (eqb next 65535) };
-  frame = noFrame;
+  position = record { block = next; depth = depth; count = count; rows = rows; visits = visits; stage = stage_after (eqb next 65535) };
+  frame = no_frame;
   keep = false;
   handler = 65535;
   scope = 65535;
@@ -155,8 +155,8 @@ nesting block frame depth rows visits handler scope change = record {
   line = line.Nothing;
 }
 
-abbrev pub choosingNext : Frame → (depth rows visits : ℕ) → Change → Plan
-choosingNext frame depth rows visits change = record {
+abbrev pub choosing_next : Frame → (depth rows visits : ℕ) → Change → Plan
+choosing_next frame depth rows visits change = record {
   code = 0;
   at = 0;
   position = record { block = 0; depth = depth; count = 0; rows = rows; visits = visits; stage = Choose };
@@ -168,8 +168,8 @@ choosingNext frame depth rows visits change = record {
   line = line.Nothing;
 }
 
-abbrev pub poppingNext : Frame → (depth rows visits : ℕ) → Plan
-poppingNext frame depth rows visits = record {
+abbrev pub popping_next : Frame → (depth rows visits : ℕ) → Plan
+popping_next frame depth rows visits = record {
   code = 0;
   at = 0;
   position = record { block = 0; depth = depth; count = 0; rows = rows; visits = visits; stage = Pop };
@@ -181,8 +181,8 @@ poppingNext frame depth rows visits = record {
   line = line.Nothing;
 }
 
-abbrev pub makingNext : (body : ℕ) → Frame → (depth rows visits : ℕ) → Change → Plan
-makingNext body frame depth rows visits change = record {
+abbrev pub making_next : (body : ℕ) → Frame → (depth rows visits : ℕ) → Change → Plan
+making_next body frame depth rows visits change = record {
   code = 0;
   at = 0;
   position = record { block = body; depth = depth; count = 0; rows = rows; visits = visits; stage = Values };
@@ -199,7 +199,7 @@ accepting rows visits = record {
   code = 0;
   at = 0;
   position = record { block = 0; depth = 0; count = 0; rows = rows; visits = visits; stage = Halt };
-  frame = noFrame;
+  frame = no_frame;
   keep = false;
   handler = 65535;
   scope = 65535;
@@ -207,43 +207,43 @@ accepting rows visits = record {
   line = line.Nothing;
 }
 
-abbrev pub withHandler : Plan → ℕ → Plan
-withHandler plan handler = record { code = plan.code; at = plan.at; position = plan.position; frame = plan.frame; keep = plan.keep; handler = handler; scope = plan.scope; change = plan.change; line = plan.line }
+abbrev pub with_handler : Plan → ℕ → Plan
+with_handler plan handler = record { code = plan.code; at = plan.at; position = plan.position; frame = plan.frame; keep = plan.keep; handler = handler; scope = plan.scope; change = plan.change; line = plan.line }
 
-abbrev pub withScope : Plan → ℕ → Plan
-withScope plan scope = record { code = plan.code; at = plan.at; position = plan.position; frame = plan.frame; keep = plan.keep; handler = plan.handler; scope = scope; change = plan.change; line = plan.line }
+abbrev pub with_scope : Plan → ℕ → Plan
+with_scope plan scope = record { code = plan.code; at = plan.at; position = plan.position; frame = plan.frame; keep = plan.keep; handler = plan.handler; scope = scope; change = plan.change; line = plan.line }
 
-abbrev pub withLine : Plan → Line → Plan
-withLine plan line = record { code = plan.code; at = plan.at; position = plan.position; frame = plan.frame; keep = plan.keep; handler = plan.handler; scope = plan.scope; change = plan.change; line = line }
+abbrev pub with_line : Plan → Line → Plan
+with_line plan line = record { code = plan.code; at = plan.at; position = plan.position; frame = plan.frame; keep = plan.keep; handler = plan.handler; scope = plan.scope; change = plan.change; line = line }
 
 -- ---- labels
 
 -- 65,535 where a fallthrough is not taken
-abbrev pub unlessTaken : Bool → ℕ → ℕ
-unlessTaken true fallthrough = 65535
-unlessTaken false fallthrough = fallthrough
+abbrev pub unless_taken : Bool → ℕ → ℕ
+unless_taken true fallthrough = 65535
+unless_taken false fallthrough = fallthrough
 
-abbrev pub entriesIf : Bool → ℕ
-entriesIf true = 0
-entriesIf false = 1
+abbrev pub entries_if : Bool → ℕ
+entries_if true = 0
+entries_if false = 1
 
-abbrev pub scheduleIf : Bool → ℕ → Change
-scheduleIf true taken = Nothing
-scheduleIf false taken = Schedule (If taken)
+abbrev pub schedule_if : Bool → ℕ → Change
+schedule_if true taken = Nothing
+schedule_if false taken = Schedule (If taken)
 
-abbrev pub scheduleSwitch : Bool → ℕ → Change
-scheduleSwitch true taken = Nothing
-scheduleSwitch false taken = Schedule (Switch taken)
+abbrev pub schedule_switch : Bool → ℕ → Change
+schedule_switch true taken = Nothing
+schedule_switch false taken = Schedule (Switch taken)
 
 -- a statement's entry comes off, if it has one
-abbrev pub unscheduleIf : (none : Bool) → Change
-unscheduleIf true = Nothing
-unscheduleIf false = Unschedule
+abbrev pub unschedule_if : (none : Bool) → Change
+unschedule_if true = Nothing
+unschedule_if false = Unschedule
 
 -- a block is scheduled, or will be once the label is
-abbrev pub scheduledWith : (busy : Bool) → (label block : ℕ) → Bool
-scheduledWith busy taken block = eqb block taken || busy
+abbrev pub scheduled_with : (busy : Bool) → (label block : ℕ) → Bool
+scheduled_with busy taken block = eqb block taken || busy
 
 abbrev pub enclosing : (busy : Bool) → Position → (label block code at : ℕ) → Plan
 enclosing true p taken block code at = refusing p code at
-enclosing false p taken block code at = nesting block (openFrame p taken (entriesIf (eqb taken 65535))) (p.depth + 1) p.rows p.visits 65535 65535 (scheduleIf (eqb taken 65535) taken)
+enclosing false p taken block code at = nesting block (open_frame p taken (entries_if (eqb taken 65535))) (p.depth + 1) p.rows p.visits 65535 65535 (schedule_if (eqb taken 65535) taken)

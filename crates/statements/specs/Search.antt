@@ -1,16 +1,16 @@
 -- What a jump looks for on the control stack, what it finds there, and where it goes by what is around it.
 use Rattle.std.specs.Prelude.{ℕ, ◌≡◌, Bool, false, List, eqb}
 use Rattle.std.proofs.Math.Option.{Option, none, some}
-use Rattle.table.specs.Table.{Break, Continue, table_of, terminalAt}
-use Rattle.definition.specs.Context.{Flags, targetBlock, continuesAt, getBreakTarget, getContinueTarget}
+use Rattle.table.specs.Table.{Break, Continue, table_of, terminal_at}
+use Rattle.definition.specs.Context.{Flags, target_block, continues_at, get_break_target, get_continue_target}
 use Rattle.definition.specs.Context as definition
 use Rattle.definition.specs.Around.{Rule, Around}
 use Rattle.machine.specs.Survey.{Survey}
 use Rattle.definition.specs.Tree.{Kind, implicit, labeled, unlabeled}
-use Rattle.control.specs.Pass.{asksAround}
-use Rattle.machine.specs.Goal.{Goal, breakGoal, continueGoal, goals, surveyedBreak, surveyedContinue}
+use Rattle.control.specs.Pass.{asks_around}
+use Rattle.machine.specs.Goal.{Goal, break_goal, continue_goal, goals, surveyed_break, surveyed_continue}
 use Rattle.control.specs.declared.Context.{Context}
-use Rattle.control.specs.Contract.{breakTo, continueTo}
+use Rattle.control.specs.Contract.{break_to, continue_to}
 use Rattle.statements.specs.Turn.{Resolves}
 use Rattle.statements.specs.declared.search.Jump.{Jump}
 use Rattle.statements.specs.declared.search.Jump.TheVariants.{Nothing}
@@ -18,26 +18,26 @@ use Rattle.statements.specs.declared.search.Jump.TheVariants as jump
 
 -- ---- the search for a jump's target
 
-abbrev pub foundBy : Jump → definition.Context → Option definition.Resolution
-foundBy Nothing cx = none
-foundBy (jump.Break block) cx = getBreakTarget cx block
-foundBy (jump.Continue block) cx = getContinueTarget cx block
+abbrev pub found_by : Jump → definition.Context → Option definition.Resolution
+found_by Nothing cx = none
+found_by (jump.Break block) cx = get_break_target cx block
+found_by (jump.Continue block) cx = get_continue_target cx block
 
 -- the search, an entry at a time: how many entries it looks at, whether it ends at one, and what it gives there
-abbrev pub searchedFrom : Jump → (len : ℕ) → ℕ
-searchedFrom Nothing len = 0
-searchedFrom (jump.Break block) len = len
-searchedFrom (jump.Continue block) len = len
+abbrev pub searched_from : Jump → (len : ℕ) → ℕ
+searched_from Nothing len = 0
+searched_from (jump.Break block) len = len
+searched_from (jump.Continue block) len = len
 
-abbrev pub isMet : Jump → definition.ControlFlowTarget → Bool
-isMet Nothing target = false
-isMet (jump.Break block) target = eqb (targetBlock target) block
-isMet (jump.Continue block) target = continuesAt target block
+abbrev pub is_met : Jump → definition.ControlFlowTarget → Bool
+is_met Nothing target = false
+is_met (jump.Break block) target = eqb (target_block target) block
+is_met (jump.Continue block) target = continues_at target block
 
-abbrev pub resolvedAt : Jump → definition.ControlFlowTarget → (top : Bool) → (loopsAbove : ℕ) → Option definition.Resolution
-resolvedAt Nothing found top loopsAbove = none
-resolvedAt (jump.Break block) found top loopsAbove = some (breakTo found top loopsAbove)
-resolvedAt (jump.Continue block) found top loopsAbove = some (continueTo found top loopsAbove)
+abbrev pub resolved_at : Jump → definition.ControlFlowTarget → (top : Bool) → (loops_above : ℕ) → Option definition.Resolution
+resolved_at Nothing found top loops_above = none
+resolved_at (jump.Break block) found top loops_above = some (break_to found top loops_above)
+resolved_at (jump.Continue block) found top loops_above = some (continue_to found top loops_above)
 
 -- whether the statements around are asked: an Implicit jump's row does not depend on them
 abbrev pub asked_of : Kind → (asks : Bool) → Bool
@@ -45,36 +45,36 @@ asked_of implicit asks = false
 asked_of labeled asks = asks
 asked_of unlabeled asks = asks
 
-abbrev pub asksOf : Rule → Option definition.Resolution → Bool
-asksOf rule none = false
-asksOf rule (some found) = asked_of found.kind (asksAround rule (some found))
+abbrev pub asks_of : Rule → Option definition.Resolution → Bool
+asks_of rule none = false
+asks_of rule (some found) = asked_of found.kind (asks_around rule (some found))
 
 -- where the jump goes, by what is around; and the same from what a pass over it has seen
-abbrev pub goalBy : Jump → Around → Option definition.Resolution → Option Goal
-goalBy Nothing around found = none
-goalBy (jump.Break block) around found = goals (breakGoal around) found
-goalBy (jump.Continue block) around found = goals (continueGoal around) found
+abbrev pub goal_by : Jump → Around → Option definition.Resolution → Option Goal
+goal_by Nothing around found = none
+goal_by (jump.Break block) around found = goals (break_goal around) found
+goal_by (jump.Continue block) around found = goals (continue_goal around) found
 
-abbrev pub surveyedBy : Jump → Rule → Survey → Option definition.Resolution → Option Goal
-surveyedBy Nothing rule seen found = none
-surveyedBy (jump.Break block) rule seen found = goals (surveyedBreak rule seen) found
-surveyedBy (jump.Continue block) rule seen found = goals (surveyedContinue rule seen) found
+abbrev pub surveyed_by : Jump → Rule → Survey → Option definition.Resolution → Option Goal
+surveyed_by Nothing rule seen found = none
+surveyed_by (jump.Break block) rule seen found = goals (surveyed_break rule seen) found
+surveyed_by (jump.Continue block) rule seen found = goals (surveyed_continue rule seen) found
 
 -- A Labeled break asks of the statements around only whether one has its label: so the first that has it is enough.
-abbrev pub enoughFor : Kind → (named : Bool) → Bool
-enoughFor implicit named = false
-enoughFor labeled named = named
-enoughFor unlabeled named = false
+abbrev pub enough_for : Kind → (named : Bool) → Bool
+enough_for implicit named = false
+enough_for labeled named = named
+enough_for unlabeled named = false
 
-abbrev pub enoughIn : Option definition.Resolution → (named : Bool) → Bool
-enoughIn none named = false
-enoughIn (some found) named = enoughFor found.kind named
+abbrev pub enough_in : Option definition.Resolution → (named : Bool) → Bool
+enough_in none named = false
+enough_in (some found) named = enough_for found.kind named
 
 abbrev pub known_by : Jump → Option definition.Resolution → (named : Bool) → Bool
 known_by Nothing found named = false
-known_by (jump.Break block) found named = enoughIn found named
+known_by (jump.Break block) found named = enough_in found named
 known_by (jump.Continue block) found named = false
 
 -- a search that finds what the block's terminal looks for
-pub record Searches (words : List ℕ) (scheduledSet handlerSet : Flags) (block : ℕ) (found : Jump) : Type 0 where
-  pub resolves : (around : Around) (cx : definition.Context) → cx.scheduled ≡ scheduledSet → cx.catchHandlers ≡ handlerSet → Resolves (terminalAt (table_of words) block) around cx (goalBy found around (foundBy found cx))
+pub record Searches (words : List ℕ) (scheduled_set handler_set : Flags) (block : ℕ) (found : Jump) : Type 0 where
+  pub resolves : (around : Around) (cx : definition.Context) → cx.scheduled ≡ scheduled_set → cx.catch_handlers ≡ handler_set → Resolves (terminal_at (table_of words) block) around cx (goal_by found around (found_by found cx))

@@ -1,19 +1,19 @@
 -- The contract of a whole turn: what the walk shows an arm, and what it gets back.
 use Rattle.std.specs.Prelude.{ℕ, zero, suc, ◌+◌, ◌-◌, ◌≤◌, ◌<◌, ◌≡◌, true, List, [], ◌∷◌, ◌++◌, length}
 use Rattle.std.proofs.Math.Option.{Option}
-use Rattle.table.specs.Words.{blockCount}
+use Rattle.table.specs.Words.{block_count}
 use Rattle.table.specs.Promise.{Promise}
-use Rattle.table.specs.Table.{Terminal, absent, unreachable, throw, return, goto, if, branch, switch, do-while, while, for, for-of, for-in, logical, ternary}
-use Rattle.table.specs.Table.{optional, label, sequence, maybe-throw, try, scope, Break, Continue, Try, table_of, terminalAt}
-use Rattle.definition.specs.Context.{Flags, emit, isScheduled, getBreakTarget, getContinueTarget}
+use Rattle.table.specs.Table.{Terminal, absent, unreachable, throw, return, goto, if, branch, switch, do_while, while, for, for_of, for_in, logical, ternary}
+use Rattle.table.specs.Table.{optional, label, sequence, maybe_throw, try, scope, Break, Continue, Try, table_of, terminal_at}
+use Rattle.definition.specs.Context.{Flags, emit, is_scheduled, get_break_target, get_continue_target}
 use Rattle.definition.specs.Context as definition
 use Rattle.definition.specs.Around.{Around}
-use Rattle.machine.specs.Goal.{Goal, breakGoal, continueGoal, goals}
+use Rattle.machine.specs.Goal.{Goal, break_goal, continue_goal, goals}
 use Rattle.machine.specs.Machine.{enclosings, step}
 use Rattle.definition.specs.Output.{Output, ◌⊕◌}
 use Rattle.machine.specs.Machine as machine
 use Rattle.definition.specs.Tree.{Row}
-use Rattle.machine.specs.Framed.{Framed, isSwitch}
+use Rattle.machine.specs.Framed.{Framed, is_switch}
 use Rattle.control.specs.declared.around.Aim.{Aim}
 use Rattle.control.specs.AroundAbstraction.{aim_of}
 use Rattle.values.specs.Rows.{Holds}
@@ -23,7 +23,7 @@ use Rattle.statements.specs.declared.plan.Stage.TheVariants.{Visit, Ended, Choos
 use Rattle.statements.specs.declared.plan.Position.{Position}
 use Rattle.statements.specs.declared.plan.Frame.{Frame}
 use Rattle.statements.specs.declared.plan.Plan.{Plan}
-use Rattle.statements.specs.Plans.{frame_of, stateAt, applied}
+use Rattle.statements.specs.Plans.{frame_of, state_at, applied}
 use Rattle.statements.specs.Planned.{Seen, Fitting, Stands}
 
 -- ---- jumps
@@ -34,66 +34,66 @@ Resolves absent around cx aim = Unit {0}
 Resolves unreachable around cx aim = Unit {0}
 Resolves (throw value) around cx aim = Unit {0}
 Resolves (return value) around cx aim = Unit {0}
-Resolves (goto target Break) around cx aim = aim ≡ goals (breakGoal around) (getBreakTarget cx target)
-Resolves (goto target Continue) around cx aim = aim ≡ goals (continueGoal around) (getContinueTarget cx target)
+Resolves (goto target Break) around cx aim = aim ≡ goals (break_goal around) (get_break_target cx target)
+Resolves (goto target Continue) around cx aim = aim ≡ goals (continue_goal around) (get_continue_target cx target)
 Resolves (goto target Try) around cx aim = Unit {0}
 Resolves (if test consequent alternate fallthrough) around cx aim = Unit {0}
-Resolves (branch test consequent alternate) around cx aim = isScheduled cx consequent ≡ true → aim ≡ goals (breakGoal around) (getBreakTarget cx consequent)
+Resolves (branch test consequent alternate) around cx aim = is_scheduled cx consequent ≡ true → aim ≡ goals (break_goal around) (get_break_target cx consequent)
 Resolves (switch test first number fallthrough) around cx aim = Unit {0}
-Resolves (do-while loop test fallthrough) around cx aim = Unit {0}
+Resolves (do_while loop test fallthrough) around cx aim = Unit {0}
 Resolves (while test loop fallthrough) around cx aim = Unit {0}
 Resolves (for init test update loop fallthrough) around cx aim = Unit {0}
-Resolves (for-of init test loop fallthrough) around cx aim = Unit {0}
-Resolves (for-in init loop fallthrough) around cx aim = Unit {0}
+Resolves (for_of init test loop fallthrough) around cx aim = Unit {0}
+Resolves (for_in init loop fallthrough) around cx aim = Unit {0}
 Resolves (logical operator test fallthrough) around cx aim = Unit {0}
 Resolves (ternary test fallthrough) around cx aim = Unit {0}
 Resolves (optional chain test fallthrough) around cx aim = Unit {0}
 Resolves (label body fallthrough) around cx aim = Unit {0}
 Resolves (sequence body fallthrough) around cx aim = Unit {0}
-Resolves (maybe-throw continuation) around cx aim = Unit {0}
+Resolves (maybe_throw continuation) around cx aim = Unit {0}
 Resolves (try body handler fallthrough binding) around cx aim = Unit {0}
 Resolves (scope pruned body fallthrough number) around cx aim = Unit {0}
 
 -- ---- what an arm is shown
 
 -- an arm sees the sets and the visits of this Context, and the goal of the block's jump
-pub record Shown (words : List ℕ) (emittedSet scheduledSet handlerSet scopeSet : Flags) (p : Position) (aim : Aim) (around : Around) (cx : definition.Context) : Type 0 where
-  pub emitted : cx.emitted ≡ emittedSet
-  pub scheduled : cx.scheduled ≡ scheduledSet
-  pub handlers : cx.catchHandlers ≡ handlerSet
-  pub scopes : cx.scopeFallthroughs ≡ scopeSet
+pub record Shown (words : List ℕ) (emitted_set scheduled_set handler_set scope_set : Flags) (p : Position) (aim : Aim) (around : Around) (cx : definition.Context) : Type 0 where
+  pub emitted : cx.emitted ≡ emitted_set
+  pub scheduled : cx.scheduled ≡ scheduled_set
+  pub handlers : cx.catch_handlers ≡ handler_set
+  pub scopes : cx.scope_fallthroughs ≡ scope_set
   pub visits : cx.visits ≡ p.visits
-  pub wide : length scheduledSet ≡ 1024
-  pub jump : p.stage ≡ Visit → Resolves (terminalAt (table_of words) p.block) around cx (aim_of aim)
+  pub wide : length scheduled_set ≡ 1024
+  pub jump : p.stage ≡ Visit → Resolves (terminal_at (table_of words) p.block) around cx (aim_of aim)
 
 -- the same at the terminal of a block that is entered
-pub record AtTerminal (words : List ℕ) (scheduledSet handlerSet scopeSet : Flags) (p : Position) (aim : Aim) (around : Around) (cx : definition.Context) : Type 0 where
-  pub seen : Seen scheduledSet handlerSet p.visits cx
-  pub scopes : cx.scopeFallthroughs ≡ scopeSet
-  pub jump : Resolves (terminalAt (table_of words) p.block) around cx (aim_of aim)
+pub record AtTerminal (words : List ℕ) (scheduled_set handler_set scope_set : Flags) (p : Position) (aim : Aim) (around : Around) (cx : definition.Context) : Type 0 where
+  pub seen : Seen scheduled_set handler_set p.visits cx
+  pub scopes : cx.scope_fallthroughs ≡ scope_set
+  pub jump : Resolves (terminal_at (table_of words) p.block) around cx (aim_of aim)
 
 -- what holds of a position where a block is visited
 pub record Visits (words : List ℕ) (p : Position) : Type 0 where
   pub promise : Promise words
   pub stage : p.stage ≡ Visit
-  pub block : p.block < blockCount words
+  pub block : p.block < block_count words
   pub depth : p.depth ≤ 128
   pub visits : p.visits ≤ 8192
   pub rows : p.rows ≤ 67239936
   pub count : p.count ≤ p.rows
 
 -- the frame in hand: none where a block is visited, or where no frame is left
-abbrev pub inHand : Stage → (depth : ℕ) → Frame → List machine.Frame
-inHand Visit depth frame = []
-inHand Ended zero frame = []
-inHand Ended (suc depth) frame = frame_of frame ∷ []
-inHand Choose zero frame = []
-inHand Choose (suc depth) frame = frame_of frame ∷ []
-inHand Pop zero frame = []
-inHand Pop (suc depth) frame = frame_of frame ∷ []
-inHand Values zero frame = []
-inHand Values (suc depth) frame = frame_of frame ∷ []
-inHand Halt depth frame = []
+abbrev pub in_hand : Stage → (depth : ℕ) → Frame → List machine.Frame
+in_hand Visit depth frame = []
+in_hand Ended zero frame = []
+in_hand Ended (suc depth) frame = frame_of frame ∷ []
+in_hand Choose zero frame = []
+in_hand Choose (suc depth) frame = frame_of frame ∷ []
+in_hand Pop zero frame = []
+in_hand Pop (suc depth) frame = frame_of frame ∷ []
+in_hand Values zero frame = []
+in_hand Values (suc depth) frame = frame_of frame ∷ []
+in_hand Halt depth frame = []
 
 -- numbers of the frame in hand
 pub record FrameFits (words : List ℕ) (chosen rows : ℕ) (frame : Frame) : Type 0 where
@@ -102,9 +102,9 @@ pub record FrameFits (words : List ℕ) (chosen rows : ℕ) (frame : Frame) : Ty
   pub count : frame.count ≤ rows
 
 abbrev pub StageFits : List ℕ → Stage → Position → Frame → Type 0
-StageFits words Visit p frame = (p.block < blockCount words) × (p.count ≤ p.rows)
+StageFits words Visit p frame = (p.block < block_count words) × (p.count ≤ p.rows)
 StageFits words Ended p frame = (p.count ≤ p.rows) × (1 ≤ p.depth → FrameFits words 0 p.rows frame)
-StageFits words Choose p frame = (1 ≤ p.depth) × (isSwitch (terminalAt (table_of words) frame.block) ≡ true) × FrameFits words 1 p.rows frame
+StageFits words Choose p frame = (1 ≤ p.depth) × (is_switch (terminal_at (table_of words) frame.block) ≡ true) × FrameFits words 1 p.rows frame
 StageFits words Pop p frame = (1 ≤ p.depth) × FrameFits words 1 p.rows frame
 StageFits words Values p frame = (1 ≤ p.depth) × FrameFits words 0 p.rows frame
 StageFits words Halt p frame = ⊥
@@ -131,8 +131,8 @@ emitting Halt block cx = cx
 pub record PlannedTurn (words : List ℕ) (around : Around) (On : definition.Context → Type 0) (p : Position) (frame : Frame) (buffer : List ℕ) (plan : Plan) (buffer' : List ℕ) : Type 0 where
   pub out : List Row
   pub held : plan.code ≡ 0 → (before : List Row) → Holds buffer p.rows (pushed before []) → Holds buffer' plan.position.rows (pushed (before ++ out) [])
-  pub same : (frames : List machine.Frame) (before : Output) (cx : definition.Context) → Stands (inHand p.stage p.depth frame ++ frames) before p.depth p.rows
-      → enclosings (table_of words) (inHand p.stage p.depth frame ++ frames) ≡ around.statements → On cx
-      → step around.rule (table_of words) (stateAt p.stage p.block (inHand p.stage p.depth frame ++ frames) before p.count cx)
-      ≡ applied plan (inHand p.stage p.depth frame ++ frames) (before ⊕ out) (emitting p.stage p.block cx)
-  pub fitting : plan.code ≡ 0 → Fitting (inHand p.stage p.depth frame) p.depth plan
+  pub same : (frames : List machine.Frame) (before : Output) (cx : definition.Context) → Stands (in_hand p.stage p.depth frame ++ frames) before p.depth p.rows
+      → enclosings (table_of words) (in_hand p.stage p.depth frame ++ frames) ≡ around.statements → On cx
+      → step around.rule (table_of words) (state_at p.stage p.block (in_hand p.stage p.depth frame ++ frames) before p.count cx)
+      ≡ applied plan (in_hand p.stage p.depth frame ++ frames) (before ⊕ out) (emitting p.stage p.block cx)
+  pub fitting : plan.code ≡ 0 → Fitting (in_hand p.stage p.depth frame) p.depth plan

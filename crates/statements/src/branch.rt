@@ -7,7 +7,7 @@ ghost use Rattle.definition.specs.Context.{has};
 ghost use Rattle.definition.specs.Around.{Around};
 ghost use Rattle.control.specs.AroundAbstraction.{AimBelow};
 ghost use Rattle.statements.specs.Jumps.{BranchSeen};
-ghost use Rattle.statements.specs.Planned.{Entered, Planned, terminalStepIn};
+ghost use Rattle.statements.specs.Planned.{Entered, Planned, terminal_step_in};
 ghost use Rattle.statements.specs.Resume.{Resuming, PlannedResume};
 
 use crate::closing::{alternate, close_statement};
@@ -36,7 +36,7 @@ fn branch_break<'a>(
     requires ends { Ends words.now p.block (branch terminal.test terminal.consequent terminal.alternate) }
     requires aim_below { AimBelow aim }
     requires consequent_value { has scheduled.now terminal.consequent || has catch_handlers.now terminal.consequent ≡ true }
-    ensures { (around : Around) → Planned (terminalStepIn around words.now p) (BranchSeen words.now p scheduled.now catch_handlers.now scopes.now aim around) [] p.depth p.rows tree.old result tree.new }
+    ensures { (around : Around) → Planned (terminal_step_in around words.now p) (BranchSeen words.now p scheduled.now catch_handlers.now scopes.now aim around) [] p.depth p.rows tree.old result tree.new }
 {
     let head = block_at(words, p.block);
     let jump = visit_break(tree, scopes, p, terminal.consequent, head.id, aim);
@@ -73,7 +73,7 @@ pub fn visit_branch<'a>(
     requires entered { Entered words.now p }
     requires block_value { code_at words.now p.block ≡ 6 }
     requires aim_below { AimBelow aim }
-    ensures { (around : Around) → Planned (terminalStepIn around words.now p) (BranchSeen words.now p scheduled.now catch_handlers.now scopes.now aim around) [] p.depth p.rows tree.old result tree.new }
+    ensures { (around : Around) → Planned (terminal_step_in around words.now p) (BranchSeen words.now p scheduled.now catch_handlers.now scopes.now aim around) [] p.depth p.rows tree.old result tree.new }
 {
     let terminal = branch_at(words, p.block);
     let busy = scheduled_at(scheduled, catch_handlers, terminal.consequent);

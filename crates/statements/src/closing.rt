@@ -1,12 +1,12 @@
 // The closing row of a statement whose nested lists have ended.
 ghost use Rattle.std.specs.Prelude.{◌≡◌, ◌+◌, ◌<◌, eqb, ◌||◌};
-ghost use Rattle.table.specs.Words.{blockCount};
+ghost use Rattle.table.specs.Words.{block_count};
 ghost use Rattle.table.specs.Promise.{Promise};
-ghost use Rattle.table.specs.Table.{unlessNone};
+ghost use Rattle.table.specs.Table.{unless_none};
 ghost use Rattle.definition.specs.Context.{has};
 ghost use Rattle.definition.specs.Tree as tree_rows;
-ghost use Rattle.statements.specs.Resume.{row_of, closingRowAt, line_at, alternating, Closing, PlannedClose};
-ghost use Rattle.statements.specs.Plans.{unscheduleIf};
+ghost use Rattle.statements.specs.Resume.{row_of, closing_row_at, line_at, alternating, Closing, PlannedClose};
+ghost use Rattle.statements.specs.Plans.{unschedule_if};
 
 use crate::fallthrough::scheduled_at;
 use crate::plan::{
@@ -40,7 +40,7 @@ fn row(op: u32, a: u32, b: u32, c: u32, d: u32) -> ClosingRow
 }
 
 fn flag(value: bool) -> u32
-    ensures { result ≡ tree_rows.flagOf value }
+    ensures { result ≡ tree_rows.flag_of value }
 {
     if value {
         return 1;
@@ -49,7 +49,7 @@ fn flag(value: bool) -> u32
 }
 
 fn has_update(update: u32) -> u32
-    ensures { result ≡ tree_rows.updatePresent (unlessNone update) }
+    ensures { result ≡ tree_rows.update_present (unless_none update) }
 {
     if update == NONE {
         return 0;
@@ -60,8 +60,8 @@ fn has_update(update: u32) -> u32
 // The closing row of a statement with nested lists. (Other statements have none.)
 fn closing_row(words: &[u32], frame: Frame) -> ClosingRow
     requires promise { Promise words.now }
-    requires block_bound { frame.block < blockCount words.now }
-    ensures { row_of result ≡ closingRowAt words.now frame }
+    requires block_bound { frame.block < block_count words.now }
+    ensures { row_of result ≡ closing_row_at words.now frame }
 {
     let head = block_at(words, frame.block);
     let span = head.span;
@@ -106,7 +106,7 @@ fn closing_row(words: &[u32], frame: Frame) -> ClosingRow
 // Its line (M-101), where the statement has a label: the row of a Scope or a PrunedScope has none.
 fn line_at(words: &[u32], frame: Frame) -> Line
     requires promise { Promise words.now }
-    requires block_bound { frame.block < blockCount words.now }
+    requires block_bound { frame.block < block_count words.now }
     ensures { result ≡ line_at words.now frame }
 {
     if frame.label == NONE {
@@ -124,7 +124,7 @@ fn line_at(words: &[u32], frame: Frame) -> Line
 
 // A statement's entry comes off, if it has one.
 pub fn unschedule_if(entries: u32) -> Change
-    ensures { result ≡ unscheduleIf (eqb entries 0) }
+    ensures { result ≡ unschedule_if (eqb entries 0) }
 {
     if entries == 0 {
         return Change::Nothing;

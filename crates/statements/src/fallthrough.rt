@@ -1,9 +1,9 @@
 // Fallthroughs and nested blocks, by the sets: which label a statement has, and whether a block that it would nest is scheduled.
 ghost use Rattle.std.specs.Prelude.{◌≡◌, ◌+◌, ◌≤◌, ◌<◌, eqb, ◌||◌};
-ghost use Rattle.table.specs.Words.{blockCount, code_at};
+ghost use Rattle.table.specs.Words.{block_count, code_at};
 ghost use Rattle.table.specs.Promise.{Promise};
 ghost use Rattle.definition.specs.Context.{has};
-ghost use Rattle.statements.specs.Plans.{unlessTaken, entriesIf, scheduleIf, scheduleSwitch, scheduledWith, enclosing};
+ghost use Rattle.statements.specs.Plans.{unless_taken, entries_if, schedule_if, schedule_switch, scheduled_with, enclosing};
 
 use crate::plan::{Change, NONE, Plan, Position, frame_of, refuse, traverse_block};
 use control::{ControlFlowTarget, block_id, is_scheduled};
@@ -21,7 +21,7 @@ pub fn scheduled_at<'a>(
 }
 
 fn unless_taken(taken: bool, fallthrough: u32) -> u32
-    ensures { result ≡ unlessTaken taken fallthrough }
+    ensures { result ≡ unless_taken taken fallthrough }
 {
     if taken {
         return NONE;
@@ -36,7 +36,7 @@ pub fn unless_scheduled<'a>(
     fallthrough: u32,
 ) -> u32
     requires { fallthrough < 1024 }
-    ensures { result ≡ unlessTaken (has scheduled.now fallthrough || has catch_handlers.now fallthrough) fallthrough }
+    ensures { result ≡ unless_taken (has scheduled.now fallthrough || has catch_handlers.now fallthrough) fallthrough }
 {
     unless_taken(
         scheduled_at(scheduled, catch_handlers, fallthrough),
@@ -61,8 +61,8 @@ pub fn unless_unreachable<'a>(
     fallthrough: u32,
 ) -> u32
     requires promise { Promise words.now }
-    requires fallthrough_bound { fallthrough < blockCount words.now }
-    ensures { result ≡ unlessTaken (eqb (code_at words.now fallthrough) 1 || (has scheduled.now fallthrough || has catch_handlers.now fallthrough)) fallthrough }
+    requires fallthrough_bound { fallthrough < block_count words.now }
+    ensures { result ≡ unless_taken (eqb (code_at words.now fallthrough) 1 || (has scheduled.now fallthrough || has catch_handlers.now fallthrough)) fallthrough }
 {
     let unreachable = code_at(words, fallthrough) == 1;
     let taken = scheduled_at(scheduled, catch_handlers, fallthrough);
@@ -70,7 +70,7 @@ pub fn unless_unreachable<'a>(
 }
 
 pub fn entries_of(label: u32) -> u32
-    ensures { result ≡ entriesIf (eqb label 65535) }
+    ensures { result ≡ entries_if (eqb label 65535) }
 {
     if label == NONE {
         return 0;
@@ -81,7 +81,7 @@ pub fn entries_of(label: u32) -> u32
 // An If, Label or scope is on the stack only if its fallthrough is taken; a Try too.
 pub fn schedule_if(label: u32) -> Change
     requires { label ≤ 65535 }
-    ensures { result ≡ scheduleIf (eqb label 65535) label }
+    ensures { result ≡ schedule_if (eqb label 65535) label }
 {
     if label == NONE {
         return Change::Nothing;
@@ -93,7 +93,7 @@ pub fn schedule_if(label: u32) -> Change
 
 pub fn schedule_switch(label: u32) -> Change
     requires { label ≤ 65535 }
-    ensures { result ≡ scheduleSwitch (eqb label 65535) label }
+    ensures { result ≡ schedule_switch (eqb label 65535) label }
 {
     if label == NONE {
         return Change::Nothing;
@@ -108,7 +108,7 @@ pub fn schedule_switch(label: u32) -> Change
 pub fn enclose(busy: bool, p: Position, label: u32, block: u32, code: u32, at: u32) -> Plan
     requires label_bound { label ≤ 65535 }
     requires depth_bound { p.depth < 128 }
-    ensures { result ≡ enclosing (scheduledWith busy label block) p label block code at }
+    ensures { result ≡ enclosing (scheduled_with busy label block) p label block code at }
 {
     let taken = either(block == label, busy);
     if taken {

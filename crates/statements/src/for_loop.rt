@@ -1,8 +1,8 @@
 // The arm For.
 ghost use Rattle.std.specs.Prelude.{◌≡◌, ◌-◌, ◌<◌, eqb};
-ghost use Rattle.table.specs.Words.{blockCount, code_at};
+ghost use Rattle.table.specs.Words.{block_count, code_at};
 ghost use Rattle.statements.specs.Planned.{Entered, PlannedBare};
-ghost use Rattle.statements.specs.Loops.{forValues, Makes, MakesTested, continuesAt};
+ghost use Rattle.statements.specs.Loops.{for_values, Makes, MakesTested, continues_at};
 
 use crate::fallthrough::unless_scheduled;
 use crate::loop_parts::{Loop, Values, flat_value, no_values, plain_value, schedule_loop};
@@ -11,7 +11,7 @@ use table::terminals::for_at;
 
 // A For continues at its update, if it has one.
 fn for_continues_at(test: u32, update: u32) -> u32
-    ensures { result ≡ continuesAt (eqb update 65535) test update }
+    ensures { result ≡ continues_at (eqb update 65535) test update }
 {
     if update == NONE {
         return test;
@@ -21,8 +21,8 @@ fn for_continues_at(test: u32, update: u32) -> u32
 
 fn init_and_test(words: &[u32], tree: &mut [u32], p: Position, init: u32, test: u32) -> Values
     requires entered { Entered words.now p }
-    requires init_bound { init < blockCount words.now }
-    requires test_bound { test < blockCount words.now }
+    requires init_bound { init < block_count words.now }
+    requires test_bound { test < block_count words.now }
     ensures { MakesTested words.now p init test tree.old result tree.new }
 {
     let first = flat_value(words, tree, p, no_values(p), init);
@@ -38,10 +38,10 @@ pub fn for_values(
     update: u32,
 ) -> Values
     requires entered { Entered words.now p }
-    requires init_bound { init < blockCount words.now }
-    requires test_bound { test < blockCount words.now }
-    requires update_bound { (update ≡ 65535 → ⊥) → update < blockCount words.now }
-    ensures { Makes p (forValues words.now p init test update) tree.old result tree.new }
+    requires init_bound { init < block_count words.now }
+    requires test_bound { test < block_count words.now }
+    requires update_bound { (update ≡ 65535 → ⊥) → update < block_count words.now }
+    ensures { Makes p (for_values words.now p init test update) tree.old result tree.new }
 {
     let tested = init_and_test(words, tree, p, init, test);
     if update == NONE {

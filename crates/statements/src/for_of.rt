@@ -1,8 +1,8 @@
 // The arm ForOf.
 ghost use Rattle.std.specs.Prelude.{◌≡◌, ◌-◌, ◌<◌};
-ghost use Rattle.table.specs.Words.{blockCount, code_at};
+ghost use Rattle.table.specs.Words.{block_count, code_at};
 ghost use Rattle.statements.specs.Planned.{Entered, PlannedBare};
-ghost use Rattle.statements.specs.Loops.{forOfValues, Makes};
+ghost use Rattle.statements.specs.Loops.{for_of_values, Makes};
 
 use crate::fallthrough::unless_scheduled;
 use crate::loop_parts::{Loop, Values, flat_value, no_values, schedule_loop};
@@ -11,9 +11,9 @@ use table::terminals::for_of_at;
 
 pub fn for_of_values(words: &[u32], tree: &mut [u32], p: Position, init: u32, test: u32) -> Values
     requires entered { Entered words.now p }
-    requires init_bound { init < blockCount words.now }
-    requires test_bound { test < blockCount words.now }
-    ensures { Makes p (forOfValues words.now p init test) tree.old result tree.new }
+    requires init_bound { init < block_count words.now }
+    requires test_bound { test < block_count words.now }
+    ensures { Makes p (for_of_values words.now p init test) tree.old result tree.new }
 {
     let first = flat_value(words, tree, p, no_values(p), init);
     flat_value(words, tree, p, first, test)

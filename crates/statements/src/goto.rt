@@ -3,8 +3,8 @@ ghost use Rattle.std.specs.Prelude.{◌≡◌, [], ◌+◌, ◌≤◌};
 ghost use Rattle.table.specs.Words.{code_at};
 ghost use Rattle.definition.specs.Around.{Around};
 ghost use Rattle.control.specs.AroundAbstraction.{AimBelow};
-ghost use Rattle.statements.specs.Jumps.{afterJump, GotoSeen};
-ghost use Rattle.statements.specs.Planned.{Entered, Planned, terminalStepIn};
+ghost use Rattle.statements.specs.Jumps.{after_jump, GotoSeen};
+ghost use Rattle.statements.specs.Planned.{Entered, Planned, terminal_step_in};
 
 use crate::jump::{Jumped, visit_break, visit_continue};
 use crate::plan::{Change, NONE, Plan, Position, leave, refuse};
@@ -15,7 +15,7 @@ use table::terminals::goto_at;
 fn after_jump(p: Position, jump: Jumped) -> Plan
     requires count_bound { p.count ≤ 1000000000 }
     requires count_bound_2 { jump.code ≡ 0 → jump.count ≤ 1 }
-    ensures { result ≡ afterJump p jump }
+    ensures { result ≡ after_jump p jump }
 {
     if jump.code != 0 {
         return refuse(p, jump.code, jump.at);
@@ -40,7 +40,7 @@ pub fn visit_goto(
     requires entered { Entered words.now p }
     requires block_value { code_at words.now p.block ≡ 4 }
     requires aim_below { AimBelow aim }
-    ensures { (around : Around) → Planned (terminalStepIn around words.now p) (GotoSeen words.now p scopes.now aim around) [] p.depth p.rows tree.old result tree.new }
+    ensures { (around : Around) → Planned (terminal_step_in around words.now p) (GotoSeen words.now p scopes.now aim around) [] p.depth p.rows tree.old result tree.new }
 {
     let terminal = goto_at(words, p.block);
     let head = block_at(words, p.block);

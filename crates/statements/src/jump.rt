@@ -3,7 +3,7 @@ ghost use Rattle.std.specs.Prelude.{◌≡◌, ℕ, ◌<◌};
 ghost use Rattle.definition.specs.Context.{Flags};
 ghost use Rattle.control.specs.declared.around.Aim.TheVariants.{At};
 ghost use Rattle.control.specs.AroundAbstraction.{AimBelow};
-ghost use Rattle.statements.specs.Jumps.{refusingJump, JumpMet, breakOutcome, continueOutcome};
+ghost use Rattle.statements.specs.Jumps.{refusing_jump, JumpMet, break_outcome, continue_outcome};
 
 use crate::plan::Position;
 use control::around::{Aim, Goal};
@@ -19,7 +19,7 @@ pub struct Jumped {
 }
 
 fn refuse_jump(code: u32, at: u32, rows: u32) -> Jumped
-    ensures { result ≡ refusingJump code at rows }
+    ensures { result ≡ refusing_jump code at rows }
 {
     Jumped {
         code: code,
@@ -33,7 +33,7 @@ fn refuse_jump(code: u32, at: u32, rows: u32) -> Jumped
 fn break_to(tree: &mut [u32], scopes: &[bool; 1024], p: Position, id: u32, goal: Goal) -> Jumped
     requires target_bound { goal.target < 1024 }
     requires rows_bound { p.rows < 1000000000 }
-    ensures { (block : ℕ) → JumpMet (breakOutcome p.block block id (At goal)) scopes.now p.visits p.rows tree.old result tree.new }
+    ensures { (block : ℕ) → JumpMet (break_outcome p.block block id (At goal)) scopes.now p.visits p.rows tree.old result tree.new }
 {
     let kind = goal.kind;
     let number = kind.number();
@@ -71,7 +71,7 @@ pub fn visit_break(
 ) -> Jumped
     requires aim_below { AimBelow aim }
     requires rows_bound { p.rows < 1000000000 }
-    ensures { JumpMet (breakOutcome p.block target id aim) scopes.now p.visits p.rows tree.old result tree.new }
+    ensures { JumpMet (break_outcome p.block target id aim) scopes.now p.visits p.rows tree.old result tree.new }
 {
     match aim {
         Aim::Nothing => refuse_jump(20, target, p.rows),
@@ -81,7 +81,7 @@ pub fn visit_break(
 
 fn continue_to(tree: &mut [u32], p: Position, id: u32, goal: Goal) -> Jumped
     requires { p.rows < 1000000000 }
-    ensures { (block visits : ℕ) (scopes : Flags) → JumpMet (continueOutcome p.block block id (At goal)) scopes visits p.rows tree.old result tree.new }
+    ensures { (block visits : ℕ) (scopes : Flags) → JumpMet (continue_outcome p.block block id (At goal)) scopes visits p.rows tree.old result tree.new }
 {
     if goal.unnamed {
         return refuse_jump(29, p.block, p.rows);
@@ -108,7 +108,7 @@ fn continue_to(tree: &mut [u32], p: Position, id: u32, goal: Goal) -> Jumped
 
 pub fn visit_continue(tree: &mut [u32], p: Position, target: u32, id: u32, aim: Aim) -> Jumped
     requires { p.rows < 1000000000 }
-    ensures { (visits : ℕ) (scopes : Flags) → JumpMet (continueOutcome p.block target id aim) scopes visits p.rows tree.old result tree.new }
+    ensures { (visits : ℕ) (scopes : Flags) → JumpMet (continue_outcome p.block target id aim) scopes visits p.rows tree.old result tree.new }
 {
     match aim {
         Aim::Nothing => refuse_jump(21, target, p.rows),

@@ -1,7 +1,7 @@
 // The arms Return and Throw.
 ghost use Rattle.std.specs.Prelude.{◌≡◌, []};
 ghost use Rattle.table.specs.Words.{code_at};
-ghost use Rattle.statements.specs.Planned.{Entered, Planned, terminalStep, SameVisits};
+ghost use Rattle.statements.specs.Planned.{Entered, Planned, terminal_step, SameVisits};
 
 use crate::plan::{Change, NONE, Plan, Position, leave};
 use table::columns::block_at;
@@ -12,7 +12,7 @@ use values::rows::put;
 pub fn visit_return(words: &[u32], tree: &mut [u32], p: Position) -> Plan
     requires entered { Entered words.now p }
     requires block_value { code_at words.now p.block ≡ 3 }
-    ensures { Planned (terminalStep words.now p) (SameVisits p) [] p.depth p.rows tree.old result tree.new }
+    ensures { Planned (terminal_step words.now p) (SameVisits p) [] p.depth p.rows tree.old result tree.new }
 {
     let terminal = return_at(words, p.block);
     let head = block_at(words, p.block);
@@ -23,7 +23,7 @@ pub fn visit_return(words: &[u32], tree: &mut [u32], p: Position) -> Plan
 pub fn visit_throw(words: &[u32], tree: &mut [u32], p: Position) -> Plan
     requires entered { Entered words.now p }
     requires block_value { code_at words.now p.block ≡ 2 }
-    ensures { Planned (terminalStep words.now p) (SameVisits p) [] p.depth p.rows tree.old result tree.new }
+    ensures { Planned (terminal_step words.now p) (SameVisits p) [] p.depth p.rows tree.old result tree.new }
 {
     let terminal = throw_at(words, p.block);
     let head = block_at(words, p.block);

@@ -1,9 +1,9 @@
 // What the five loops share: their values, made before the body, and whether the loop is scheduled.
 ghost use Rattle.std.specs.Prelude.{◌≡◌, true, ◌-◌, ◌<◌};
-ghost use Rattle.table.specs.Words.{blockCount};
+ghost use Rattle.table.specs.Words.{block_count};
 ghost use Rattle.statements.specs.Planned.{Entered};
-ghost use Rattle.statements.specs.Plans.{unlessTaken};
-ghost use Rattle.statements.specs.Loops.{plainMade, flatMade, noValues, values_of, Spent, MakesMore, loopTarget, schedulingLoop, loopTaken};
+ghost use Rattle.statements.specs.Plans.{unless_taken};
+ghost use Rattle.statements.specs.Loops.{plain_made, flat_made, no_values, values_of, Spent, MakesMore, loop_target, scheduling_loop, loop_taken};
 
 use crate::fallthrough::scheduled_at;
 use crate::plan::{Change, NONE, Plan, Position, frame_of, make_values};
@@ -44,7 +44,7 @@ fn values_of(res: ValueResult) -> Values
 }
 
 pub fn no_values(p: Position) -> Values
-    ensures { result ≡ noValues p }
+    ensures { result ≡ no_values p }
 {
     Values {
         code: 0,
@@ -63,9 +63,9 @@ pub fn plain_value(
     block: u32,
 ) -> Values
     requires entered { Entered words.now p }
-    requires block_bound { block < blockCount words.now }
-    requires spent { Spent (noValues p) 6 before }
-    ensures { MakesMore p (plainMade words.now p block) before tree.old result tree.new }
+    requires block_bound { block < block_count words.now }
+    requires spent { Spent (no_values p) 6 before }
+    ensures { MakesMore p (plain_made words.now p block) before tree.old result tree.new }
 {
     if before.code != 0 {
         return before;
@@ -87,9 +87,9 @@ pub fn flat_value(
     block: u32,
 ) -> Values
     requires entered { Entered words.now p }
-    requires block_bound { block < blockCount words.now }
-    requires spent { Spent (noValues p) 6 before }
-    ensures { MakesMore p (flatMade words.now p block) before tree.old result tree.new }
+    requires block_bound { block < block_count words.now }
+    requires spent { Spent (no_values p) 6 before }
+    ensures { MakesMore p (flat_made words.now p block) before tree.old result tree.new }
 {
     if before.code != 0 {
         return before;
@@ -117,7 +117,7 @@ fn loop_target(fallthrough: u32, continue_block: u32, loop_block: u32) -> Contro
     requires fallthrough_bound { fallthrough < 1024 }
     requires continue_block_bound { continue_block < 1024 }
     requires loop_block_bound { loop_block < 1024 }
-    ensures { result ≡ loopTarget fallthrough continue_block loop_block }
+    ensures { result ≡ loop_target fallthrough continue_block loop_block }
 {
     ControlFlowTarget::Loop {
         block: block_id(fallthrough),
@@ -133,7 +133,7 @@ fn loop_is_taken<'a>(
     fallthrough: u32,
 ) -> bool
     requires { loop_block < 1024 }
-    ensures { result ≡ loopTaken scheduled.now catch_handlers.now loop_block fallthrough }
+    ensures { result ≡ loop_taken scheduled.now catch_handlers.now loop_block fallthrough }
 {
     if loop_block == fallthrough {
         return true;
@@ -143,7 +143,7 @@ fn loop_is_taken<'a>(
 
 // The loop's body, NONE where that is taken. The refusal 16 comes only after the values.
 fn unless_taken(taken: bool, loop_block: u32) -> u32
-    ensures { result ≡ unlessTaken taken loop_block }
+    ensures { result ≡ unless_taken taken loop_block }
 {
     if taken {
         return NONE;
@@ -162,7 +162,7 @@ pub fn schedule_loop<'a>(
     requires fallthrough_bound { blocks.fallthrough < 1024 }
     requires continue_block_bound { blocks.continue_block < 1024 }
     requires loop_block_bound { blocks.loop_block < 1024 }
-    ensures { result ≡ schedulingLoop (loopTaken scheduled.now catch_handlers.now blocks.loop_block blocks.fallthrough) p blocks }
+    ensures { result ≡ scheduling_loop (loop_taken scheduled.now catch_handlers.now blocks.loop_block blocks.fallthrough) p blocks }
 {
     let taken = loop_is_taken(
         scheduled,

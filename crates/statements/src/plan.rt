@@ -1,6 +1,6 @@
 // What a turn of the walk decides: a Plan. An arm sees numbers and sets, never the Context's stack; the walk applies its plan.
 ghost use Rattle.std.specs.Prelude.{◌≡◌, eqb};
-ghost use Rattle.statements.specs.Plans.{advanced, goingOn, noFrame, openFrame, second, withCounts, refusing, stageAfter, leaving, nesting, choosingNext, poppingNext, makingNext, accepting, withHandler, withScope, withLine};
+ghost use Rattle.statements.specs.Plans.{advanced, going_on, no_frame, open_frame, second, with_counts, refusing, stage_after, leaving, nesting, choosing_next, popping_next, making_next, accepting, with_handler, with_scope, with_line};
 
 use control::ControlFlowTarget;
 
@@ -88,7 +88,7 @@ pub fn advance(p: Position, count: u32, rows: u32, visits: u32, stage: Stage) ->
 }
 
 pub fn no_frame() -> Frame
-    ensures { result ≡ noFrame }
+    ensures { result ≡ no_frame }
 {
     Frame {
         block: 0,
@@ -103,7 +103,7 @@ pub fn no_frame() -> Frame
 }
 
 pub fn frame_of(p: Position, label: u32, entries: u32) -> Frame
-    ensures { result ≡ openFrame p label entries }
+    ensures { result ≡ open_frame p label entries }
 {
     Frame {
         block: p.block,
@@ -125,7 +125,7 @@ pub fn second_part(frame: Frame) -> Frame
 }
 
 pub fn with_counts(frame: Frame, entries: u32, left: u32, built: u32) -> Frame
-    ensures { result ≡ withCounts frame entries left built }
+    ensures { result ≡ with_counts frame entries left built }
 {
     Frame {
         entries,
@@ -137,7 +137,7 @@ pub fn with_counts(frame: Frame, entries: u32, left: u32, built: u32) -> Frame
 
 // On to the position, and nothing else.
 fn go_on(position: Position) -> Plan
-    ensures { result ≡ goingOn position }
+    ensures { result ≡ going_on position }
 {
     let frame = no_frame();
     Plan {
@@ -164,7 +164,7 @@ pub fn refuse(p: Position, code: u32, at: u32) -> Plan
 }
 
 fn stage_after(next: u32) -> Stage
-    ensures { result ≡ stageAfter (eqb next 65535) }
+    ensures { result ≡ stage_after (eqb next 65535) }
 {
     if next == NONE {
         return Stage::Ended;
@@ -220,7 +220,7 @@ pub fn traverse_block(
 
 // On to the next case of the frame's Switch. The frame becomes the innermost one at that depth.
 pub fn choose(frame: Frame, depth: u32, rows: u32, visits: u32, change: Change) -> Plan
-    ensures { result ≡ choosingNext frame depth rows visits change }
+    ensures { result ≡ choosing_next frame depth rows visits change }
 {
     let position = Position {
         block: 0,
@@ -240,7 +240,7 @@ pub fn choose(frame: Frame, depth: u32, rows: u32, visits: u32, change: Change) 
 
 // One more entry of the frame's statement comes off. The frame becomes the innermost one at that depth.
 pub fn pop(frame: Frame, depth: u32, rows: u32, visits: u32) -> Plan
-    ensures { result ≡ poppingNext frame depth rows visits }
+    ensures { result ≡ popping_next frame depth rows visits }
 {
     let position = Position {
         block: 0,
@@ -267,7 +267,7 @@ pub fn make_values(
     visits: u32,
     change: Change,
 ) -> Plan
-    ensures { result ≡ makingNext body frame depth rows visits change }
+    ensures { result ≡ making_next body frame depth rows visits change }
 {
     let position = Position {
         block: body,
@@ -301,19 +301,19 @@ pub fn accept(rows: u32, visits: u32) -> Plan
 }
 
 pub fn with_handler(plan: Plan, handler: u32) -> Plan
-    ensures { result ≡ withHandler plan handler }
+    ensures { result ≡ with_handler plan handler }
 {
     Plan { handler, ..plan }
 }
 
 pub fn with_scope(plan: Plan, scope: u32) -> Plan
-    ensures { result ≡ withScope plan scope }
+    ensures { result ≡ with_scope plan scope }
 {
     Plan { scope, ..plan }
 }
 
 pub fn with_line(plan: Plan, line: Line) -> Plan
-    ensures { result ≡ withLine plan line }
+    ensures { result ≡ with_line plan line }
 {
     Plan { line, ..plan }
 }

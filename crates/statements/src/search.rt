@@ -1,14 +1,14 @@
 // What a block's jump looks for on the stack, what it finds at an entry, and where it goes. The walk searches before a turn is planned: an arm sees
 // neither the stack nor the statements around.
 ghost use Rattle.std.specs.Prelude.{◌≡◌, ◌<◌};
-ghost use Rattle.table.specs.Words.{blockCount, code_at};
+ghost use Rattle.table.specs.Words.{block_count, code_at};
 ghost use Rattle.table.specs.Promise.{Promise};
 ghost use Rattle.definition.specs.Context.{Flags};
-ghost use Rattle.machine.specs.Goal.{goals, surveyedBreak, surveyedContinue};
-ghost use Rattle.control.specs.Abstraction.{target_of, kind_of, resolvedOf};
-ghost use Rattle.control.specs.AroundAbstraction.{ruleOf, surveyOf, aim_of};
+ghost use Rattle.machine.specs.Goal.{goals, surveyed_break, surveyed_continue};
+ghost use Rattle.control.specs.Abstraction.{target_of, kind_of, resolved_of};
+ghost use Rattle.control.specs.AroundAbstraction.{rule_of, survey_of, aim_of};
 ghost use Rattle.statements.specs.declared.plan.Stage.TheVariants.{Visit};
-ghost use Rattle.statements.specs.Search.{searchedFrom, isMet, resolvedAt, asksOf, surveyedBy, enoughFor, enoughIn, known_by, Searches};
+ghost use Rattle.statements.specs.Search.{searched_from, is_met, resolved_at, asks_of, surveyed_by, enough_for, enough_in, known_by, Searches};
 
 use crate::fallthrough::scheduled_at;
 use crate::plan::{Position, Stage};
@@ -29,7 +29,7 @@ pub enum Jump {
 
 // The number of entries to search: all of them if there is a jump, else none. The search begins at the innermost.
 pub fn search_from(jump: Jump, len: usize) -> usize
-    ensures { result ≡ searchedFrom jump len }
+    ensures { result ≡ searched_from jump len }
 {
     match jump {
         Jump::Nothing => 0,
@@ -40,7 +40,7 @@ pub fn search_from(jump: Jump, len: usize) -> usize
 
 // Whether the jump's search ends at this entry.
 pub fn meets(jump: Jump, target: ControlFlowTarget) -> bool
-    ensures { result ≡ isMet jump (target_of target) }
+    ensures { result ≡ is_met jump (target_of target) }
 {
     match jump {
         Jump::Nothing => false,
@@ -51,7 +51,7 @@ pub fn meets(jump: Jump, target: ControlFlowTarget) -> bool
 
 // What the jump resolves to at the entry where its search ended, below `loops` loops.
 pub fn resolve(jump: Jump, found: Entry, top: bool, loops: u32) -> Resolved
-    ensures { resolvedOf result ≡ resolvedAt jump (target_of found.target) top loops }
+    ensures { resolved_of result ≡ resolved_at jump (target_of found.target) top loops }
 {
     match jump {
         Jump::Nothing => Resolved::Nothing,
@@ -62,7 +62,7 @@ pub fn resolve(jump: Jump, found: Entry, top: bool, loops: u32) -> Resolved
 
 // Whether the jump asks the statements around: only in the language entry, and only if it is not Implicit.
 pub fn asks_around(rule: Rule, found: Resolved) -> bool
-    ensures { result ≡ asksOf (ruleOf rule) (resolvedOf found) }
+    ensures { result ≡ asks_of (rule_of rule) (resolved_of found) }
 {
     match found {
         Resolved::Nothing => false,
@@ -77,7 +77,7 @@ pub fn asks_around(rule: Rule, found: Resolved) -> bool
 }
 
 fn enough_for(kind: ReactiveTerminalTargetKind, named: bool) -> bool
-    ensures { result ≡ enoughFor (kind_of kind) named }
+    ensures { result ≡ enough_for (kind_of kind) named }
 {
     match kind {
         ReactiveTerminalTargetKind::Implicit => false,
@@ -87,7 +87,7 @@ fn enough_for(kind: ReactiveTerminalTargetKind, named: bool) -> bool
 }
 
 fn enough_in(found: Resolved, named: bool) -> bool
-    ensures { result ≡ enoughIn (resolvedOf found) named }
+    ensures { result ≡ enough_in (resolved_of found) named }
 {
     match found {
         Resolved::Nothing => false,
@@ -100,7 +100,7 @@ fn enough_in(found: Resolved, named: bool) -> bool
 
 // Whether a statement that was looked at tells all that the jump asks: a Labeled break asks only whether one of those around has its label.
 pub fn knows(jump: Jump, found: Resolved, looked: Survey) -> bool
-    ensures { result ≡ known_by jump (resolvedOf found) looked.named }
+    ensures { result ≡ known_by jump (resolved_of found) looked.named }
 {
     match jump {
         Jump::Nothing => false,
@@ -110,7 +110,7 @@ pub fn knows(jump: Jump, found: Resolved, looked: Survey) -> bool
 }
 
 fn break_aim(rule: Rule, found: Resolved, seen: Survey) -> Aim
-    ensures { aim_of result ≡ goals (surveyedBreak (ruleOf rule) (surveyOf seen)) (resolvedOf found) }
+    ensures { aim_of result ≡ goals (surveyed_break (rule_of rule) (survey_of seen)) (resolved_of found) }
 {
     match found {
         Resolved::Nothing => Aim::Nothing,
@@ -119,7 +119,7 @@ fn break_aim(rule: Rule, found: Resolved, seen: Survey) -> Aim
 }
 
 fn continue_aim(rule: Rule, found: Resolved, seen: Survey) -> Aim
-    ensures { aim_of result ≡ goals (surveyedContinue (ruleOf rule) (surveyOf seen)) (resolvedOf found) }
+    ensures { aim_of result ≡ goals (surveyed_continue (rule_of rule) (survey_of seen)) (resolved_of found) }
 {
     match found {
         Resolved::Nothing => Aim::Nothing,
@@ -129,7 +129,7 @@ fn continue_aim(rule: Rule, found: Resolved, seen: Survey) -> Aim
 
 // Where the jump goes, by what was seen of the statements around.
 pub fn aim_at(rule: Rule, jump: Jump, found: Resolved, seen: Survey) -> Aim
-    ensures { aim_of result ≡ surveyedBy jump (ruleOf rule) (surveyOf seen) (resolvedOf found) }
+    ensures { aim_of result ≡ surveyed_by jump (rule_of rule) (survey_of seen) (resolved_of found) }
 {
     match jump {
         Jump::Nothing => Aim::Nothing,
@@ -140,9 +140,9 @@ pub fn aim_at(rule: Rule, jump: Jump, found: Resolved, seen: Survey) -> Aim
 
 fn goto_jump(words: &[u32], block: u32) -> Jump
     requires promise { Promise words.now }
-    requires block_bound { block < blockCount words.now }
+    requires block_bound { block < block_count words.now }
     requires block_value { code_at words.now block ≡ 4 }
-    ensures { (scheduledSet handlerSet : Flags) → Searches words.now scheduledSet handlerSet block result }
+    ensures { (scheduled_set handler_set : Flags) → Searches words.now scheduled_set handler_set block result }
 {
     let terminal = goto_at(words, block);
     let target = block_id(terminal.block);
@@ -162,7 +162,7 @@ fn branch_jump<'a>(
     block: u32,
 ) -> Jump
     requires promise { Promise words.now }
-    requires block_bound { block < blockCount words.now }
+    requires block_bound { block < block_count words.now }
     requires block_value { code_at words.now block ≡ 6 }
     ensures { Searches words.now scheduled.now catch_handlers.now block result }
 {
@@ -180,7 +180,7 @@ fn block_jump<'a>(
     block: u32,
 ) -> Jump
     requires promise { Promise words.now }
-    requires block_bound { block < blockCount words.now }
+    requires block_bound { block < block_count words.now }
     ensures { Searches words.now scheduled.now catch_handlers.now block result }
 {
     match code_at(words, block) {
@@ -197,7 +197,7 @@ pub fn jump_at<'a>(
     p: Position,
 ) -> Jump
     requires promise { Promise words.now }
-    requires block_bound { p.stage ≡ Visit → p.block < blockCount words.now }
+    requires block_bound { p.stage ≡ Visit → p.block < block_count words.now }
     ensures { p.stage ≡ Visit → Searches words.now scheduled.now catch_handlers.now p.block result }
 {
     let stage = p.stage;

@@ -1,7 +1,7 @@
 // A loop's second turn: it is scheduled, and its values are made before the body.
 ghost use Rattle.std.specs.Prelude.{◌≡◌, ◌-◌, eqb};
 ghost use Rattle.statements.specs.Planned.{Entered};
-ghost use Rattle.statements.specs.Loops.{PlannedValues, Making, valuesAt, Makes, enteringBody};
+ghost use Rattle.statements.specs.Loops.{PlannedValues, Making, values_at, Makes, entering_body};
 
 use crate::for_loop::for_values;
 use crate::for_of::for_of_values;
@@ -14,7 +14,7 @@ use table::terminals::{for_at, for_in_at, for_of_at, while_at};
 // The values that a scheduled loop makes before its body.
 fn loop_values(words: &[u32], tree: &mut [u32], q: Position) -> Values
     requires { Entered words.now q }
-    ensures { Makes q (valuesAt words.now q) tree.old result tree.new }
+    ensures { Makes q (values_at words.now q) tree.old result tree.new }
 {
     match code_at(words, q.block) {
         9 => {
@@ -46,7 +46,7 @@ fn loop_values(words: &[u32], tree: &mut [u32], q: Position) -> Values
 
 // The body of a loop whose values are made.
 fn enter_body(p: Position, values: Values, frame: Frame) -> Plan
-    ensures { result ≡ enteringBody (eqb values.code 0) (eqb p.block 65535) p values frame }
+    ensures { result ≡ entering_body (eqb values.code 0) (eqb p.block 65535) p values frame }
 {
     let after = advance(p, p.count, values.rows, values.visits, Stage::Values);
     if values.code != 0 {

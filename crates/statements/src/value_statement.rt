@@ -1,11 +1,11 @@
 // The arms Optional, Ternary, Logical, Sequence: a value terminal as a statement.
 ghost use Rattle.std.specs.Prelude.{◌≡◌, true, ◌||◌, ◌-◌, ◌<◌};
 ghost use Rattle.std.proofs.Math.Option.{some};
-ghost use Rattle.table.specs.Words.{blockCount, code_at};
+ghost use Rattle.table.specs.Words.{block_count, code_at};
 ghost use Rattle.table.specs.Promise.{Promise};
-ghost use Rattle.table.specs.Table.{table_of, terminalAt};
+ghost use Rattle.table.specs.Table.{table_of, terminal_at};
 ghost use Rattle.statements.specs.Planned.{Entered, PlannedBare};
-ghost use Rattle.statements.specs.Loops.{PlannedValues, Making, valueCode, valueFallthrough};
+ghost use Rattle.statements.specs.Loops.{PlannedValues, Making, value_code, value_fallthrough};
 
 use crate::closing::unschedule_if;
 use crate::fallthrough::{entries_of, schedule_if, unless_scheduled};
@@ -21,9 +21,9 @@ use values::value_walk::visit_value_block_terminal;
 
 fn fallthrough_at(words: &[u32], block: u32) -> u32
     requires promise { Promise words.now }
-    requires block_bound { block < blockCount words.now }
-    requires block_value { valueCode (code_at words.now block) ≡ true }
-    ensures { valueFallthrough (terminalAt (table_of words.now) block) ≡ some result }
+    requires block_bound { block < block_count words.now }
+    requires block_value { value_code (code_at words.now block) ≡ true }
+    ensures { value_fallthrough (terminal_at (table_of words.now) block) ≡ some result }
 {
     match code_at(words, block) {
         13 => logical_at(words, block).fallthrough,
@@ -42,7 +42,7 @@ pub fn visit_value<'a>(
     p: Position,
 ) -> Plan
     requires entered { Entered words.now p }
-    requires block_value { valueCode (code_at words.now p.block) ≡ true }
+    requires block_value { value_code (code_at words.now p.block) ≡ true }
     ensures { PlannedBare words.now scheduled.now catch_handlers.now p result }
 {
     let fallthrough = fallthrough_at(words, p.block);
@@ -61,7 +61,7 @@ pub fn visit_value<'a>(
 // Makes its value, an INSTR with the terminal's own span. Then the statement is complete.
 pub fn make_statement(words: &[u32], tree: &mut [u32], p: Position, frame: Frame) -> Plan
     requires making { Making words.now p frame }
-    requires block_value { valueCode (code_at words.now frame.block) ≡ true }
+    requires block_value { value_code (code_at words.now frame.block) ≡ true }
     ensures { PlannedValues words.now p frame tree.old result tree.new }
 {
     let span = span_at(words, frame.block);
@@ -97,7 +97,7 @@ pub fn make_statement(words: &[u32], tree: &mut [u32], p: Position, frame: Frame
 
 // Logical, Ternary, Optional or Sequence.
 pub fn is_value(code: u32) -> bool
-    ensures { result ≡ valueCode code }
+    ensures { result ≡ value_code code }
 {
     if code == 13 {
         return true;

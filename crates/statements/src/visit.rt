@@ -4,7 +4,7 @@ ghost use Rattle.table.specs.Words.{code_at};
 ghost use Rattle.statements.specs.declared.plan.Frame.{Frame};
 ghost use Rattle.definition.specs.Around.{Around};
 ghost use Rattle.control.specs.AroundAbstraction.{AimBelow};
-ghost use Rattle.statements.specs.Planned.{Entered, Planned, terminalStepIn};
+ghost use Rattle.statements.specs.Planned.{Entered, Planned, terminal_step_in};
 ghost use Rattle.statements.specs.Turn.{AtTerminal, Visits, Shown, PlannedTurn};
 
 use crate::branch::visit_branch;
@@ -39,7 +39,7 @@ fn visit_terminal<'a>(
     requires entered { Entered words.now p }
     requires aim_below { AimBelow aim }
     requires fact { code_at words.now p.block ≡ 0 → ⊥ }
-    ensures { (around : Around) → Planned (terminalStepIn around words.now p) (AtTerminal words.now scheduled.now catch_handlers.now scopes.now p aim around) [] p.depth p.rows tree.old result tree.new }
+    ensures { (around : Around) → Planned (terminal_step_in around words.now p) (AtTerminal words.now scheduled.now catch_handlers.now scopes.now p aim around) [] p.depth p.rows tree.old result tree.new }
 {
     match code_at(words, p.block) {
         0 => refuse(p, 10, p.block), // `visit_block` has refused it

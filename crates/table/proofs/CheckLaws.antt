@@ -7,59 +7,59 @@ use native.Mathlib.Omega.{arith}
 use lib.ListN.{length, get_or}
 use lib.Dec.{leb}
 use borrow.Author.Tests.{lt-ltb, le-ltb, le-leb, eq-eqb, ne_eqb, leb-true}
-use Rattle.table.specs.Words.{word, entryWord, blockCount, instructionCount, caseCount, placeCount, identifierCount, wordsNeeded}
-use Rattle.table.specs.Check.{Verdict, accepted, refused, limits, countsVerdict, wordsVerdict, checked}
+use Rattle.table.specs.Words.{word, entry_word, block_count, instruction_count, case_count, place_count, identifier_count, words_needed}
+use Rattle.table.specs.Check.{Verdict, accepted, refused, limits, counts_verdict, words_verdict, checked}
 use Rattle.table.specs.Promise.{Limited}
 
 module _ (ws : List ℕ) where
   -- accepted counts are within their limits
-  pub counts-within : (at : ℕ) (limits : List ℕ) → countsVerdict ws at limits ≡ accepted → (k : ℕ) → k < length limits → word ws (at + k) ≤ get_or limits k 0
-  unfolding countsVerdict
-  counts-within at [] h k l = absurd (omega arith)
-  counts-within at (limit ∷ limits) h k l = go (leb (word ws at) limit) refl h (counts-within (suc at) limits) k l
+  pub counts_within : (at : ℕ) (limits : List ℕ) → counts_verdict ws at limits ≡ accepted → (k : ℕ) → k < length limits → word ws (at + k) ≤ get_or limits k 0
+  unfolding counts_verdict
+  counts_within at [] h k l = absurd (omega arith)
+  counts_within at (limit ∷ limits) h k l = go (leb (word ws at) limit) refl h (counts_within (suc at) limits) k l
     where
-      go : (b : Bool) → leb (word ws at) limit ≡ b → elim b [ true ↦ countsVerdict ws (suc at) limits | false ↦ refused 2 at ] ≡ accepted
-          → (countsVerdict ws (suc at) limits ≡ accepted → (k : ℕ) → k < length limits → word ws (suc at + k) ≤ get_or limits k 0)
+      go : (b : Bool) → leb (word ws at) limit ≡ b → elim b [ true ↦ counts_verdict ws (suc at) limits | false ↦ refused 2 at ] ≡ accepted
+          → (counts_verdict ws (suc at) limits ≡ accepted → (k : ℕ) → k < length limits → word ws (suc at + k) ≤ get_or limits k 0)
           → (k : ℕ) → k < suc (length limits) → word ws (at + k) ≤ get_or (limit ∷ limits) k 0
       go true e h ih zero l = let z : at + 0 ≡ at = omega arith in rw z (leb-true _ _ e)
       go true e h ih (suc k) l = let z : suc at + k ≡ at + suc k = omega arith in rw (← z) (ih h k (omega arith))
       go false e h ih k l = absurd (let z : ◌≡◌ {A = ℕ} 0 1 = cc in omega arith)
 
-  pub counts_all : (at : ℕ) (limits : List ℕ) → ((k : ℕ) → k < length limits → word ws (at + k) ≤ get_or limits k 0) → countsVerdict ws at limits ≡ accepted
-  unfolding countsVerdict
+  pub counts_all : (at : ℕ) (limits : List ℕ) → ((k : ℕ) → k < length limits → word ws (at + k) ≤ get_or limits k 0) → counts_verdict ws at limits ≡ accepted
+  unfolding counts_verdict
   counts_all at [] h = refl
   counts_all at (limit ∷ limits) h =
       let z : at + 0 ≡ at = omega arith in
       let first : word ws at ≤ limit = rw z at (h 0 (omega arith)) in
-      rw (le-leb (word ws at) limit first, countsVerdict) (counts_all (suc at) limits λ k l. (let y : suc at + k ≡ at + suc k = omega arith in rw y (h (suc k) (omega arith))))
+      rw (le-leb (word ws at) limit first, counts_verdict) (counts_all (suc at) limits λ k l. (let y : suc at + k ≡ at + suc k = omega arith in rw y (h (suc k) (omega arith))))
 
-  pub limited : 6 ≤ length ws → countsVerdict ws 1 limits ≡ accepted → Limited ws
-  unfolding blockCount instructionCount caseCount placeCount identifierCount
+  pub limited : 6 ≤ length ws → counts_verdict ws 1 limits ≡ accepted → Limited ws
+  unfolding block_count instruction_count case_count place_count identifier_count
   limited h e = record {
     head = h;
-    blocks = counts-within 1 limits e 0 (omega arith);
-    instructions = counts-within 1 limits e 1 (omega arith);
-    cases = counts-within 1 limits e 2 (omega arith);
-    places = counts-within 1 limits e 3 (omega arith);
-    identifiers = counts-within 1 limits e 4 (omega arith);
+    blocks = counts_within 1 limits e 0 (omega arith);
+    instructions = counts_within 1 limits e 1 (omega arith);
+    cases = counts_within 1 limits e 2 (omega arith);
+    places = counts_within 1 limits e 3 (omega arith);
+    identifiers = counts_within 1 limits e 4 (omega arith);
   }
 
   -- ---- the refusals in order
 
-  pub checked-short : length ws < 6 → checked ws ≡ refused 1 0
+  pub checked_short : length ws < 6 → checked ws ≡ refused 1 0
   unfolding checked
-  checked-short h = rw (lt-ltb (length ws) 6 h, checked)
+  checked_short h = rw (lt-ltb (length ws) 6 h, checked)
 
-  module _ (long : 6 ≤ length ws) (within : countsVerdict ws 1 limits ≡ accepted) where
-    pub checked-length : (length ws ≡ wordsNeeded ws → ⊥) → checked ws ≡ refused 1 0
+  module _ (long : 6 ≤ length ws) (within : counts_verdict ws 1 limits ≡ accepted) where
+    pub checked_length : (length ws ≡ words_needed ws → ⊥) → checked ws ≡ refused 1 0
     unfolding checked
-    checked-length f = rw (le-ltb (length ws) 6 long, within, ne_eqb (length ws) (wordsNeeded ws) f, checked)
+    checked_length f = rw (le-ltb (length ws) 6 long, within, ne_eqb (length ws) (words_needed ws) f, checked)
 
-    module _ (exact : length ws ≡ wordsNeeded ws) where
-      pub checked-entry : blockCount ws ≤ entryWord ws → checked ws ≡ refused 3 0
+    module _ (exact : length ws ≡ words_needed ws) where
+      pub checked_entry : block_count ws ≤ entry_word ws → checked ws ≡ refused 3 0
       unfolding checked
-      checked-entry h = rw (le-ltb (length ws) 6 long, within, eq-eqb (length ws) (wordsNeeded ws) exact, le-ltb (entryWord ws) (blockCount ws) h, checked)
+      checked_entry h = rw (le-ltb (length ws) 6 long, within, eq-eqb (length ws) (words_needed ws) exact, le-ltb (entry_word ws) (block_count ws) h, checked)
 
-      pub checked-words : entryWord ws < blockCount ws → checked ws ≡ wordsVerdict ws
+      pub checked_words : entry_word ws < block_count ws → checked ws ≡ words_verdict ws
       unfolding checked
-      checked-words h = rw (le-ltb (length ws) 6 long, within, eq-eqb (length ws) (wordsNeeded ws) exact, lt-ltb (entryWord ws) (blockCount ws) h, checked)
+      checked_words h = rw (le-ltb (length ws) 6 long, within, eq-eqb (length ws) (words_needed ws) exact, lt-ltb (entry_word ws) (block_count ws) h, checked)

@@ -4,69 +4,69 @@ use mathlib.Core.List.{List}
 use Prim.Native.Nat.{ℕ, ◌<◌}
 use native.Mathlib.Omega.{arith}
 use Rattle.table.specs.declared.columns.Span.{Span}
-use Rattle.table.specs.Words.{blockCount, instructionCount, caseCount, placeCount, blockWord, instructionWord, caseWord, operationCodeAt}
-use Rattle.table.specs.Check.{caseRules, place-or-none}
-use Rattle.table.specs.Table.{Instruction, Operation, load-local, store-local, table_of, block_at, block_of, instructionOf, case_of, operationOf, instructionRowsAt, rows_from}
+use Rattle.table.specs.Words.{block_count, instruction_count, case_count, place_count, block_word, instruction_word, case_word, operation_code_at}
+use Rattle.table.specs.Check.{case_rules, place_or_none}
+use Rattle.table.specs.Table.{Instruction, Operation, load_local, store_local, table_of, block_at, block_of, instruction_of, case_of, operation_of, instruction_rows_at, rows_from}
 use Rattle.table.specs.Promise.{Promise, OperandsInRange, Heads, Instructs, Operates, Chooses}
-use Rattle.table.proofs.TableLaws.{block-at, instruction-at, case-at}
-use Rattle.table.proofs.RangeLaws.{run-within, lvalue-below, operands-in-range, below-unless-none, case-block}
+use Rattle.table.proofs.TableLaws.{block_at_lem, instruction_at_lem, case_at_lem}
+use Rattle.table.proofs.RangeLaws.{run_within, lvalue_below, operands_in_range, below_unless_none, case_block}
 
 module _ {ws : List ℕ} {b : ℕ} where
-  pub spans : {from to : ℕ} → Promise ws → b < blockCount ws → from ≡ blockWord ws b 9 → to ≡ blockWord ws b 10 → record { from = from; to = to } ≡ (block_at (table_of ws) b).span
+  pub spans : {from to : ℕ} → Promise ws → b < block_count ws → from ≡ block_word ws b 9 → to ≡ block_word ws b 10 → record { from = from; to = to } ≡ (block_at (table_of ws) b).span
   unfolding block_of
-  spans p inside eb et = rw (block-at ws b inside, eb, et)
+  spans p inside eb et = rw (block_at_lem ws b inside, eb, et)
 
-  pub heads : {first count id : ℕ} {span : Span} → Promise ws → b < blockCount ws → first ≡ blockWord ws b 0 → count ≡ blockWord ws b 1 → id ≡ blockWord ws b 8 → span ≡ (block_at (table_of ws) b).span
+  pub heads : {first count id : ℕ} {span : Span} → Promise ws → b < block_count ws → first ≡ block_word ws b 0 → count ≡ block_word ws b 1 → id ≡ block_word ws b 8 → span ≡ (block_at (table_of ws) b).span
       → Heads ws b first count id span
   unfolding block_of
   heads p inside ef ec ei es =
-      let row = block-at ws b inside in
+      let row = block_at_lem ws b inside in
       record {
         few = p.sized.limited.instructions;
-        is-first = rw (row, ef);
-        is-count = rw (row, ec);
-        is-id = rw (row, ei);
-        is-span = sym es;
-        there = rw (ef, ec) (run-within ws p b inside);
+        is_first = rw (row, ef);
+        is_count = rw (row, ec);
+        is_id = rw (row, ei);
+        is_span = sym es;
+        there = rw (ef, ec) (run_within ws p b inside);
       }
 
   -- "A block's instructions are `count` rows from `first`"
-  pub head_rows : {first count id : ℕ} {span : Span} → Heads ws b first count id span → instructionRowsAt (table_of ws) b ≡ rows_from first count
-  head_rows h = rw (h.is-first, h.is-count)
+  pub head_rows : {first count id : ℕ} {span : Span} → Heads ws b first count id span → instruction_rows_at (table_of ws) b ≡ rows_from first count
+  head_rows h = rw (h.is_first, h.is_count)
 
-module _ {ws : List ℕ} {i : ℕ} (p : Promise ws) (inside : i < instructionCount ws) where
-  pub instructs : {id lvalue from to : ℕ} → id ≡ instructionWord ws i 0 → lvalue ≡ instructionWord ws i 1 → from ≡ instructionWord ws i 5 → to ≡ instructionWord ws i 6
+module _ {ws : List ℕ} {i : ℕ} (p : Promise ws) (inside : i < instruction_count ws) where
+  pub instructs : {id lvalue from to : ℕ} → id ≡ instruction_word ws i 0 → lvalue ≡ instruction_word ws i 1 → from ≡ instruction_word ws i 5 → to ≡ instruction_word ws i 6
       → Instructs ws i id lvalue (record { from = from; to = to })
-  unfolding instructionOf
+  unfolding instruction_of
   instructs ei el eb et =
-      let row = instruction-at ws i inside in
+      let row = instruction_at_lem ws i inside in
       record {
         few = p.sized.limited.places;
-        is-id = rw (row, ei);
-        is-lvalue = rw (row, el);
-        is-span = rw (row, eb, et);
-        there = rw el (lvalue-below ws p i inside);
+        is_id = rw (row, ei);
+        is_lvalue = rw (row, el);
+        is_span = rw (row, eb, et);
+        there = rw el (lvalue_below ws p i inside);
       }
 
-  operates : (code : ℕ) {o : Operation} → operationCodeAt ws i ≡ code → o ≡ operationOf code (instructionWord ws i 3) (instructionWord ws i 4) → Operates ws i o
-  unfolding instructionOf
+  operates : (code : ℕ) {o : Operation} → operation_code_at ws i ≡ code → o ≡ operation_of code (instruction_word ws i 3) (instruction_word ws i 4) → Operates ws i o
+  unfolding instruction_of
   operates code known e =
-      let q = ap (λ (k : Instruction). k.operation) (instruction-at ws i inside) ∙ ap (λ (k : ℕ). operationOf k (instructionWord ws i 3) (instructionWord ws i 4)) known ∙ sym e in
-      record { few = p.sized.limited.places; is = q; named = subst (OperandsInRange (placeCount ws)) q (operands-in-range ws p i inside) }
+      let q = ap (λ (k : Instruction). k.operation) (instruction_at_lem ws i inside) ∙ ap (λ (k : ℕ). operation_of k (instruction_word ws i 3) (instruction_word ws i 4)) known ∙ sym e in
+      record { few = p.sized.limited.places; is = q; named = subst (OperandsInRange (place_count ws)) q (operands_in_range ws p i inside) }
 
-  pub loads : {place : ℕ} → operationCodeAt ws i ≡ 1 → place ≡ instructionWord ws i 3 → Operates ws i (load-local place)
-  unfolding operationOf
+  pub loads : {place : ℕ} → operation_code_at ws i ≡ 1 → place ≡ instruction_word ws i 3 → Operates ws i (load_local place)
+  unfolding operation_of
   loads code e = operates 1 code (rw e)
 
-  pub stores : {to value : ℕ} → operationCodeAt ws i ≡ 2 → to ≡ instructionWord ws i 3 → value ≡ instructionWord ws i 4 → Operates ws i (store-local to value)
-  unfolding operationOf
+  pub stores : {to value : ℕ} → operation_code_at ws i ≡ 2 → to ≡ instruction_word ws i 3 → value ≡ instruction_word ws i 4 → Operates ws i (store_local to value)
+  unfolding operation_of
   stores code et ev = operates 2 code (rw (et, ev))
 
-pub chooses : {ws : List ℕ} {i test block : ℕ} → Promise ws → i < caseCount ws → test ≡ caseWord ws i 0 → block ≡ caseWord ws i 1 → Chooses ws i test block
-unfolding case_of caseRules place-or-none
+pub chooses : {ws : List ℕ} {i test block : ℕ} → Promise ws → i < case_count ws → test ≡ case_word ws i 0 → block ≡ case_word ws i 1 → Chooses ws i test block
+unfolding case_of case_rules place_or_none
 chooses {ws} {i} p inside et eb = record {
   few = p.sized.limited.blocks;
-  is = λ beyond. rw (et, eb) (case-at ws i beyond inside);
-  tested = rw et (below-unless-none _ _ (p.case i inside 0 (omega arith)));
-  there = rw eb (case-block ws p i inside);
+  is = λ beyond. rw (et, eb) (case_at_lem ws i beyond inside);
+  tested = rw et (below_unless_none _ _ (p.case i inside 0 (omega arith)));
+  there = rw eb (case_block ws p i inside);
 }

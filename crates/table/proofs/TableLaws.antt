@@ -4,14 +4,14 @@ use mathlib.Core.Path.{◌≡◌, refl, ap}
 use mathlib.Core.List.{List}
 use native.Mathlib.Omega.{arith}
 use lib.ListN.{length, get_or}
-use Rattle.table.specs.Words.{blockCount, instructionCount, caseCount, placeCount, identifierCount, placeWord, identifierWord}
-use Rattle.table.specs.Table.{Case, tabulate, table_of, block_at, block_of, instructionAt, instructionOf, case_of}
+use Rattle.table.specs.Words.{block_count, instruction_count, case_count, place_count, identifier_count, place_word, identifier_word}
+use Rattle.table.specs.Table.{Case, tabulate, table_of, block_at, block_of, instruction_at, instruction_of, case_of}
 
 module _ {A : Type 0} where
-  pub length-tabulate : (f : ℕ → A) (n : ℕ) → length (tabulate f n) ≡ n
+  pub length_tabulate : (f : ℕ → A) (n : ℕ) → length (tabulate f n) ≡ n
   unfolding tabulate
-  length-tabulate f zero = refl
-  length-tabulate f (suc n) = ap suc (length-tabulate (λ i. f (suc i)) n)
+  length_tabulate f zero = refl
+  length_tabulate f (suc n) = ap suc (length_tabulate (λ i. f (suc i)) n)
 
   pub get_d_tabulate : (f : ℕ → A) (n i : ℕ) (d : A) → i < n → get_or (tabulate f n) i d ≡ f i
   unfolding tabulate
@@ -20,44 +20,44 @@ module _ {A : Type 0} where
   get_d_tabulate f (suc n) (suc i) d h = get_d_tabulate (λ i. f (suc i)) n i d (omega arith)
 
 module _ (ws : List ℕ) where
-  pub length-blocks : length (table_of ws).blocks ≡ blockCount ws
+  pub length_blocks : length (table_of ws).blocks ≡ block_count ws
   unfolding table_of
-  length-blocks = length-tabulate _ _
+  length_blocks = length_tabulate _ _
 
-  pub length-instructions : length (table_of ws).instructions ≡ instructionCount ws
+  pub length_instructions : length (table_of ws).instructions ≡ instruction_count ws
   unfolding table_of
-  length-instructions = length-tabulate _ _
+  length_instructions = length_tabulate _ _
 
-  pub length-cases : length (table_of ws).cases ≡ caseCount ws
+  pub length_cases : length (table_of ws).cases ≡ case_count ws
   unfolding table_of
-  length-cases = length-tabulate _ _
+  length_cases = length_tabulate _ _
 
-  pub length-places : length (table_of ws).places ≡ placeCount ws
+  pub length_places : length (table_of ws).places ≡ place_count ws
   unfolding table_of
-  length-places = length-tabulate _ _
+  length_places = length_tabulate _ _
 
-  pub length-named : length (table_of ws).named ≡ identifierCount ws
+  pub length_named : length (table_of ws).named ≡ identifier_count ws
   unfolding table_of
-  length-named = length-tabulate _ _
+  length_named = length_tabulate _ _
 
   module _ (row : ℕ) where
-    pub block-at : row < blockCount ws → block_at (table_of ws) row ≡ block_of ws row
+    pub block_at_lem : row < block_count ws → block_at (table_of ws) row ≡ block_of ws row
     unfolding table_of
-    block-at h = get_d_tabulate (block_of ws) (blockCount ws) row _ h
+    block_at_lem h = get_d_tabulate (block_of ws) (block_count ws) row _ h
 
-    pub instruction-at : row < instructionCount ws → instructionAt (table_of ws) row ≡ instructionOf ws row
+    pub instruction_at_lem : row < instruction_count ws → instruction_at (table_of ws) row ≡ instruction_of ws row
     unfolding table_of
-    instruction-at h = get_d_tabulate (instructionOf ws) (instructionCount ws) row _ h
+    instruction_at_lem h = get_d_tabulate (instruction_of ws) (instruction_count ws) row _ h
 
     -- whatever stands beyond the table
-    pub case-at : (d : Case) → row < caseCount ws → get_or (table_of ws).cases row d ≡ case_of ws row
+    pub case_at_lem : (d : Case) → row < case_count ws → get_or (table_of ws).cases row d ≡ case_of ws row
     unfolding table_of
-    case-at d h = get_d_tabulate (case_of ws) (caseCount ws) row d h
+    case_at_lem d h = get_d_tabulate (case_of ws) (case_count ws) row d h
 
-    pub place_at : (d : ℕ) → row < placeCount ws → get_or (table_of ws).places row d ≡ placeWord ws row
+    pub place_at : (d : ℕ) → row < place_count ws → get_or (table_of ws).places row d ≡ place_word ws row
     unfolding table_of
-    place_at d h = get_d_tabulate (placeWord ws) (placeCount ws) row d h
+    place_at d h = get_d_tabulate (place_word ws) (place_count ws) row d h
 
-    pub named-at : (d : ℕ) → row < identifierCount ws → get_or (table_of ws).named row d ≡ identifierWord ws row
+    pub named_at : (d : ℕ) → row < identifier_count ws → get_or (table_of ws).named row d ≡ identifier_word ws row
     unfolding table_of
-    named-at d h = get_d_tabulate (identifierWord ws) (identifierCount ws) row d h
+    named_at d h = get_d_tabulate (identifier_word ws) (identifier_count ws) row d h

@@ -3,16 +3,16 @@ use Rattle.std.specs.Prelude.{ℕ, suc, ◌-◌, List, [], ◌∷◌, Bool, true
 use Rattle.table.specs.Words.{word, largest}
 use Rattle.table.specs.declared.Checked.{Checked}
 use Rattle.table.specs.declared.Checked.TheVariants.{Accepted, WrongLength, CountOverLimit, EntryOutOfRange, BadWord}
-use Rattle.table.specs.Check.{Verdict, accepted, refused, Rule, unused, number, row, row-or-none, rows-from, end_of, fits}
+use Rattle.table.specs.Check.{Verdict, accepted, refused, Rule, unused, number, row, row_or_none, rows_from, end_of, fits}
 
 -- "1 under six words, at 0; 2 the first count over its limit, at its word; 1 wrong length, at 0; 3 entry not below the block count, at 0;
 -- 4 first bad word, at it"
-abbrev pub verdictOf : Checked → Verdict
-verdictOf Accepted = accepted
-verdictOf WrongLength = refused 1 0
-verdictOf (CountOverLimit at) = refused 2 at
-verdictOf EntryOutOfRange = refused 3 0
-verdictOf (BadWord at) = refused 4 at
+abbrev pub verdict_of : Checked → Verdict
+verdict_of Accepted = accepted
+verdict_of WrongLength = refused 1 0
+verdict_of (CountOverLimit at) = refused 2 at
+verdict_of EntryOutOfRange = refused 3 0
+verdict_of (BadWord at) = refused 4 at
 
 -- "Code (0 accepted), at": the first two words of the result
 abbrev pub code_of : Verdict → ℕ
@@ -23,17 +23,17 @@ abbrev pub place_of : Verdict → ℕ
 place_of accepted = 0
 place_of (refused code at) = at
 
-abbrev pub isAccepted : Verdict → Bool
-isAccepted accepted = true
-isAccepted (refused code at) = false
+abbrev pub is_accepted : Verdict → Bool
+is_accepted accepted = true
+is_accepted (refused code at) = false
 
--- a word fits its rule where it is below this (proofs/RuleLaws.antt, `fits-limit`)
+-- a word fits its rule where it is below this (proofs/RuleLaws.antt, `fits_limit`)
 abbrev pub limit : Rule → (word : ℕ) → ℕ
 limit unused word = 1
 limit (number most) word = suc most
 limit (row rows) word = rows
-limit (row-or-none rows) word = cond (eqb word largest) (suc largest) rows
-limit (rows-from first rows) word = suc rows - first
+limit (row_or_none rows) word = cond (eqb word largest) (suc largest) rows
+limit (rows_from first rows) word = suc rows - first
 limit (end_of from) word = cond (leb from word) (suc largest) 0
 
 -- rules for five columns: those not listed are unused

@@ -2,7 +2,7 @@
 use Rattle.std.specs.Prelude.{ℕ, zero, suc, List, [], ◌∷◌, Bool, true, false, get_or, eqb}
 use Rattle.std.proofs.Math.Option.{Option, none, some}
 use Rattle.table.specs.declared.columns.Span.{Span}
-use Rattle.table.specs.Words.{entryWord, blockCount, instructionCount, caseCount, placeCount, identifierCount, blockWord, instructionWord, caseWord, placeWord, identifierWord, largest}
+use Rattle.table.specs.Words.{entry_word, block_count, instruction_count, case_count, place_count, identifier_count, block_word, instruction_word, case_word, place_word, identifier_word, largest}
 
 -- "variant (0 Break, 1 Continue, 2 Try)"
 pub data Variant : Type 0 where
@@ -18,17 +18,17 @@ pub data Terminal : Type 0 where
   if : (test consequent alternate fallthrough : ℕ) → Terminal
   branch : (test consequent alternate : ℕ) → Terminal
   switch : (test first number fallthrough : ℕ) → Terminal
-  do-while : (loop test fallthrough : ℕ) → Terminal
+  do_while : (loop test fallthrough : ℕ) → Terminal
   while : (test loop fallthrough : ℕ) → Terminal
   for : (init test : ℕ) → (update : Option ℕ) → (loop fallthrough : ℕ) → Terminal
-  for-of : (init test loop fallthrough : ℕ) → Terminal
-  for-in : (init loop fallthrough : ℕ) → Terminal
+  for_of : (init test loop fallthrough : ℕ) → Terminal
+  for_in : (init loop fallthrough : ℕ) → Terminal
   logical : (operator test fallthrough : ℕ) → Terminal
   ternary : (test fallthrough : ℕ) → Terminal
   optional : (flag test fallthrough : ℕ) → Terminal
   label : (block fallthrough : ℕ) → Terminal
   sequence : (block fallthrough : ℕ) → Terminal
-  maybe-throw : (continuation : ℕ) → Terminal
+  maybe_throw : (continuation : ℕ) → Terminal
   try : (block handler fallthrough : ℕ) → (binding : Option ℕ) → Terminal
   scope : (pruned : Bool) → (block fallthrough scope : ℕ) → Terminal
 
@@ -42,34 +42,34 @@ code_of (goto block variant) = 4
 code_of (if test consequent alternate fallthrough) = 5
 code_of (branch test consequent alternate) = 6
 code_of (switch test first number fallthrough) = 7
-code_of (do-while loop test fallthrough) = 8
+code_of (do_while loop test fallthrough) = 8
 code_of (while test loop fallthrough) = 9
 code_of (for init test update loop fallthrough) = 10
-code_of (for-of init test loop fallthrough) = 11
-code_of (for-in init loop fallthrough) = 12
+code_of (for_of init test loop fallthrough) = 11
+code_of (for_in init loop fallthrough) = 12
 code_of (logical operator test fallthrough) = 13
 code_of (ternary test fallthrough) = 14
 code_of (optional flag test fallthrough) = 15
 code_of (label block fallthrough) = 16
 code_of (sequence block fallthrough) = 17
-code_of (maybe-throw continuation) = 18
+code_of (maybe_throw continuation) = 18
 code_of (try block handler fallthrough binding) = 19
 code_of (scope false block fallthrough number) = 20
 code_of (scope true block fallthrough number) = 21
 
 -- "0 no such block"
-abbrev pub isAbsent : Terminal → Bool
-isAbsent terminal = eqb (code_of terminal) 0
+abbrev pub is_absent : Terminal → Bool
+is_absent terminal = eqb (code_of terminal) 0
 
-abbrev pub isUnreachable : Terminal → Bool
-isUnreachable terminal = eqb (code_of terminal) 1
+abbrev pub is_unreachable : Terminal → Bool
+is_unreachable terminal = eqb (code_of terminal) 1
 
-abbrev pub isGoto : Terminal → Bool
-isGoto terminal = eqb (code_of terminal) 4
+abbrev pub is_goto : Terminal → Bool
+is_goto terminal = eqb (code_of terminal) 4
 
 -- "A span becomes two words, from and to; none is 0 and 0": the record `Span`, which the code has too. It is handed on as one thing
-abbrev pub noSpan : Span
-noSpan = record { from = 0; to = 0 }
+abbrev pub no_span : Span
+no_span = record { from = 0; to = 0 }
 
 pub record Block : Type 0 where
   pub first : ℕ
@@ -81,8 +81,8 @@ pub record Block : Type 0 where
 -- "Code 0 other, 1 LoadLocal (p place), 2 StoreLocal (p stored to, q stored value)"
 pub data Operation : Type 0 where
   other : Operation
-  load-local : (place : ℕ) → Operation
-  store-local : (stored-to stored-value : ℕ) → Operation
+  load_local : (place : ℕ) → Operation
+  store_local : (stored_to stored_value : ℕ) → Operation
 
 pub record Instruction : Type 0 where
   pub id : ℕ
@@ -106,8 +106,8 @@ pub record Table : Type 0 where
 -- ---- from words
 
 -- "65,535 means none"
-unfoldable pub unlessNone : ℕ → Option ℕ
-unlessNone n = elim (eqb n largest) [ true ↦ none | false ↦ some n ]
+unfoldable pub unless_none : ℕ → Option ℕ
+unless_none n = elim (eqb n largest) [ true ↦ none | false ↦ some n ]
 
 unfoldable pub variant_of : ℕ → Variant
 variant_of zero = Break
@@ -115,8 +115,8 @@ variant_of (suc zero) = Continue
 variant_of (suc (suc n)) = Try
 
 -- the terminals with the columns a to e, in the order of their codes
-abbrev pub terminalsByCode : (a b c d e : ℕ) → List Terminal
-terminalsByCode a b c d e =
+abbrev pub terminals_by_code : (a b c d e : ℕ) → List Terminal
+terminals_by_code a b c d e =
     absent
     ∷ unreachable
     ∷ throw a
@@ -125,51 +125,51 @@ terminalsByCode a b c d e =
     ∷ if a b c d
     ∷ branch a b c
     ∷ switch a b c d
-    ∷ do-while a b c
+    ∷ do_while a b c
     ∷ while a b c
-    ∷ for a b (unlessNone c) d e
-    ∷ for-of a b c d
-    ∷ for-in a b c
+    ∷ for a b (unless_none c) d e
+    ∷ for_of a b c d
+    ∷ for_in a b c
     ∷ logical a b c
     ∷ ternary a b
     ∷ optional a b c
     ∷ label a b
     ∷ sequence a b
-    ∷ maybe-throw a
-    ∷ try a b c (unlessNone d)
+    ∷ maybe_throw a
+    ∷ try a b c (unless_none d)
     ∷ scope false a b c
     ∷ scope true a b c
     ∷ []
 
-unfoldable pub terminalOf : (code a b c d e : ℕ) → Terminal
-terminalOf code a b c d e = get_or (terminalsByCode a b c d e) code absent
+unfoldable pub terminal_of : (code a b c d e : ℕ) → Terminal
+terminal_of code a b c d e = get_or (terminals_by_code a b c d e) code absent
 
 -- "block: first, count, code, a, b, c, d, e, id, from, to"
 unfoldable pub block_of : List ℕ → ℕ → Block
 block_of ws row =
-    let column : ℕ → ℕ = blockWord ws row in
+    let column : ℕ → ℕ = block_word ws row in
     record {
       first = column 0;
       count = column 1;
-      terminal = terminalOf (column 2) (column 3) (column 4) (column 5) (column 6) (column 7);
+      terminal = terminal_of (column 2) (column 3) (column 4) (column 5) (column 6) (column 7);
       id = column 8;
       span = record { from = column 9; to = column 10 };
     }
 
-unfoldable pub operationOf : (code p q : ℕ) → Operation
-operationOf zero p q = other
-operationOf (suc zero) p q = load-local p
-operationOf (suc (suc n)) p q = store-local p q
+unfoldable pub operation_of : (code p q : ℕ) → Operation
+operation_of zero p q = other
+operation_of (suc zero) p q = load_local p
+operation_of (suc (suc n)) p q = store_local p q
 
 -- "instruction: id, lvalue, code, p, q, from, to"
-unfoldable pub instructionOf : List ℕ → ℕ → Instruction
-instructionOf ws row =
-    let column : ℕ → ℕ = instructionWord ws row in
-    record { id = column 0; lvalue = column 1; operation = operationOf (column 2) (column 3) (column 4); span = record { from = column 5; to = column 6 } }
+unfoldable pub instruction_of : List ℕ → ℕ → Instruction
+instruction_of ws row =
+    let column : ℕ → ℕ = instruction_word ws row in
+    record { id = column 0; lvalue = column 1; operation = operation_of (column 2) (column 3) (column 4); span = record { from = column 5; to = column 6 } }
 
 -- "case, 2: test, block"
 unfoldable pub case_of : List ℕ → ℕ → Case
-case_of ws row = record { test = caseWord ws row 0; block = caseWord ws row 1 }
+case_of ws row = record { test = case_word ws row 0; block = case_word ws row 1 }
 
 -- f 0, f 1, .. of so many rows
 unfoldable pub tabulate : {A : Type 0} → (ℕ → A) → ℕ → List A
@@ -178,30 +178,30 @@ tabulate f (suc n) = f 0 ∷ tabulate (λ i. f (suc i)) n
 
 unfoldable pub table_of : List ℕ → Table
 table_of ws = record {
-  entry = entryWord ws;
-  blocks = tabulate (block_of ws) (blockCount ws);
-  instructions = tabulate (instructionOf ws) (instructionCount ws);
-  cases = tabulate (case_of ws) (caseCount ws);
-  places = tabulate (placeWord ws) (placeCount ws);
-  named = tabulate (identifierWord ws) (identifierCount ws);
+  entry = entry_word ws;
+  blocks = tabulate (block_of ws) (block_count ws);
+  instructions = tabulate (instruction_of ws) (instruction_count ws);
+  cases = tabulate (case_of ws) (case_count ws);
+  places = tabulate (place_word ws) (place_count ws);
+  named = tabulate (identifier_word ws) (identifier_count ws);
 }
 
 -- ---- looking rows up; beyond the table stands a row of zeros
 
 abbrev pub no_block : Block
-no_block = record { first = 0; count = 0; terminal = absent; id = 0; span = noSpan }
+no_block = record { first = 0; count = 0; terminal = absent; id = 0; span = no_span }
 
-abbrev pub noInstruction : Instruction
-noInstruction = record { id = 0; lvalue = 0; operation = other; span = noSpan }
+abbrev pub no_instruction : Instruction
+no_instruction = record { id = 0; lvalue = 0; operation = other; span = no_span }
 
 abbrev pub block_at : Table → ℕ → Block
 block_at t b = get_or t.blocks b no_block
 
-abbrev pub terminalAt : Table → ℕ → Terminal
-terminalAt t b = (block_at t b).terminal
+abbrev pub terminal_at : Table → ℕ → Terminal
+terminal_at t b = (block_at t b).terminal
 
-abbrev pub instructionAt : Table → ℕ → Instruction
-instructionAt t i = get_or t.instructions i noInstruction
+abbrev pub instruction_at : Table → ℕ → Instruction
+instruction_at t i = get_or t.instructions i no_instruction
 
 -- first, first + 1, .. : so many rows
 abbrev pub rows_from : ℕ → ℕ → List ℕ
@@ -209,8 +209,8 @@ rows_from first zero = []
 rows_from first (suc count) = first ∷ rows_from (suc first) count
 
 -- "A block's instructions are `count` rows from `first`"
-abbrev pub instructionRows : Block → List ℕ
-instructionRows block = rows_from block.first block.count
+abbrev pub instruction_rows : Block → List ℕ
+instruction_rows block = rows_from block.first block.count
 
-abbrev pub instructionRowsAt : Table → ℕ → List ℕ
-instructionRowsAt t b = instructionRows (block_at t b)
+abbrev pub instruction_rows_at : Table → ℕ → List ℕ
+instruction_rows_at t b = instruction_rows (block_at t b)

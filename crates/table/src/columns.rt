@@ -1,7 +1,7 @@
 // A row by the names of its columns; a block's terminal has its own (terminals.rt).
 ghost use Rattle.std.specs.Prelude.{◌≡◌, ◌<◌};
-ghost use Rattle.table.specs.Words.{blockCount, instructionCount, caseCount, code_at, operationCodeAt};
-ghost use Rattle.table.specs.Table.{load-local, store-local, table_of, block_at};
+ghost use Rattle.table.specs.Words.{block_count, instruction_count, case_count, code_at, operation_code_at};
+ghost use Rattle.table.specs.Table.{load_local, store_local, table_of, block_at};
 ghost use Rattle.table.specs.Promise.{Promise, Heads, Instructs, Operates, Chooses};
 
 use crate::words::{block_word, case_word, instruction_word};
@@ -9,7 +9,7 @@ use crate::words::{block_word, case_word, instruction_word};
 // The code of a block's terminal.
 pub fn code_at(words: &[u32], block: u32) -> u32
     requires promise { Promise words.now }
-    requires block_bound { block < blockCount words.now }
+    requires block_bound { block < block_count words.now }
     ensures { result ≡ code_at words.now block }
 {
     block_word(words, block, 2)
@@ -24,7 +24,7 @@ pub struct Span {
 
 pub fn span_at(words: &[u32], block: u32) -> Span
     requires promise { Promise words.now }
-    requires block_bound { block < blockCount words.now }
+    requires block_bound { block < block_count words.now }
     ensures { result ≡ (block_at (table_of words.now) block).span }
 {
     Span {
@@ -44,7 +44,7 @@ pub struct BlockHead {
 
 pub fn block_at(words: &[u32], block: u32) -> BlockHead
     requires promise { Promise words.now }
-    requires block_bound { block < blockCount words.now }
+    requires block_bound { block < block_count words.now }
     ensures { Heads words.now block result.first result.count result.id result.span }
 {
     BlockHead {
@@ -65,7 +65,7 @@ pub struct InstructionHead {
 
 pub fn instruction_at(words: &[u32], instruction: u32) -> InstructionHead
     requires promise { Promise words.now }
-    requires instruction_bound { instruction < instructionCount words.now }
+    requires instruction_bound { instruction < instruction_count words.now }
     ensures { Instructs words.now instruction result.id result.lvalue result.span }
 {
     InstructionHead {
@@ -81,8 +81,8 @@ pub fn instruction_at(words: &[u32], instruction: u32) -> InstructionHead
 // The code of an instruction's operation: 0 other, 1 LoadLocal, 2 StoreLocal.
 pub fn operation_code_at(words: &[u32], instruction: u32) -> u32
     requires promise { Promise words.now }
-    requires instruction_bound { instruction < instructionCount words.now }
-    ensures { result ≡ operationCodeAt words.now instruction }
+    requires instruction_bound { instruction < instruction_count words.now }
+    ensures { result ≡ operation_code_at words.now instruction }
 {
     instruction_word(words, instruction, 2)
 }
@@ -94,9 +94,9 @@ pub struct LoadLocal {
 
 pub fn load_local_at(words: &[u32], instruction: u32) -> LoadLocal
     requires promise { Promise words.now }
-    requires instruction_bound { instruction < instructionCount words.now }
-    requires instruction_value { operationCodeAt words.now instruction ≡ 1 }
-    ensures { Operates words.now instruction (load-local result.place) }
+    requires instruction_bound { instruction < instruction_count words.now }
+    requires instruction_value { operation_code_at words.now instruction ≡ 1 }
+    ensures { Operates words.now instruction (load_local result.place) }
 {
     LoadLocal {
         place: instruction_word(words, instruction, 3),
@@ -111,9 +111,9 @@ pub struct StoreLocal {
 
 pub fn store_local_at(words: &[u32], instruction: u32) -> StoreLocal
     requires promise { Promise words.now }
-    requires instruction_bound { instruction < instructionCount words.now }
-    requires instruction_value { operationCodeAt words.now instruction ≡ 2 }
-    ensures { Operates words.now instruction (store-local result.stored_to result.stored_value) }
+    requires instruction_bound { instruction < instruction_count words.now }
+    requires instruction_value { operation_code_at words.now instruction ≡ 2 }
+    ensures { Operates words.now instruction (store_local result.stored_to result.stored_value) }
 {
     StoreLocal {
         stored_to: instruction_word(words, instruction, 3),
@@ -130,7 +130,7 @@ pub struct Case {
 
 pub fn case_at(words: &[u32], case: u32) -> Case
     requires promise { Promise words.now }
-    requires case_bound { case < caseCount words.now }
+    requires case_bound { case < case_count words.now }
     ensures { Chooses words.now case result.test result.block }
 {
     Case {

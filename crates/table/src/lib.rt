@@ -5,9 +5,9 @@ pub mod terminals;
 pub mod words;
 
 ghost use Rattle.std.specs.Prelude.{◌≡◌};
-ghost use Rattle.table.specs.Answer.{verdictOf, code_of, place_of, isAccepted};
+ghost use Rattle.table.specs.Answer.{verdict_of, code_of, place_of, is_accepted};
 
-// What the check finds. Paper 01's code and place of each: `verdictOf` in specs/Answer.antt.
+// What the check finds. Paper 01's code and place of each: `verdict_of` in specs/Answer.antt.
 #[derive(Drop)]
 pub enum Checked {
     Accepted,
@@ -19,7 +19,7 @@ pub enum Checked {
 
 impl Checked {
     pub fn is_accepted(self) -> bool
-        ensures { result ≡ isAccepted (verdictOf self) }
+        ensures { result ≡ is_accepted (verdict_of self) }
     {
         match self {
             Checked::Accepted => true,
@@ -31,7 +31,7 @@ impl Checked {
     }
 
     pub fn code(self) -> u32
-        ensures { result ≡ code_of (verdictOf self) }
+        ensures { result ≡ code_of (verdict_of self) }
     {
         match self {
             Checked::Accepted => 0,
@@ -43,7 +43,7 @@ impl Checked {
     }
 
     pub fn place(self) -> u32
-        ensures { result ≡ place_of (verdictOf self) }
+        ensures { result ≡ place_of (verdict_of self) }
     {
         match self {
             Checked::Accepted => 0,

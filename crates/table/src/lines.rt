@@ -1,9 +1,9 @@
 // The blocks that a row names, in the order of M-110's lines, one by one.
 ghost use Rattle.std.specs.Prelude.{◌≡◌, ◌+◌, ◌<◌};
-ghost use Rattle.table.specs.Words.{blockCount};
-ghost use Rattle.table.specs.Table.{unlessNone};
+ghost use Rattle.table.specs.Words.{block_count};
+ghost use Rattle.table.specs.Table.{unless_none};
 ghost use Rattle.table.specs.Promise.{Promise};
-ghost use Rattle.table.specs.Named.{Names, Target, no_case, casesThen, forNames};
+ghost use Rattle.table.specs.Named.{Names, Target, no_case, cases_then, for_names};
 
 use crate::columns::{case_at, code_at};
 use crate::terminals::{
@@ -35,7 +35,7 @@ fn first(count: u32, blocks: [u32; 5]) -> Named
 
 // A Switch lists its cases before its fallthrough.
 fn cases_then(first_case: u32, cases: u32, fallthrough: u32) -> Named
-    ensures { result ≡ casesThen first_case cases fallthrough }
+    ensures { result ≡ cases_then first_case cases fallthrough }
 {
     Named {
         first_case: first_case,
@@ -47,7 +47,7 @@ fn cases_then(first_case: u32, cases: u32, fallthrough: u32) -> Named
 
 // A For whose update may be none (65,535).
 fn for_names(end: For) -> Named
-    ensures { result ≡ forNames end.init end.test (unlessNone end.update) end.loop_block end.fallthrough }
+    ensures { result ≡ for_names end.init end.test (unless_none end.update) end.loop_block end.fallthrough }
 {
     if end.update == 65535 {
         return first(4, [end.init, end.test, end.loop_block, end.fallthrough, 0]);
@@ -67,7 +67,7 @@ fn for_names(end: For) -> Named
 // An arm for each of the 22 codes, so it is longer than other functions. Each arm reads its terminal and lists the blocks.
 pub fn named_at(words: &[u32], row: u32) -> Named
     requires promise { Promise words.now }
-    requires row_bound { row < blockCount words.now }
+    requires row_bound { row < block_count words.now }
     ensures { Names words.now row result }
 {
     let code = code_at(words, row);

@@ -1,8 +1,8 @@
 // A block's terminal by the names of its columns: what a reader gives is the block's terminal, and what it names is there.
 ghost use Rattle.std.specs.Prelude.{◌≡◌, ◌<◌, ◌≤◌};
-ghost use Rattle.table.specs.Words.{blockCount, code_at};
-ghost use Rattle.table.specs.Table.{throw, return, goto, if, branch, switch, do-while, while, for, for-of, for-in};
-ghost use Rattle.table.specs.Table.{logical, ternary, optional, label, sequence, maybe-throw, try, scope, unlessNone, variant_of};
+ghost use Rattle.table.specs.Words.{block_count, code_at};
+ghost use Rattle.table.specs.Table.{throw, return, goto, if, branch, switch, do_while, while, for, for_of, for_in};
+ghost use Rattle.table.specs.Table.{logical, ternary, optional, label, sequence, maybe_throw, try, scope, unless_none, variant_of};
 ghost use Rattle.table.specs.Promise.{Promise, Ends};
 
 use crate::words::block_word;
@@ -14,7 +14,7 @@ pub struct Throw {
 
 pub fn throw_at(words: &[u32], block: u32) -> Throw
     requires promise { Promise words.now }
-    requires block_bound { block < blockCount words.now }
+    requires block_bound { block < block_count words.now }
     requires block_value { code_at words.now block ≡ 2 }
     ensures { Ends words.now block (throw result.value) }
 {
@@ -30,7 +30,7 @@ pub struct Return {
 
 pub fn return_at(words: &[u32], block: u32) -> Return
     requires promise { Promise words.now }
-    requires block_bound { block < blockCount words.now }
+    requires block_bound { block < block_count words.now }
     requires block_value { code_at words.now block ≡ 3 }
     ensures { Ends words.now block (return result.value) }
 {
@@ -48,7 +48,7 @@ pub struct Goto {
 
 pub fn goto_at(words: &[u32], block: u32) -> Goto
     requires promise { Promise words.now }
-    requires block_bound { block < blockCount words.now }
+    requires block_bound { block < block_count words.now }
     requires block_value { code_at words.now block ≡ 4 }
     ensures { Ends words.now block (goto result.block (variant_of result.variant)) }
 {
@@ -68,7 +68,7 @@ pub struct If {
 
 pub fn if_at(words: &[u32], block: u32) -> If
     requires promise { Promise words.now }
-    requires block_bound { block < blockCount words.now }
+    requires block_bound { block < block_count words.now }
     requires block_value { code_at words.now block ≡ 5 }
     ensures { Ends words.now block (if result.test result.consequent result.alternate result.fallthrough) }
 {
@@ -89,7 +89,7 @@ pub struct Branch {
 
 pub fn branch_at(words: &[u32], block: u32) -> Branch
     requires promise { Promise words.now }
-    requires block_bound { block < blockCount words.now }
+    requires block_bound { block < block_count words.now }
     requires block_value { code_at words.now block ≡ 6 }
     ensures { Ends words.now block (branch result.test result.consequent result.alternate) }
 {
@@ -111,7 +111,7 @@ pub struct Switch {
 
 pub fn switch_at(words: &[u32], block: u32) -> Switch
     requires promise { Promise words.now }
-    requires block_bound { block < blockCount words.now }
+    requires block_bound { block < block_count words.now }
     requires block_value { code_at words.now block ≡ 7 }
     ensures { Ends words.now block (switch result.test result.first result.number result.fallthrough) }
 {
@@ -132,9 +132,9 @@ pub struct DoWhile {
 
 pub fn do_while_at(words: &[u32], block: u32) -> DoWhile
     requires promise { Promise words.now }
-    requires block_bound { block < blockCount words.now }
+    requires block_bound { block < block_count words.now }
     requires block_value { code_at words.now block ≡ 8 }
-    ensures { Ends words.now block (do-while result.loop_block result.test result.fallthrough) }
+    ensures { Ends words.now block (do_while result.loop_block result.test result.fallthrough) }
 {
     DoWhile {
         loop_block: block_word(words, block, 3),
@@ -152,7 +152,7 @@ pub struct While {
 
 pub fn while_at(words: &[u32], block: u32) -> While
     requires promise { Promise words.now }
-    requires block_bound { block < blockCount words.now }
+    requires block_bound { block < block_count words.now }
     requires block_value { code_at words.now block ≡ 9 }
     ensures { Ends words.now block (while result.test result.loop_block result.fallthrough) }
 {
@@ -175,9 +175,9 @@ pub struct For {
 
 pub fn for_at(words: &[u32], block: u32) -> For
     requires promise { Promise words.now }
-    requires block_bound { block < blockCount words.now }
+    requires block_bound { block < block_count words.now }
     requires block_value { code_at words.now block ≡ 10 }
-    ensures { Ends words.now block (for result.init result.test (unlessNone result.update) result.loop_block result.fallthrough) }
+    ensures { Ends words.now block (for result.init result.test (unless_none result.update) result.loop_block result.fallthrough) }
 {
     For {
         init: block_word(words, block, 3),
@@ -198,9 +198,9 @@ pub struct ForOf {
 
 pub fn for_of_at(words: &[u32], block: u32) -> ForOf
     requires promise { Promise words.now }
-    requires block_bound { block < blockCount words.now }
+    requires block_bound { block < block_count words.now }
     requires block_value { code_at words.now block ≡ 11 }
-    ensures { Ends words.now block (for-of result.init result.test result.loop_block result.fallthrough) }
+    ensures { Ends words.now block (for_of result.init result.test result.loop_block result.fallthrough) }
 {
     ForOf {
         init: block_word(words, block, 3),
@@ -219,9 +219,9 @@ pub struct ForIn {
 
 pub fn for_in_at(words: &[u32], block: u32) -> ForIn
     requires promise { Promise words.now }
-    requires block_bound { block < blockCount words.now }
+    requires block_bound { block < block_count words.now }
     requires block_value { code_at words.now block ≡ 12 }
-    ensures { Ends words.now block (for-in result.init result.loop_block result.fallthrough) }
+    ensures { Ends words.now block (for_in result.init result.loop_block result.fallthrough) }
 {
     ForIn {
         init: block_word(words, block, 3),
@@ -240,7 +240,7 @@ pub struct Logical {
 
 pub fn logical_at(words: &[u32], block: u32) -> Logical
     requires promise { Promise words.now }
-    requires block_bound { block < blockCount words.now }
+    requires block_bound { block < block_count words.now }
     requires block_value { code_at words.now block ≡ 13 }
     ensures { Ends words.now block (logical result.operator result.test result.fallthrough) }
 {
@@ -259,7 +259,7 @@ pub struct Ternary {
 
 pub fn ternary_at(words: &[u32], block: u32) -> Ternary
     requires promise { Promise words.now }
-    requires block_bound { block < blockCount words.now }
+    requires block_bound { block < block_count words.now }
     requires block_value { code_at words.now block ≡ 14 }
     ensures { Ends words.now block (ternary result.test result.fallthrough) }
 {
@@ -278,7 +278,7 @@ pub struct Optional {
 
 pub fn optional_at(words: &[u32], block: u32) -> Optional
     requires promise { Promise words.now }
-    requires block_bound { block < blockCount words.now }
+    requires block_bound { block < block_count words.now }
     requires block_value { code_at words.now block ≡ 15 }
     ensures { Ends words.now block (optional result.flag result.test result.fallthrough) }
 {
@@ -297,7 +297,7 @@ pub struct Label {
 
 pub fn label_at(words: &[u32], block: u32) -> Label
     requires promise { Promise words.now }
-    requires block_bound { block < blockCount words.now }
+    requires block_bound { block < block_count words.now }
     requires block_value { code_at words.now block ≡ 16 }
     ensures { Ends words.now block (label result.block result.fallthrough) }
 {
@@ -315,7 +315,7 @@ pub struct Sequence {
 
 pub fn sequence_at(words: &[u32], block: u32) -> Sequence
     requires promise { Promise words.now }
-    requires block_bound { block < blockCount words.now }
+    requires block_bound { block < block_count words.now }
     requires block_value { code_at words.now block ≡ 17 }
     ensures { Ends words.now block (sequence result.block result.fallthrough) }
 {
@@ -332,9 +332,9 @@ pub struct MaybeThrow {
 
 pub fn maybe_throw_at(words: &[u32], block: u32) -> MaybeThrow
     requires promise { Promise words.now }
-    requires block_bound { block < blockCount words.now }
+    requires block_bound { block < block_count words.now }
     requires block_value { code_at words.now block ≡ 18 }
-    ensures { Ends words.now block (maybe-throw result.continuation) }
+    ensures { Ends words.now block (maybe_throw result.continuation) }
 {
     MaybeThrow {
         continuation: block_word(words, block, 3),
@@ -352,9 +352,9 @@ pub struct Try {
 
 pub fn try_at(words: &[u32], block: u32) -> Try
     requires promise { Promise words.now }
-    requires block_bound { block < blockCount words.now }
+    requires block_bound { block < block_count words.now }
     requires block_value { code_at words.now block ≡ 19 }
-    ensures { Ends words.now block (try result.block result.handler result.fallthrough (unlessNone result.binding)) }
+    ensures { Ends words.now block (try result.block result.handler result.fallthrough (unless_none result.binding)) }
 {
     Try {
         block: block_word(words, block, 3),
@@ -375,7 +375,7 @@ pub struct Scope {
 
 pub fn scope_at(words: &[u32], block: u32) -> Scope
     requires promise { Promise words.now }
-    requires block_bound { block < blockCount words.now }
+    requires block_bound { block < block_count words.now }
     requires bound { 20 ≤ code_at words.now block }
     ensures { Ends words.now block (scope result.pruned result.block result.fallthrough result.scope) }
 {

@@ -1,93 +1,93 @@
 // The only functions that index the words. Each access works out from the head where its table begins. That costs a few loads from a cache line
 // that is always in the cache, and no caller has to carry the beginnings and a fact about them.
 ghost use Rattle.std.specs.Prelude.{◌≡◌, ◌<◌, ◌≤◌, length};
-ghost use Rattle.table.specs.Words.{entryWord, blockCount, instructionCount, caseCount, placeCount, identifierCount};
-ghost use Rattle.table.specs.Words.{instructionsBegin, casesBegin, placesBegin, identifiersBegin, wordsNeeded};
-ghost use Rattle.table.specs.Words.{blockWord, instructionWord, caseWord, placeWord, identifierWord};
+ghost use Rattle.table.specs.Words.{entry_word, block_count, instruction_count, case_count, place_count, identifier_count};
+ghost use Rattle.table.specs.Words.{instructions_begin, cases_begin, places_begin, identifiers_begin, words_needed};
+ghost use Rattle.table.specs.Words.{block_word, instruction_word, case_word, place_word, identifier_word};
 ghost use Rattle.table.specs.Promise.{Limited, Sized};
 
 pub fn entry(words: &[u32]) -> u32
     requires { 6 ≤ length words.now }
-    ensures { result ≡ entryWord words.now }
+    ensures { result ≡ entry_word words.now }
 {
     words[0]
 }
 
 pub fn block_count(words: &[u32]) -> u32
     requires { 6 ≤ length words.now }
-    ensures { result ≡ blockCount words.now }
+    ensures { result ≡ block_count words.now }
 {
     words[1]
 }
 
 pub fn instruction_count(words: &[u32]) -> u32
     requires { 6 ≤ length words.now }
-    ensures { result ≡ instructionCount words.now }
+    ensures { result ≡ instruction_count words.now }
 {
     words[2]
 }
 
 pub fn case_count(words: &[u32]) -> u32
     requires { 6 ≤ length words.now }
-    ensures { result ≡ caseCount words.now }
+    ensures { result ≡ case_count words.now }
 {
     words[3]
 }
 
 pub fn place_count(words: &[u32]) -> u32
     requires { 6 ≤ length words.now }
-    ensures { result ≡ placeCount words.now }
+    ensures { result ≡ place_count words.now }
 {
     words[4]
 }
 
 pub fn identifier_count(words: &[u32]) -> u32
     requires { 6 ≤ length words.now }
-    ensures { result ≡ identifierCount words.now }
+    ensures { result ≡ identifier_count words.now }
 {
     words[5]
 }
 
 pub fn instructions_begin(words: &[u32]) -> u32
     requires { Limited words.now }
-    ensures { (result ≡ instructionsBegin words.now) × (result ≤ 11270) }
+    ensures { (result ≡ instructions_begin words.now) × (result ≤ 11270) }
 {
     6 + block_count(words) * 11
 }
 
 pub fn cases_begin(words: &[u32]) -> u32
     requires { Limited words.now }
-    ensures { (result ≡ casesBegin words.now) × (result ≤ 39942) }
+    ensures { (result ≡ cases_begin words.now) × (result ≤ 39942) }
 {
     instructions_begin(words) + instruction_count(words) * 7
 }
 
 pub fn places_begin(words: &[u32]) -> u32
     requires { Limited words.now }
-    ensures { (result ≡ placesBegin words.now) × (result ≤ 41990) }
+    ensures { (result ≡ places_begin words.now) × (result ≤ 41990) }
 {
     cases_begin(words) + case_count(words) * 2
 }
 
 pub fn identifiers_begin(words: &[u32]) -> u32
     requires { Limited words.now }
-    ensures { (result ≡ identifiersBegin words.now) × (result ≤ 46086) }
+    ensures { (result ≡ identifiers_begin words.now) × (result ≤ 46086) }
 {
     places_begin(words) + place_count(words)
 }
 
 pub fn words_needed(words: &[u32]) -> u32
     requires { Limited words.now }
-    ensures { result ≡ wordsNeeded words.now }
+    ensures { result ≡ words_needed words.now }
 {
     identifiers_begin(words) + identifier_count(words)
 }
 
 pub fn block_word(words: &[u32], row: u32, column: u32) -> u32
     requires sized { Sized words.now }
-    requires row_bound { row < blockCount words.now }
+    requires row_bound { row < block_count words.now }
     requires column_bound { column < 11 }
-    ensures { result ≡ blockWord words.now row column }
+    ensures { result ≡ block_word words.now row column }
 {
     let at = (6 + row * 11 + column) as usize;
     words[at]
@@ -95,9 +95,9 @@ pub fn block_word(words: &[u32], row: u32, column: u32) -> u32
 
 pub fn instruction_word(words: &[u32], row: u32, column: u32) -> u32
     requires sized { Sized words.now }
-    requires row_bound { row < instructionCount words.now }
+    requires row_bound { row < instruction_count words.now }
     requires column_bound { column < 7 }
-    ensures { result ≡ instructionWord words.now row column }
+    ensures { result ≡ instruction_word words.now row column }
 {
     let at = (instructions_begin(words) + row * 7 + column) as usize;
     words[at]
@@ -105,9 +105,9 @@ pub fn instruction_word(words: &[u32], row: u32, column: u32) -> u32
 
 pub fn case_word(words: &[u32], row: u32, column: u32) -> u32
     requires sized { Sized words.now }
-    requires row_bound { row < caseCount words.now }
+    requires row_bound { row < case_count words.now }
     requires column_bound { column < 2 }
-    ensures { result ≡ caseWord words.now row column }
+    ensures { result ≡ case_word words.now row column }
 {
     let at = (cases_begin(words) + row * 2 + column) as usize;
     words[at]
@@ -116,8 +116,8 @@ pub fn case_word(words: &[u32], row: u32, column: u32) -> u32
 // The identifier of a place.
 pub fn place_word(words: &[u32], row: u32) -> u32
     requires sized { Sized words.now }
-    requires row_bound { row < placeCount words.now }
-    ensures { result ≡ placeWord words.now row }
+    requires row_bound { row < place_count words.now }
+    ensures { result ≡ place_word words.now row }
 {
     let at = (places_begin(words) + row) as usize;
     words[at]
@@ -126,8 +126,8 @@ pub fn place_word(words: &[u32], row: u32) -> u32
 // Whether an identifier is named, 0 or 1.
 pub fn identifier_word(words: &[u32], row: u32) -> u32
     requires sized { Sized words.now }
-    requires row_bound { row < identifierCount words.now }
-    ensures { result ≡ identifierWord words.now row }
+    requires row_bound { row < identifier_count words.now }
+    ensures { result ≡ identifier_word words.now row }
 {
     let at = (identifiers_begin(words) + row) as usize;
     words[at]

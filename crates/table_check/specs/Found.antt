@@ -4,9 +4,9 @@ use Rattle.table.specs.Words.{word}
 use Rattle.table.specs.Check.{Rule, unused}
 
 -- the first head word, from `at` on, over its limit; the next word where none is
-unfoldable pub firstOver : List ℕ → ℕ → List ℕ → ℕ
-firstOver ws at [] = at
-firstOver ws at (limit ∷ limits) = elim (leb (word ws at) limit) [ true ↦ firstOver ws (suc at) limits | false ↦ at ]
+unfoldable pub first_over : List ℕ → ℕ → List ℕ → ℕ
+first_over ws at [] = at
+first_over ws at (limit ∷ limits) = elim (leb (word ws at) limit) [ true ↦ first_over ws (suc at) limits | false ↦ at ]
 
 -- rules for two columns: those not listed are unused
 abbrev pub two : List Rule → List Rule

@@ -1,10 +1,10 @@
 // The rows of the table of blocks, the widest of the five: the first bad word.
 ghost use Rattle.std.specs.Prelude.{◌≡◌, [], ◌∷◌, ◌<◌, replicate};
-ghost use Rattle.table.specs.Words.{blockCount, blocksBegin, blockWord};
-ghost use Rattle.table.specs.Check.{unused, terminalRules, blockRules, rowsVerdict};
-ghost use Rattle.table.specs.Answer.{verdictOf, five};
+ghost use Rattle.table.specs.Words.{block_count, blocks_begin, block_word};
+ghost use Rattle.table.specs.Check.{unused, terminal_rules, block_rules, rows_verdict};
+ghost use Rattle.table.specs.Answer.{verdict_of, five};
 ghost use Rattle.table.specs.Promise.{Sized};
-ghost use Rattle.table_check.specs.FoundBlocks.{firstBad, firstNotBelow};
+ghost use Rattle.table_check.specs.FoundBlocks.{first_bad, first_not_below};
 
 use crate::limits::{ANY, UNUSED, end_of, row_or_none, rows_from};
 use table::{Checked, words};
@@ -12,8 +12,8 @@ use table::{Checked, words};
 // The first column of a row with code 0 that is not 0; 11 where all are.
 fn absent_row(words: &[u32], row: u32) -> u32
     requires sized { Sized words.now }
-    requires row_bound { row < blockCount words.now }
-    ensures { result ≡ firstBad (blockWord words.now row) 0 (replicate 11 unused) }
+    requires row_bound { row < block_count words.now }
+    ensures { result ≡ first_bad (block_word words.now row) 0 (replicate 11 unused) }
 {
     let mut column = 0;
     while column < 11 {
@@ -28,8 +28,8 @@ fn absent_row(words: &[u32], row: u32) -> u32
 // The first of the columns a to e that is not below its limit; 8, the next column, where all are.
 fn columns(words: &[u32], row: u32, a: u32, b: u32, c: u32, d: u32, e: u32) -> u32
     requires sized { Sized words.now }
-    requires row_bound { row < blockCount words.now }
-    ensures { result ≡ firstNotBelow (blockWord words.now row) 3 (a ∷ b ∷ c ∷ d ∷ e ∷ []) }
+    requires row_bound { row < block_count words.now }
+    ensures { result ≡ first_not_below (block_word words.now row) 3 (a ∷ b ∷ c ∷ d ∷ e ∷ []) }
 {
     if words::block_word(words, row, 3) >= a {
         return 3;
@@ -52,8 +52,8 @@ fn columns(words: &[u32], row: u32, a: u32, b: u32, c: u32, d: u32, e: u32) -> u
 // The same, with the limits of the block's code: paper 01, "Codes and columns".
 fn terminal_columns(words: &[u32], row: u32, code: u32) -> u32
     requires sized { Sized words.now }
-    requires row_bound { row < blockCount words.now }
-    ensures { result ≡ firstBad (blockWord words.now row) 3 (five (terminalRules words.now code (blockWord words.now row 4))) }
+    requires row_bound { row < block_count words.now }
+    ensures { result ≡ first_bad (block_word words.now row) 3 (five (terminal_rules words.now code (block_word words.now row 4))) }
 {
     let blocks = words::block_count(words);
     let places = words::place_count(words);
@@ -90,8 +90,8 @@ fn terminal_columns(words: &[u32], row: u32, code: u32) -> u32
 // The first bad column of a block; 11 where there is none.
 fn block_row(words: &[u32], row: u32) -> u32
     requires sized { Sized words.now }
-    requires row_bound { row < blockCount words.now }
-    ensures { result ≡ firstBad (blockWord words.now row) 0 (blockRules words.now row) }
+    requires row_bound { row < block_count words.now }
+    ensures { result ≡ first_bad (block_word words.now row) 0 (block_rules words.now row) }
 {
     let code = words::block_word(words, row, 2);
     if code == 0 {
@@ -128,7 +128,7 @@ fn block_row(words: &[u32], row: u32) -> u32
 
 pub fn check_blocks(words: &[u32]) -> Checked
     requires { Sized words.now }
-    ensures { verdictOf result ≡ rowsVerdict words.now (blockRules words.now) blocksBegin 0 (blockCount words.now) }
+    ensures { verdict_of result ≡ rows_verdict words.now (block_rules words.now) blocks_begin 0 (block_count words.now) }
 {
     let blocks = words::block_count(words);
     let mut block = 0;

@@ -4,10 +4,10 @@ pub mod limits;
 mod other_tables;
 
 ghost use Rattle.std.specs.Prelude.{◌≡◌, ◌≤◌, length};
-ghost use Rattle.table.specs.Check.{checked, limits, wordsVerdict};
-ghost use Rattle.table.specs.Answer.{verdictOf, code_of, place_of};
+ghost use Rattle.table.specs.Check.{checked, limits, words_verdict};
+ghost use Rattle.table.specs.Answer.{verdict_of, code_of, place_of};
 ghost use Rattle.table.specs.Promise.{Sized};
-ghost use Rattle.table_check.specs.Found.{firstOver};
+ghost use Rattle.table_check.specs.Found.{first_over};
 
 use crate::blocks::check_blocks;
 use table::{Checked, words};
@@ -15,7 +15,7 @@ use table::{Checked, words};
 // The head word of the first count over its limit; 6 where none is.
 fn count_over_limit(words: &[u32]) -> u32
     requires { 6 ≤ length words.now }
-    ensures { result ≡ firstOver words.now 1 limits }
+    ensures { result ≡ first_over words.now 1 limits }
 {
     if words::block_count(words) > 1024 {
         return 1;
@@ -38,7 +38,7 @@ fn count_over_limit(words: &[u32]) -> u32
 // The tables in their order, up to the first that has a bad word.
 fn check_tables(words: &[u32]) -> Checked
     requires { Sized words.now }
-    ensures { verdictOf result ≡ wordsVerdict words.now }
+    ensures { verdict_of result ≡ words_verdict words.now }
 {
     let blocks = check_blocks(words);
     if !blocks.is_accepted() {
@@ -61,7 +61,7 @@ fn check_tables(words: &[u32]) -> Checked
 
 // Whether any words are a table that the walk can take: the refusals in paper 01's order.
 pub fn check(words: &[u32]) -> Checked
-    ensures { verdictOf result ≡ checked words.now }
+    ensures { verdict_of result ≡ checked words.now }
 {
     if words.len() < 6 {
         return Checked::WrongLength;

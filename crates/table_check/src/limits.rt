@@ -1,6 +1,6 @@
 // A word fits where it is below its column's limit: `limit` in table/specs/Answer.antt says which limit a rule of the paper is.
 ghost use Rattle.std.specs.Prelude.{◌≡◌, suc, ◌-◌, ◌≤◌};
-ghost use Rattle.table.specs.Check.{row-or-none, end_of};
+ghost use Rattle.table.specs.Check.{row_or_none, end_of};
 ghost use Rattle.table.specs.Answer.{limit};
 
 // Any row word may be below this.
@@ -11,7 +11,7 @@ pub const UNUSED: u32 = 1;
 
 // The limit of a word that names one of `rows` rows, or none.
 pub fn row_or_none(rows: u32, word: u32) -> u32
-    ensures { result ≡ limit (row-or-none rows) word }
+    ensures { result ≡ limit (row_or_none rows) word }
 {
     if word == 65535 { ANY } else { rows }
 }

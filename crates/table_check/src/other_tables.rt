@@ -1,11 +1,11 @@
 // The rows of the other four tables: the first bad word of each.
 ghost use Rattle.std.specs.Prelude.{◌≡◌, [], ◌∷◌, ◌<◌};
-ghost use Rattle.table.specs.Words.{instructionCount, caseCount, placeCount, identifierCount};
-ghost use Rattle.table.specs.Words.{instructionsBegin, casesBegin, placesBegin, identifiersBegin, instructionWord, caseWord};
-ghost use Rattle.table.specs.Check.{operandRules, instructionRules, caseRules, placeRules, identifierRules, rowsVerdict};
-ghost use Rattle.table.specs.Answer.{verdictOf};
+ghost use Rattle.table.specs.Words.{instruction_count, case_count, place_count, identifier_count};
+ghost use Rattle.table.specs.Words.{instructions_begin, cases_begin, places_begin, identifiers_begin, instruction_word, case_word};
+ghost use Rattle.table.specs.Check.{operand_rules, instruction_rules, case_rules, place_rules, identifier_rules, rows_verdict};
+ghost use Rattle.table.specs.Answer.{verdict_of};
 ghost use Rattle.table.specs.Promise.{Sized};
-ghost use Rattle.table_check.specs.FoundBlocks.{firstBad, firstNotBelow};
+ghost use Rattle.table_check.specs.FoundBlocks.{first_bad, first_not_below};
 ghost use Rattle.table_check.specs.Found.{two};
 
 use crate::limits::{ANY, UNUSED, end_of, row_or_none};
@@ -14,8 +14,8 @@ use table::{Checked, words};
 // The first of p and q that is not below its limit; 5, the next column, where both are.
 fn operands(words: &[u32], row: u32, p: u32, q: u32) -> u32
     requires sized { Sized words.now }
-    requires row_bound { row < instructionCount words.now }
-    ensures { result ≡ firstNotBelow (instructionWord words.now row) 3 (p ∷ q ∷ []) }
+    requires row_bound { row < instruction_count words.now }
+    ensures { result ≡ first_not_below (instruction_word words.now row) 3 (p ∷ q ∷ []) }
 {
     if words::instruction_word(words, row, 3) >= p {
         return 3;
@@ -29,8 +29,8 @@ fn operands(words: &[u32], row: u32, p: u32, q: u32) -> u32
 // The same, with the limits of the instruction's code.
 fn operand_columns(words: &[u32], row: u32, code: u32) -> u32
     requires sized { Sized words.now }
-    requires row_bound { row < instructionCount words.now }
-    ensures { result ≡ firstBad (instructionWord words.now row) 3 (two (operandRules words.now code)) }
+    requires row_bound { row < instruction_count words.now }
+    ensures { result ≡ first_bad (instruction_word words.now row) 3 (two (operand_rules words.now code)) }
 {
     let places = words::place_count(words);
     match code {
@@ -44,8 +44,8 @@ fn operand_columns(words: &[u32], row: u32, code: u32) -> u32
 // The first bad column of an instruction; 7 where there is none.
 fn instruction_row(words: &[u32], row: u32) -> u32
     requires sized { Sized words.now }
-    requires row_bound { row < instructionCount words.now }
-    ensures { result ≡ firstBad (instructionWord words.now row) 0 (instructionRules words.now row) }
+    requires row_bound { row < instruction_count words.now }
+    ensures { result ≡ first_bad (instruction_word words.now row) 0 (instruction_rules words.now row) }
 {
     if words::instruction_word(words, row, 0) >= ANY {
         return 0;
@@ -75,8 +75,8 @@ fn instruction_row(words: &[u32], row: u32) -> u32
 // The first bad column of a case; 2 where there is none.
 fn case_row(words: &[u32], row: u32) -> u32
     requires sized { Sized words.now }
-    requires row_bound { row < caseCount words.now }
-    ensures { result ≡ firstBad (caseWord words.now row) 0 (caseRules words.now row) }
+    requires row_bound { row < case_count words.now }
+    ensures { result ≡ first_bad (case_word words.now row) 0 (case_rules words.now row) }
 {
     let test = words::case_word(words, row, 0);
     if test >= row_or_none(words::place_count(words), test) {
@@ -90,7 +90,7 @@ fn case_row(words: &[u32], row: u32) -> u32
 
 pub fn check_instructions(words: &[u32]) -> Checked
     requires { Sized words.now }
-    ensures { verdictOf result ≡ rowsVerdict words.now (instructionRules words.now) (instructionsBegin words.now) 0 (instructionCount words.now) }
+    ensures { verdict_of result ≡ rows_verdict words.now (instruction_rules words.now) (instructions_begin words.now) 0 (instruction_count words.now) }
 {
     let begin = words::instructions_begin(words);
     let instructions = words::instruction_count(words);
@@ -107,7 +107,7 @@ pub fn check_instructions(words: &[u32]) -> Checked
 
 pub fn check_cases(words: &[u32]) -> Checked
     requires { Sized words.now }
-    ensures { verdictOf result ≡ rowsVerdict words.now (caseRules words.now) (casesBegin words.now) 0 (caseCount words.now) }
+    ensures { verdict_of result ≡ rows_verdict words.now (case_rules words.now) (cases_begin words.now) 0 (case_count words.now) }
 {
     let begin = words::cases_begin(words);
     let cases = words::case_count(words);
@@ -124,7 +124,7 @@ pub fn check_cases(words: &[u32]) -> Checked
 
 pub fn check_places(words: &[u32]) -> Checked
     requires { Sized words.now }
-    ensures { verdictOf result ≡ rowsVerdict words.now (placeRules words.now) (placesBegin words.now) 0 (placeCount words.now) }
+    ensures { verdict_of result ≡ rows_verdict words.now (place_rules words.now) (places_begin words.now) 0 (place_count words.now) }
 {
     let begin = words::places_begin(words);
     let places = words::place_count(words);
@@ -141,7 +141,7 @@ pub fn check_places(words: &[u32]) -> Checked
 
 pub fn check_identifiers(words: &[u32]) -> Checked
     requires { Sized words.now }
-    ensures { verdictOf result ≡ rowsVerdict words.now (identifierRules words.now) (identifiersBegin words.now) 0 (identifierCount words.now) }
+    ensures { verdict_of result ≡ rows_verdict words.now (identifier_rules words.now) (identifiers_begin words.now) 0 (identifier_count words.now) }
 {
     let begin = words::identifiers_begin(words);
     let identifiers = words::identifier_count(words);

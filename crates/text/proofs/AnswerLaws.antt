@@ -19,98 +19,98 @@ use Rattle.text.specs.Answer.{Refusal, Accepted, Answered}
 use Rattle.text.specs.declared.read.Answer.{Answer}
 use Rattle.text.specs.declared.read.Answer.TheVariants.{Words, NoRoom}
 use Rattle.text.specs.declared.read.Answer.TheVariants as TheVariants
-use Rattle.text.proofs.DecimalLaws.{decimal-some}
-use Rattle.text.proofs.FormLaws.{good-text, text-good, text-one}
+use Rattle.text.proofs.DecimalLaws.{decimal_some}
+use Rattle.text.proofs.FormLaws.{good_text, text_good, text_one}
 
-pub stopped-refused : (f : Layout) (file : List ℕ) (at : ℕ) → Stopped (whole f) file at → Refused f file at
-stopped-refused f file at h = record {
+pub stopped_refused : (f : Layout) (file : List ℕ) (at : ℕ) → Stopped (whole f) file at → Refused f file at
+stopped_refused f file at h = record {
   within = h.within;
-  viable = record { rest = h.rest; words = h.words; good = text-good f _ _ h.viable };
-  no-further = λ p v. h.no-further p v.rest v.words (good-text f _ _ v.good);
-  not_good = λ words g. h.not_good words (good-text f file words g);
+  viable = record { rest = h.rest; words = h.words; good = text_good f _ _ h.viable };
+  no_further = λ p v. h.no_further p v.rest v.words (good_text f _ _ v.good);
+  not_good = λ words g. h.not_good words (good_text f file words g);
 }
 
 -- ---- one answer
 
 -- one good file has one reading
-pub good-one : (f : Layout) (file us vs : List ℕ) → Good f file us → Good f file vs → us ≡ vs
-good-one f file us vs g h = text-one (whole f) file us vs (good-text f file us g) (good-text f file vs h)
+pub good_one : (f : Layout) (file us vs : List ℕ) → Good f file us → Good f file vs → us ≡ vs
+good_one f file us vs g h = text_one (whole f) file us vs (good_text f file us g) (good_text f file vs h)
 
-viable-shorter : (f : Layout) (file : List ℕ) (i j : ℕ) → i ≤ j → Viable f (take j file) → Viable f (take i file)
-viable-shorter f file i j p v =
+viable_shorter : (f : Layout) (file : List ℕ) (i j : ℕ) → i ≤ j → Viable f (take j file) → Viable f (take i file)
+viable_shorter f file i j p v =
     let k : j ≡ i + (j - i) = omega arith in
     let e : take j file ++ v.rest ≡ take i file ++ (take (j - i) (drop i file) ++ v.rest) =
     ap (λ (n : ℕ). take n file ++ v.rest) k ∙ rw (take-add i (j - i) file) (append_assoc (take i file) (take (j - i) (drop i file)) v.rest) in
     record { rest = take (j - i) (drop i file) ++ v.rest; words = v.words; good = rw e at v.good }
 
-not-before : (f : Layout) (file : List ℕ) (i j : ℕ) → Refused f file i → Refused f file j → i < j → ⊥
-not-before f file i j r s p = r.no-further (omega (arith, s.within)) (viable-shorter f file (i + 1) j (omega arith) s.viable)
+not_before : (f : Layout) (file : List ℕ) (i j : ℕ) → Refused f file i → Refused f file j → i < j → ⊥
+not_before f file i j r s p = r.no_further (omega (arith, s.within)) (viable_shorter f file (i + 1) j (omega arith) s.viable)
 
 -- a file is refused at one place
-pub refused-one : (f : Layout) (file : List ℕ) (i j : ℕ) → Refused f file i → Refused f file j → i ≡ j
-refused-one f file i j r s = refused-by (ltb i j) refl (ltb j i) refl
+pub refused_one : (f : Layout) (file : List ℕ) (i j : ℕ) → Refused f file i → Refused f file j → i ≡ j
+refused_one f file i j r s = refused_by (ltb i j) refl (ltb j i) refl
   where
-    refused-by : (a : Bool) → ltb i j ≡ a → (b : Bool) → ltb j i ≡ b → i ≡ j
-    refused-by true e b g = absurd (not-before f file i j r s (ltb-true i j e))
-    refused-by false e true g = absurd (not-before f file j i s r (ltb-true j i g))
-    refused-by false e false g = omega (arith, ltb-false i j e, ltb-false j i g)
+    refused_by : (a : Bool) → ltb i j ≡ a → (b : Bool) → ltb j i ≡ b → i ≡ j
+    refused_by true e b g = absurd (not_before f file i j r s (ltb-true i j e))
+    refused_by false e true g = absurd (not_before f file j i s r (ltb-true j i g))
+    refused_by false e false g = omega (arith, ltb-false i j e, ltb-false j i g)
 
 -- a file that is refused is not accepted
-pub refusal-accepted : (f : Layout) (file words : List ℕ) (code at : ℕ) → Refusal f file code at → Accepted f file words → ⊥
-refusal-accepted f file words code at r a = ⊎_elim (λ w. omega (arith, w.2, a.short)) (λ w. w.2.not_good words a.good) r
+pub refusal_accepted : (f : Layout) (file words : List ℕ) (code at : ℕ) → Refusal f file code at → Accepted f file words → ⊥
+refusal_accepted f file words code at r a = ⊎_elim (λ w. omega (arith, w.2, a.short)) (λ w. w.2.not_good words a.good) r
 
-pub refusal-one : (f : Layout) (file : List ℕ) (code code' at at' : ℕ) → Refusal f file code at → Refusal f file code' at' → (code ≡ code') × (at ≡ at')
-refusal-one f file code code' at at' r s =
+pub refusal_one : (f : Layout) (file : List ℕ) (code code' at at' : ℕ) → Refusal f file code at → Refusal f file code' at' → (code ≡ code') × (at ≡ at')
+refusal_one f file code code' at at' r s =
     ⊎_elim
     (λ w. ⊎_elim (λ v. (w.0 ∙ sym v.0, w.1 ∙ sym v.1)) (λ v. absurd (omega (arith, w.2, v.1))) s)
-    (λ w. ⊎_elim (λ v. absurd (omega (arith, w.1, v.2))) (λ v. (w.0 ∙ sym v.0, refused-one f file at at' w.2 v.2)) s)
+    (λ w. ⊎_elim (λ v. absurd (omega (arith, w.1, v.2))) (λ v. (w.0 ∙ sym v.0, refused_one f file at at' w.2 v.2)) s)
     r
 
 -- a reading has one answer, and leaves one content in the lent words
-pub answered-one : (f : Layout) (file : List ℕ) (room : ℕ) (l m : List ℕ) (a b : Answer) → Answered f file room l a → Answered f file room m b → (a ≡ b) × (l ≡ m)
-answered-one f file room l m (Words n) (Words k) h g =
-    let e = good-one f file h.0 g.0 h.1.good g.1.good in
+pub answered_one : (f : Layout) (file : List ℕ) (room : ℕ) (l m : List ℕ) (a b : Answer) → Answered f file room l a → Answered f file room m b → (a ≡ b) × (l ≡ m)
+answered_one f file room l m (Words n) (Words k) h g =
+    let e = good_one f file h.0 g.0 h.1.good g.1.good in
     (ap Words (sym h.2 ∙ ap (λ (w : List ℕ). length w) e ∙ g.2), h.4 ∙ ap (λ (w : List ℕ). padded room w) e ∙ sym g.4)
-answered-one f file room l m (Words n) (TheVariants.Refused code at) h g = absurd (refusal-accepted f file h.0 code at g.0 h.1)
-answered-one f file room l m (Words n) NoRoom h g =
-    let e = ap (λ (w : List ℕ). length w) (good-one f file h.0 g.0 h.1.good g.1.good) in
+answered_one f file room l m (Words n) (TheVariants.Refused code at) h g = absurd (refusal_accepted f file h.0 code at g.0 h.1)
+answered_one f file room l m (Words n) NoRoom h g =
+    let e = ap (λ (w : List ℕ). length w) (good_one f file h.0 g.0 h.1.good g.1.good) in
     absurd (omega (arith, h.2, h.3, g.2))
-answered-one f file room l m (TheVariants.Refused code at) (Words n) h g = absurd (refusal-accepted f file g.0 code at h.0 g.1)
-answered-one f file room l m (TheVariants.Refused code at) (TheVariants.Refused code' at') h g =
-    let e = refusal-one f file code code' at at' h.0 g.0 in
+answered_one f file room l m (TheVariants.Refused code at) (Words n) h g = absurd (refusal_accepted f file g.0 code at h.0 g.1)
+answered_one f file room l m (TheVariants.Refused code at) (TheVariants.Refused code' at') h g =
+    let e = refusal_one f file code code' at at' h.0 g.0 in
     (ap₂ (λ (x y : ℕ). TheVariants.Refused x y) e.0 e.1, h.1 ∙ sym g.1)
-answered-one f file room l m (TheVariants.Refused code at) NoRoom h g = absurd (refusal-accepted f file g.0 code at h.0 g.1)
-answered-one f file room l m NoRoom (Words n) h g =
-    let e = ap (λ (w : List ℕ). length w) (good-one f file h.0 g.0 h.1.good g.1.good) in
+answered_one f file room l m (TheVariants.Refused code at) NoRoom h g = absurd (refusal_accepted f file g.0 code at h.0 g.1)
+answered_one f file room l m NoRoom (Words n) h g =
+    let e = ap (λ (w : List ℕ). length w) (good_one f file h.0 g.0 h.1.good g.1.good) in
     absurd (omega (arith, g.2, g.3, h.2))
-answered-one f file room l m NoRoom (TheVariants.Refused code at) h g = absurd (refusal-accepted f file h.0 code at g.0 h.1)
-answered-one f file room l m NoRoom NoRoom h g = (refl, h.3 ∙ sym g.3)
+answered_one f file room l m NoRoom (TheVariants.Refused code at) h g = absurd (refusal_accepted f file h.0 code at g.0 h.1)
+answered_one f file room l m NoRoom NoRoom h g = (refl, h.3 ∙ sym g.3)
 
 -- ---- room
 
-line-room : (ns : List ℕ) → length ns * 2 ≤ length (line ns)
+line_room : (ns : List ℕ) → length ns * 2 ≤ length (line ns)
 unfolding line
-line-room [] = omega arith
-line-room (n ∷ ns) = simp length-append (omega (arith, line-room ns, decimal-some n))
+line_room [] = omega arith
+line_room (n ∷ ns) = simp length-append (omega (arith, line_room ns, decimal_some n))
 
-lines-room : (rows : List (List ℕ)) → length (flat rows) * 2 ≤ length (lines rows)
+lines_room : (rows : List (List ℕ)) → length (flat rows) * 2 ≤ length (lines rows)
 unfolding lines flat
-lines-room [] = omega arith
-lines-room (row ∷ rows) = simp length-append (omega (arith, line-room row, lines-room rows))
+lines_room [] = omega arith
+lines_room (row ∷ rows) = simp length-append (omega (arith, line_room row, lines_room rows))
 
 -- each word takes at least two bytes, so 16,384 lent words are enough for any file that is short enough
-pub good-room : (f : Layout) (file words : List ℕ) → Good f file words → length words * 2 ≤ length file
-good-room f file words g =
+pub good_room : (f : Layout) (file words : List ℕ) → Good f file words → length words * 2 ≤ length file
+good_room f file words g =
     let t = g.tables in
     rw (g.text, g.word) (simp length-append (omega (
       arith,
-      line-room t.head,
-      lines-room t.blocks,
-      lines-room t.instructions,
-      lines-room t.cases,
-      lines-room t.places,
-      lines-room t.identifiers,
+      line_room t.head,
+      lines_room t.blocks,
+      lines_room t.instructions,
+      lines_room t.cases,
+      lines_room t.places,
+      lines_room t.identifiers,
     )))
 
-pub room-enough : (f : Layout) (file lent : List ℕ) (room : ℕ) → 16384 ≤ room → Answered f file room lent NoRoom → ⊥
-room-enough f file lent room p h = omega (arith, good-room f file h.0 h.1.good, h.1.short, h.2)
+pub room_enough : (f : Layout) (file lent : List ℕ) (room : ℕ) → 16384 ≤ room → Answered f file room lent NoRoom → ⊥
+room_enough f file lent room p h = omega (arith, good_room f file h.0 h.1.good, h.1.short, h.2)

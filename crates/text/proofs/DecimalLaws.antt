@@ -7,75 +7,75 @@ use native.Mathlib.Omega.{arith}
 use lib.Dec.{ltb}
 use lib.ListN.{length, length-append}
 use borrow.Author.Tests.{ltb-true, ltb-false, lt-ltb, le-ltb}
-use Rattle.text.specs.Decimal.{digitsOf, decimal}
+use Rattle.text.specs.Decimal.{digits_of, decimal}
 
 -- the bound on the recursion does not matter, if it is large enough
-steps-by : (k m n : ℕ) (small : Bool) → ltb n 10 ≡ small → ((q : ℕ) → q ≤ k → q ≤ m → digitsOf k q ≡ digitsOf m q) → n ≤ suc k → n ≤ suc m → digitsOf (suc k) n ≡ digitsOf (suc m) n
-unfolding digitsOf
-steps-by k m n true e same p q = rw e
-steps-by k m n false e same p q =
+steps_by : (k m n : ℕ) (small : Bool) → ltb n 10 ≡ small → ((q : ℕ) → q ≤ k → q ≤ m → digits_of k q ≡ digits_of m q) → n ≤ suc k → n ≤ suc m → digits_of (suc k) n ≡ digits_of (suc m) n
+unfolding digits_of
+steps_by k m n true e same p q = rw e
+steps_by k m n false e same p q =
     let h : 10 ≤ n = ltb-false n 10 e in
     rw e (ap (λ (l : List ℕ). l ++ ((48 + n % 10) ∷ [])) (same (n / 10) (omega arith) (omega arith)))
 
-pub steps : (k m n : ℕ) → n ≤ k → n ≤ m → digitsOf k n ≡ digitsOf m n
-unfolding digitsOf
+pub steps : (k m n : ℕ) → n ≤ k → n ≤ m → digits_of k n ≡ digits_of m n
+unfolding digits_of
 steps zero zero n p q = refl
 steps zero (suc m) n p q = rw (lt-ltb n 10 (omega arith))
 steps (suc k) zero n p q = rw (lt-ltb n 10 (omega arith))
-steps (suc k) (suc m) n p q = steps-by k m n (ltb n 10) refl (λ r a b. steps k m r a b) p q
+steps (suc k) (suc m) n p q = steps_by k m n (ltb n 10) refl (λ r a b. steps k m r a b) p q
 
-pub decimal-small : (n : ℕ) → n < 10 → decimal n ≡ (48 + n) ∷ []
-unfolding decimal digitsOf
-decimal-small zero h = refl
-decimal-small (suc n) h = rw (lt-ltb (suc n) 10 h)
+pub decimal_small : (n : ℕ) → n < 10 → decimal n ≡ (48 + n) ∷ []
+unfolding decimal digits_of
+decimal_small zero h = refl
+decimal_small (suc n) h = rw (lt-ltb (suc n) 10 h)
 
-pub decimal-more : (n : ℕ) → 10 ≤ n → decimal n ≡ decimal (n / 10) ++ ((48 + n % 10) ∷ [])
-unfolding decimal digitsOf
-decimal-more zero h = absurd (omega arith)
-decimal-more (suc n) h = rw (le-ltb (suc n) 10 h) (ap (λ (l : List ℕ). l ++ ((48 + suc n % 10) ∷ [])) (steps n (suc n / 10) (suc n / 10) (omega arith) (omega arith)))
+pub decimal_more : (n : ℕ) → 10 ≤ n → decimal n ≡ decimal (n / 10) ++ ((48 + n % 10) ∷ [])
+unfolding decimal digits_of
+decimal_more zero h = absurd (omega arith)
+decimal_more (suc n) h = rw (le-ltb (suc n) 10 h) (ap (λ (l : List ℕ). l ++ ((48 + suc n % 10) ∷ [])) (steps n (suc n / 10) (suc n / 10) (omega arith) (omega arith)))
 
 -- a digit more
-pub decimal-next : (v d : ℕ) → 0 < v → d < 10 → decimal (v * 10 + d) ≡ decimal v ++ ((48 + d) ∷ [])
-decimal-next v d p q =
+pub decimal_next : (v d : ℕ) → 0 < v → d < 10 → decimal (v * 10 + d) ≡ decimal v ++ ((48 + d) ∷ [])
+decimal_next v d p q =
     let e : (v * 10 + d) / 10 ≡ v = omega arith in
     let f : (v * 10 + d) % 10 ≡ d = omega arith in
-    decimal-more (v * 10 + d) (omega arith) ∙ rw (e, f)
+    decimal_more (v * 10 + d) (omega arith) ∙ rw (e, f)
 
 -- ---- length
 
 -- a number has a digit
-pub decimal-some : (n : ℕ) → 1 ≤ length (decimal n)
-decimal-some n = some-by (ltb n 10) refl
+pub decimal_some : (n : ℕ) → 1 ≤ length (decimal n)
+decimal_some n = some_by (ltb n 10) refl
   where
-    some-by : (small : Bool) → ltb n 10 ≡ small → 1 ≤ length (decimal n)
-    some-by true e = omega (arith, ap (λ (l : List ℕ). length l) (decimal-small n (ltb-true n 10 e)))
-    some-by false e = omega (arith, ap (λ (l : List ℕ). length l) (decimal-more n (ltb-false n 10 e)) ∙ length-append (decimal (n / 10)) ((48 + n % 10) ∷ []))
+    some_by : (small : Bool) → ltb n 10 ≡ small → 1 ≤ length (decimal n)
+    some_by true e = omega (arith, ap (λ (l : List ℕ). length l) (decimal_small n (ltb-true n 10 e)))
+    some_by false e = omega (arith, ap (λ (l : List ℕ). length l) (decimal_more n (ltb-false n 10 e)) ∙ length-append (decimal (n / 10)) ((48 + n % 10) ∷ []))
 
 -- numbers below ten times m have at most one digit more than those below m
 Within : ℕ → ℕ → Type 0
 Within m k = (n : ℕ) → n < m → length (decimal n) ≤ k
 
-within-ten : Within 10 1
+within_ten : Within 10 1
 unfolding Within
-within-ten n p = omega (arith, ap (λ (l : List ℕ). length l) (decimal-small n p))
+within_ten n p = omega (arith, ap (λ (l : List ℕ). length l) (decimal_small n p))
 
 within_more : (m k : ℕ) → 1 ≤ k → Within m k → Within (m * 10) (k + 1)
 unfolding Within
 within_more m k q h n p = more_by (ltb n 10) refl
   where
     more_by : (small : Bool) → ltb n 10 ≡ small → length (decimal n) ≤ k + 1
-    more_by true e = omega (arith, ap (λ (l : List ℕ). length l) (decimal-small n (ltb-true n 10 e)))
+    more_by true e = omega (arith, ap (λ (l : List ℕ). length l) (decimal_small n (ltb-true n 10 e)))
     more_by false e = omega (
       arith,
-      ap (λ (l : List ℕ). length l) (decimal-more n (ltb-false n 10 e)) ∙ length-append (decimal (n / 10)) ((48 + n % 10) ∷ []),
+      ap (λ (l : List ℕ). length l) (decimal_more n (ltb-false n 10 e)) ∙ length-append (decimal (n / 10)) ((48 + n % 10) ∷ []),
       h (n / 10) (omega arith),
     )
 
 -- a number of 32 bits has at most ten digits
-pub decimal-ten : (n : ℕ) → n < 2 ^ 32 → length (decimal n) ≤ 10
+pub decimal_ten : (n : ℕ) → n < 2 ^ 32 → length (decimal n) ≤ 10
 unfolding Within
-decimal-ten n p =
-    let w₂ = within_more 10 1 (omega arith) within-ten in
+decimal_ten n p =
+    let w₂ = within_more 10 1 (omega arith) within_ten in
     let w₃ = within_more 100 2 (omega arith) w₂ in
     let w₄ = within_more 1000 3 (omega arith) w₃ in
     let w₅ = within_more 10000 4 (omega arith) w₄ in
@@ -86,9 +86,9 @@ decimal-ten n p =
     within_more 1000000000 9 (omega arith) w₉ n (omega arith)
 
 -- without its last digit, at most nine
-pub decimal-nine : (n : ℕ) → 10 ≤ n → n < 2 ^ 32 → length (decimal (n / 10)) ≤ 9
-decimal-nine n h p = omega (
+pub decimal_nine : (n : ℕ) → 10 ≤ n → n < 2 ^ 32 → length (decimal (n / 10)) ≤ 9
+decimal_nine n h p = omega (
   arith,
-  decimal-ten n p,
-  ap (λ (l : List ℕ). length l) (decimal-more n h) ∙ length-append (decimal (n / 10)) ((48 + n % 10) ∷ []),
+  decimal_ten n p,
+  ap (λ (l : List ℕ). length l) (decimal_more n h) ∙ length-append (decimal (n / 10)) ((48 + n % 10) ∷ []),
 )

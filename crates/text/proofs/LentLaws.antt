@@ -13,49 +13,49 @@ use borrow.Author.Tests.{ltb-true, ltb-false}
 use Rattle.text.specs.Lent.{Holds, padded}
 
 -- nothing is held at first
-pub holds-none : (b : List ℕ) → Holds b 0 []
-holds-none b = record { counted = refl; held = sym (take_all (length b) [] (omega arith)) }
+pub holds_none : (b : List ℕ) → Holds b 0 []
+holds_none b = record { counted = refl; held = sym (take_all (length b) [] (omega arith)) }
 
 module _ (b : List ℕ) (n v : ℕ) (items : List ℕ) (h : Holds b n items) where
-  put-by : (fits : Bool) → ltb n (length b) ≡ fits → take (suc n) (set b n v) ≡ take (length (set b n v)) (items ++ (v ∷ []))
-  put-by true e =
+  put_by : (fits : Bool) → ltb n (length b) ≡ fits → take (suc n) (set b n v) ≡ take (length (set b n v)) (items ++ (v ∷ []))
+  put_by true e =
       let p : n < length b = ltb-true n (length b) e in
       let l = h.counted in
       let s : length (set b n v) ≡ length b = length-set b n v in
       take-suc-set b n v p
       ∙ ap (λ (l : List ℕ). l ++ (v ∷ [])) (h.held ∙ take_all (length b) items (omega arith))
       ∙ sym (take_all (length (set b n v)) (items ++ (v ∷ [])) (omega (arith, length-append items (v ∷ []))))
-  put-by false e =
+  put_by false e =
       let p : length b ≤ n = ltb-false n (length b) e in
       let l = h.counted in
       rw (set_out b n v p) (take_all (suc n) b (omega arith) ∙ sym (take_all n b p) ∙ h.held ∙ sym (take-append-le (length b) items (v ∷ []) (omega arith)))
 
   -- an item more, which is stored if there is a place for it
-  pub holds-put : Holds (set b n v) (n + 1) (items ++ (v ∷ []))
-  holds-put = record {
+  pub holds_put : Holds (set b n v) (n + 1) (items ++ (v ∷ []))
+  holds_put = record {
     counted = length-append items (v ∷ []) ∙ ap (λ (k : ℕ). k + 1) h.counted;
-    held = rw (add-one n) (put-by (ltb n (length b)) refl);
+    held = rw (add-one n) (put_by (ltb n (length b)) refl);
   }
 
 module _ (b : List ℕ) (n : ℕ) where
-  some-by : (fits : Bool) → ltb n (length b) ≡ fits → take n b ≡ take (length b) (take n (b ++ replicate n 0))
-  some-by true e =
+  some_by : (fits : Bool) → ltb n (length b) ≡ fits → take n b ≡ take (length b) (take n (b ++ replicate n 0))
+  some_by true e =
       let p : n < length b = ltb-true n (length b) e in
       rw (take-append-le n b (replicate n 0) (omega arith)) (sym (take_all (length b) (take n b) (omega (arith, length-take-le n b (omega arith)))))
-  some-by false e =
+  some_by false e =
       let p : length b ≤ n = ltb-false n (length b) e in
       take_all n b p ∙ sym (take-take (length b) n (b ++ replicate n 0) p ∙ take-append_seam b (replicate n 0))
 
   -- whatever the buffer and the count, there are items that it holds: what a contract says of all of these it says of some
-  pub holds-some : Holds b n (take n (b ++ replicate n 0))
-  holds-some = record {
+  pub holds_some : Holds b n (take n (b ++ replicate n 0))
+  holds_some = record {
     counted = length-take-le n (b ++ replicate n 0) (omega (arith, length-append b (replicate n 0), length-replicate {A = ℕ} n 0));
-    held = some-by (ltb n (length b)) refl;
+    held = some_by (ltb n (length b)) refl;
   }
 
 -- what is held, if it fits
-pub holds-all : (b : List ℕ) (n : ℕ) (items : List ℕ) → Holds b n items → n ≤ length b → take n b ≡ items
-holds-all b n items h p = h.held ∙ take_all (length b) items (omega (arith, h.counted))
+pub holds_all : (b : List ℕ) (n : ℕ) (items : List ℕ) → Holds b n items → n ≤ length b → take n b ≡ items
+holds_all b n items h p = h.held ∙ take_all (length b) items (omega (arith, h.counted))
 
 -- ---- clearing a buffer from an index on
 
@@ -66,8 +66,8 @@ pub record Cleared (b₀ : List ℕ) (from : ℕ) (b : List ℕ) (i : ℕ) : Typ
   pub long : length b ≡ length b₀
   pub front : take i b ≡ take from b₀ ++ replicate (i - from) 0
 
-pub cleared-none : (b : List ℕ) (from : ℕ) → from ≤ length b → Cleared b from b from
-cleared-none b from p =
+pub cleared_none : (b : List ℕ) (from : ℕ) → from ≤ length b → Cleared b from b from
+cleared_none b from p =
     let e : from - from ≡ 0 = omega arith in
     record { least = omega arith; most = p; long = refl; front = rw e (sym (append-nil (take from b))) }
 
@@ -81,16 +81,16 @@ cleared_more b₀ b from i h p =
       front = rw (e, add-one i) (take-suc-set b i 0 p ∙ rw (h.front, append_assoc, replicate-append-replicate {A = ℕ} (i - from) 1 0));
     }
 
-pub cleared-all : (b₀ b : List ℕ) (from i : ℕ) → Cleared b₀ from b i → length b ≤ i → b ≡ take from b₀ ++ replicate (length b₀ - from) 0
-cleared-all b₀ b from i h p =
+pub cleared_all : (b₀ b : List ℕ) (from i : ℕ) → Cleared b₀ from b i → length b ≤ i → b ≡ take from b₀ ++ replicate (length b₀ - from) 0
+cleared_all b₀ b from i h p =
     let e : i ≡ length b = omega (arith, h.most) in
     let f = h.long in
     rw (← f, ← e) (sym (rw e (take-length b)) ∙ h.front)
 
 -- a buffer that is cleared whole
-pub cleared-zeros : (b₀ b : List ℕ) (room : ℕ) → length b₀ ≡ room → b ≡ take 0 b₀ ++ replicate (length b₀ - 0) 0 → b ≡ replicate room 0
-cleared-zeros b₀ b room p e = e ∙ rw (sub-zero (length b₀), p)
+pub cleared_zeros : (b₀ b : List ℕ) (room : ℕ) → length b₀ ≡ room → b ≡ take 0 b₀ ++ replicate (length b₀ - 0) 0 → b ≡ replicate room 0
+cleared_zeros b₀ b room p e = e ∙ rw (sub-zero (length b₀), p)
 
 -- a buffer that is cleared after what it holds
-pub cleared-padded : (b₀ b items : List ℕ) (n room : ℕ) → length b₀ ≡ room → Holds b₀ n items → n ≤ length b₀ → b ≡ take n b₀ ++ replicate (length b₀ - n) 0 → b ≡ padded room items
-cleared-padded b₀ b items n room p h q e = e ∙ rw (holds-all b₀ n items h q, p, h.counted)
+pub cleared_padded : (b₀ b items : List ℕ) (n room : ℕ) → length b₀ ≡ room → Holds b₀ n items → n ≤ length b₀ → b ≡ take n b₀ ++ replicate (length b₀ - n) 0 → b ≡ padded room items
+cleared_padded b₀ b items n room p h q e = e ∙ rw (holds_all b₀ n items h q, p, h.counted)

@@ -9,37 +9,37 @@ use lib.ListN.{length, take, length-append, length-replicate}
 use lib.Seq.{take_at}
 use Rattle.text.specs.Layout.{Layout}
 use Rattle.text.specs.Answer.{Refusal, Answered}
-use Rattle.text.specs.Printed.{printed, treeLines, written_of, lent_of}
-use Rattle.text.specs.Prints.{Printing, printing, fileText, PrintsWords, PrintsRefusal, Prints, WrittenText}
+use Rattle.text.specs.Printed.{printed, tree_lines, written_of, lent_of}
+use Rattle.text.specs.Prints.{Printing, printing, file_text, PrintsWords, PrintsRefusal, Prints, WrittenText}
 use Rattle.text.specs.Reading.{Reading, reads, refuses, reading}
 use Rattle.text.specs.declared.read.Answer.TheVariants.{Words}
 use Rattle.text.specs.declared.read.Answer.TheVariants as read
 use Rattle.text.specs.declared.write.Written.{Written}
 use Rattle.text.specs.declared.write.Written.TheVariants.{Bytes}
-use Rattle.text.proofs.AnswerLaws.{good-one, refusal-accepted, refusal-one, room-enough}
-use Rattle.text.proofs.ReadingLaws.{Says, reading-says, accepted-reads, refusal-refuses}
-use Rattle.text.proofs.WriteLaws.{written-fits}
+use Rattle.text.proofs.AnswerLaws.{good_one, refusal_accepted, refusal_one, room_enough}
+use Rattle.text.proofs.ReadingLaws.{Says, reading_says, accepted_reads, refusal_refuses}
+use Rattle.text.proofs.WriteLaws.{written_fits}
 
 -- ---- what was read
 
 -- the words that were read stand in the buffer
-pub words-within : (f : Layout) (file lent : List ℕ) (room count : ℕ) → Answered f file room lent (Words count) → count ≤ length lent
-words-within f file lent room count h = rw h.4 (simp (length-append, length-replicate) (omega (arith, h.2, h.3)))
+pub words_within : (f : Layout) (file lent : List ℕ) (room count : ℕ) → Answered f file room lent (Words count) → count ≤ length lent
+words_within f file lent room count h = rw h.4 (simp (length-append, length-replicate) (omega (arith, h.2, h.3)))
 
-pub words-read : (f : Layout) (file lent : List ℕ) (room count : ℕ) (h : Answered f file room lent (Words count)) → take count lent ≡ h.0
-words-read f file lent room count h = rw h.4 (take_at h.0 _ count h.2)
+pub words_read : (f : Layout) (file lent : List ℕ) (room count : ℕ) (h : Answered f file room lent (Words count)) → take count lent ≡ h.0
+words_read f file lent room count h = rw h.4 (take_at h.0 _ count h.2)
 
 -- 50 or 51
-pub refusal-some : {f : Layout} {file : List ℕ} {code at : ℕ} → Refusal f file code at → code ≡ 0 → ⊥
-refusal-some h e = ⊎_elim (λ w. omega (arith, w.0, e)) (λ w. omega (arith, w.0, e)) h
+pub refusal_some : {f : Layout} {file : List ℕ} {code at : ℕ} → Refusal f file code at → code ≡ 0 → ⊥
+refusal_some h e = ⊎_elim (λ w. omega (arith, w.0, e)) (λ w. omega (arith, w.0, e)) h
 
 -- ---- what is printed
 
 -- a refusal's two lines, whatever tree stands beside it
-pub refusal-lines : (code at rows visits : ℕ) (t t' : List ℕ) → (code ≡ 0 → ⊥) → printed code at rows visits t ≡ printed code at rows visits t'
-unfolding printed treeLines
-refusal-lines zero at rows visits t t' h = absurd (h refl)
-refusal-lines (suc code) at rows visits t t' h = refl
+pub refusal_lines : (code at rows visits : ℕ) (t t' : List ℕ) → (code ≡ 0 → ⊥) → printed code at rows visits t ≡ printed code at rows visits t'
+unfolding printed tree_lines
+refusal_lines zero at rows visits t t' h = absurd (h refl)
+refusal_lines (suc code) at rows visits t t' h = refl
 
 -- the same text, and room that is enough for more
 pub written_as : {most most' room : ℕ} {r : Written} {lent text text' : List ℕ} → text ≡ text' → most ≤ most' → WrittenText most text room r lent → WrittenText most' text' room r lent
@@ -49,65 +49,65 @@ written_as {room = room} e p h = record {
   enough = λ q. h.enough (omega (arith, p, q)) ∙ ap (λ (text : List ℕ). Bytes (length text)) e;
 }
 
-pub refusal-written : (code at : ℕ) (tree : List ℕ) {room : ℕ} {r : Written} {lent : List ℕ} → (code ≡ 0 → ⊥) → code < 2 ^ 32 → at < 2 ^ 32
+pub refusal_written : (code at : ℕ) (tree : List ℕ) {room : ℕ} {r : Written} {lent : List ℕ} → (code ≡ 0 → ⊥) → code < 2 ^ 32 → at < 2 ^ 32
     → r ≡ written_of room (printed code at 0 0 tree) → lent ≡ lent_of room (printed code at 0 0 tree) → WrittenText 77 (printed code at 0 0 []) room r lent
-refusal-written code at tree {room} some p q answer bytes =
-    let same = refusal-lines code at 0 0 tree [] some in
+refusal_written code at tree {room} some p q answer bytes =
+    let same = refusal_lines code at 0 0 tree [] some in
     let fits : 77 ≤ room → written_of room (printed code at 0 0 []) ≡ Bytes (length (printed code at 0 0 [])) =
-    λ long. written-fits room code at 0 0 [] (p, (q, (omega arith, (omega arith, tt)))) (λ i. omega arith) (omega (arith, long)) in
+    λ long. written_fits room code at 0 0 [] (p, (q, (omega arith, (omega arith, tt)))) (λ i. omega arith) (omega (arith, long)) in
     record { answer = answer ∙ ap (written_of room) same; bytes = bytes ∙ ap (lent_of room) same; enough = λ long. answer ∙ ap (written_of room) same ∙ fits long }
 
 -- what was written of a text is what `printing` gives, in answer and bytes, and so many bytes are enough
 abbrev pub AsPrinted : (most : ℕ) → (text : List ℕ) → (room : ℕ) → Written → List ℕ → Type 0
 AsPrinted most text room r lent = (record { answer = r; bytes = lent } ≡ printing room text) × (most ≤ room → r ≡ Bytes (length text))
 
-pub as-printed : {most room : ℕ} {r : Written} {lent text text' : List ℕ} → text' ≡ text → WrittenText most text room r lent → AsPrinted most text' room r lent
-as-printed {room = room} e h = (
+pub as_printed : {most room : ℕ} {r : Written} {lent text text' : List ℕ} → text' ≡ text → WrittenText most text room r lent → AsPrinted most text' room r lent
+as_printed {room = room} e h = (
   rw e (ap₂ (λ (a : Written) (b : List ℕ). record { answer = a; bytes = b }) h.answer h.bytes),
   λ p. rw e (h.enough p),
 )
 
 module _ (f : Layout) (of : List ℕ → List ℕ) (other : (code at : ℕ) → List ℕ) (most : ℕ) (file out : List ℕ) (space : ℕ) (r : Written) where
-  pub words-printed : (lent : List ℕ) (room count : ℕ) → Answered f file room lent (Words count) → WrittenText most (of (take count lent)) space r out
-      → AsPrinted most (fileText of other (reading f file)) space r out
-  unfolding fileText
-  words-printed lent room count h written =
-      as-printed (rw (accepted-reads f file h.0 h.1) (ap of (sym (words-read f file lent room count h)))) written
+  pub words_printed : (lent : List ℕ) (room count : ℕ) → Answered f file room lent (Words count) → WrittenText most (of (take count lent)) space r out
+      → AsPrinted most (file_text of other (reading f file)) space r out
+  unfolding file_text
+  words_printed lent room count h written =
+      as_printed (rw (accepted_reads f file h.0 h.1) (ap of (sym (words_read f file lent room count h)))) written
 
-  pub refusal-printed : (code at : ℕ) → Refusal f file code at → WrittenText most (other code at) space r out → AsPrinted most (fileText of other (reading f file)) space r out
-  unfolding fileText
-  refusal-printed code at h written = as-printed (rw (refusal-refuses f file code at h) refl) written
+  pub refusal_printed : (code at : ℕ) → Refusal f file code at → WrittenText most (other code at) space r out → AsPrinted most (file_text of other (reading f file)) space r out
+  unfolding file_text
+  refusal_printed code at h written = as_printed (rw (refusal_refuses f file code at h) refl) written
 
-  pub never-short : (lent : List ℕ) (room : ℕ) → 16384 ≤ room → Answered f file room lent read.NoRoom → AsPrinted most (fileText of other (reading f file)) space r out
-  never-short lent room p h = absurd (room-enough f file lent room p h)
+  pub never_short : (lent : List ℕ) (room : ℕ) → 16384 ≤ room → Answered f file room lent read.NoRoom → AsPrinted most (file_text of other (reading f file)) space r out
+  never_short lent room p h = absurd (room_enough f file lent room p h)
 
 -- ---- the text with no reader in it
 
 module _ (f : Layout) (of : List ℕ → List ℕ) (other : (code at : ℕ) → List ℕ) (file : List ℕ) where
-  words-text : (t u : List ℕ) → PrintsWords f of file t → PrintsWords f of file u → t ≡ u
-  words-text t u p q = p.lines ∙ ap of (good-one f file p.words q.words p.accepted.good q.accepted.good) ∙ sym q.lines
+  words_text : (t u : List ℕ) → PrintsWords f of file t → PrintsWords f of file u → t ≡ u
+  words_text t u p q = p.lines ∙ ap of (good_one f file p.words q.words p.accepted.good q.accepted.good) ∙ sym q.lines
 
-  refusal-text : (t u : List ℕ) → PrintsRefusal f other file t → PrintsRefusal f other file u → t ≡ u
-  refusal-text t u p q =
-      let e = refusal-one f file p.code q.code p.at q.at p.refusal q.refusal in
+  refusal_text : (t u : List ℕ) → PrintsRefusal f other file t → PrintsRefusal f other file u → t ≡ u
+  refusal_text t u p q =
+      let e = refusal_one f file p.code q.code p.at q.at p.refusal q.refusal in
       p.lines ∙ ap₂ other e.0 e.1 ∙ sym q.lines
 
-  not-both : (t u : List ℕ) → PrintsWords f of file t → PrintsRefusal f other file u → ⊥
-  not-both t u p q = refusal-accepted f file p.words q.code q.at q.refusal p.accepted
+  not_both : (t u : List ℕ) → PrintsWords f of file t → PrintsRefusal f other file u → ⊥
+  not_both t u p q = refusal_accepted f file p.words q.code q.at q.refusal p.accepted
 
   -- a file prints one text
-  pub prints-one : (t u : List ℕ) → Prints f of other file t → Prints f of other file u → t ≡ u
-  prints-one t u p q =
+  pub prints_one : (t u : List ℕ) → Prints f of other file t → Prints f of other file u → t ≡ u
+  prints_one t u p q =
       ⊎_elim
-      (λ a. ⊎_elim (λ b. words-text t u a b) (λ b. absurd (not-both t u a b)) q)
-      (λ a. ⊎_elim (λ b. absurd (not-both u t b a)) (λ b. refusal-text t u a b) q)
+      (λ a. ⊎_elim (λ b. words_text t u a b) (λ b. absurd (not_both t u a b)) q)
+      (λ a. ⊎_elim (λ b. absurd (not_both u t b a)) (λ b. refusal_text t u a b) q)
       p
 
   -- and it is the text of what the file reads as
-  pub file-prints : Prints f of other file (fileText of other (reading f file))
-  unfolding fileText
-  file-prints = by (reading f file) (reading-says f file)
+  pub file_prints : Prints f of other file (file_text of other (reading f file))
+  unfolding file_text
+  file_prints = by (reading f file) (reading_says f file)
     where
-      by : (r : Reading) → Says f file r → Prints f of other file (fileText of other r)
+      by : (r : Reading) → Says f file r → Prints f of other file (file_text of other r)
       by (reads words) s = inl (record { words = words; accepted = s; lines = refl })
       by (refuses code at) s = inr (record { code = code; at = at; refusal = s; lines = refl })

@@ -15,49 +15,49 @@ use Rattle.text.specs.Form.{Form, finished, byte, field, digits, ending, whole, 
 use Rattle.text.specs.Steps.{Reached, Stopped}
 use Rattle.text.specs.Answer.{Accepted, Refusal, Answered}
 use Rattle.text.specs.Lent.{padded}
-use Rattle.text.specs.Reading.{Reading, reads, refuses, Next, on, stuck, isDigit, mayFollow, next_of, ended, readFrom, reading, WordsRead, readInto}
+use Rattle.text.specs.Reading.{Reading, reads, refuses, Next, on, stuck, is_digit, may_follow, next_of, ended, read_from, reading, WordsRead, read_into}
 use Rattle.text.specs.declared.read.Answer.{Answer}
 use Rattle.text.specs.declared.read.Answer.TheVariants as answer
-use Rattle.text.proofs.StepLaws.{Step, advance, halt, halt-short, reached-none, finished-good, ending-low, true-false}
-use Rattle.text.proofs.FormLaws.{text-good}
-use Rattle.text.proofs.AnswerLaws.{stopped-refused, good-one, refusal-one, refusal-accepted}
+use Rattle.text.proofs.StepLaws.{Step, advance, halt, halt_short, reached_none, finished_good, ending_low, true_false}
+use Rattle.text.proofs.FormLaws.{text_good}
+use Rattle.text.proofs.AnswerLaws.{stopped_refused, good_one, refusal_one, refusal_accepted}
 
 -- ---- tests
 
-and-true : (a b : Bool) → a && b ≡ true → (a ≡ true) × (b ≡ true)
-and-true true b e = (refl, e)
-and-true false b e = absurd (true-false (sym e))
+and_true : (a b : Bool) → a && b ≡ true → (a ≡ true) × (b ≡ true)
+and_true true b e = (refl, e)
+and_true false b e = absurd (true_false (sym e))
 
-digit-is : (c : ℕ) → isDigit c ≡ true → (48 ≤ c) × (c ≤ 57)
-unfolding isDigit
-digit-is c e = let (low, high) = and-true (leb 48 c) (leb c 57) e in (leb-true 48 c low, leb-true c 57 high)
+digit_is : (c : ℕ) → is_digit c ≡ true → (48 ≤ c) × (c ≤ 57)
+unfolding is_digit
+digit_is c e = let (low, high) = and_true (leb 48 c) (leb c 57) e in (leb-true 48 c low, leb-true c 57 high)
 
-no_digit : (c : ℕ) → isDigit c ≡ false → (d : ℕ) → d < 10 → c ≡ 48 + d → ⊥
-unfolding isDigit
+no_digit : (c : ℕ) → is_digit c ≡ false → (d : ℕ) → d < 10 → c ≡ 48 + d → ⊥
+unfolding is_digit
 no_digit c e d p q = by (leb 48 c) refl (leb c 57) refl e
   where
     by : (a : Bool) → leb 48 c ≡ a → (b : Bool) → leb c 57 ≡ b → a && b ≡ false → ⊥
-    by true f true g e = true-false e
+    by true f true g e = true_false e
     by true f false g e = omega (arith, leb-false c 57 g)
     by false f b g e = omega (arith, leb-false 48 c f)
 
-follows_is : (v c : ℕ) → mayFollow v c ≡ true → (48 ≤ c) × (c ≤ 57) × (0 < v) × (v * 10 + (c - 48) < 2 ^ 32)
-unfolding mayFollow
+follows_is : (v c : ℕ) → may_follow v c ≡ true → (48 ≤ c) × (c ≤ 57) × (0 < v) × (v * 10 + (c - 48) < 2 ^ 32)
+unfolding may_follow
 follows_is v c e =
-    let (digit, more) = and-true (isDigit c) _ e in
-    let (led, fits) = and-true (ltb 0 v) _ more in
-    let shown = digit-is c digit in
+    let (digit, more) = and_true (is_digit c) _ e in
+    let (led, fits) = and_true (ltb 0 v) _ more in
+    let shown = digit_is c digit in
     (shown.0, shown.1, ltb-true 0 v led, ltb-true _ 4294967296 fits)
 
-no-follower : (v c : ℕ) → mayFollow v c ≡ false → (d : ℕ) → d < 10 → c ≡ 48 + d → 0 < v → v * 10 + d < 2 ^ 32 → ⊥
-unfolding mayFollow
-no-follower v c e d p q r s = by (isDigit c) refl (ltb 0 v) refl (ltb (v * 10 + (c - 48)) 4294967296) refl e
+no_follower : (v c : ℕ) → may_follow v c ≡ false → (d : ℕ) → d < 10 → c ≡ 48 + d → 0 < v → v * 10 + d < 2 ^ 32 → ⊥
+unfolding may_follow
+no_follower v c e d p q r s = by (is_digit c) refl (ltb 0 v) refl (ltb (v * 10 + (c - 48)) 4294967296) refl e
   where
-    by : (a : Bool) → isDigit c ≡ a → (l : Bool) → ltb 0 v ≡ l → (f : Bool) → ltb (v * 10 + (c - 48)) 4294967296 ≡ f → a && (l && f) ≡ false → ⊥
+    by : (a : Bool) → is_digit c ≡ a → (l : Bool) → ltb 0 v ≡ l → (f : Bool) → ltb (v * 10 + (c - 48)) 4294967296 ≡ f → a && (l && f) ≡ false → ⊥
     by false i l j f k e = no_digit c i d p q
     by true i false j f k e = omega (arith, ltb-false 0 v j)
     by true i true j false k e = omega (arith, ltb-false (v * 10 + (c - 48)) 4294967296 k)
-    by true i true j true k e = true-false e
+    by true i true j true k e = true_false e
 
 -- ---- one byte
 
@@ -66,19 +66,19 @@ abbrev Claimed : Form → ℕ → Next → Type 0
 Claimed form c (on new rest) = Step form c new rest
 Claimed form c stuck = (bytes all : List ℕ) → Text form (c ∷ bytes) all → ⊥
 
-next-claimed : (form : Form) (c : ℕ) → Claimed form c (next_of form c)
+next_claimed : (form : Form) (c : ℕ) → Claimed form c (next_of form c)
 unfolding next_of Text
-next-claimed finished c = λ bytes all t. t
-next-claimed (byte b rest) c = by (eqb c b) refl
+next_claimed finished c = λ bytes all t. t
+next_claimed (byte b rest) c = by (eqb c b) refl
   where
     by : (same : Bool) → eqb c b ≡ same → Claimed (byte b rest) c (elim same [ true ↦ on [] rest | false ↦ stuck ])
     by true e = record { sound = λ bytes more t. (eqb-true c b e, t); only = λ bytes all t. (all, refl, t.1) }
     by false e = λ bytes all t. eqb-false c b e t.0
-next-claimed (field last rest) c = by (isDigit c) refl
+next_claimed (field last rest) c = by (is_digit c) refl
   where
-    by : (digit : Bool) → isDigit c ≡ digit → Claimed (field last rest) c (elim digit [ true ↦ on [] (digits (c - 48) last rest) | false ↦ stuck ])
+    by : (digit : Bool) → is_digit c ≡ digit → Claimed (field last rest) c (elim digit [ true ↦ on [] (digits (c - 48) last rest) | false ↦ stuck ])
     by true e =
-        let shown = digit-is c e in
+        let shown = digit_is c e in
         record {
           sound = λ bytes more t. (c - 48, omega (arith, shown), omega (arith, shown), t);
           only = λ bytes all t.
@@ -86,9 +86,9 @@ next-claimed (field last rest) c = by (isDigit c) refl
               (all, refl, subst (λ (k : ℕ). Text (digits k last rest) bytes all) same t.3);
         }
     by false e = λ bytes all t. no_digit c e t.0 t.1 t.2
-next-claimed (digits v last rest) c = by (eqb c (ending last)) refl (mayFollow v c) refl
+next_claimed (digits v last rest) c = by (eqb c (ending last)) refl (may_follow v c) refl
   where
-    by : (ends : Bool) → eqb c (ending last) ≡ ends → (follows : Bool) → mayFollow v c ≡ follows
+    by : (ends : Bool) → eqb c (ending last) ≡ ends → (follows : Bool) → may_follow v c ≡ follows
         → Claimed (digits v last rest) c (elim ends [
           | true ↦ on (v ∷ []) (rest v)
           | false ↦ elim follows [ true ↦ on [] (digits (v * 10 + (c - 48)) last rest) | false ↦ stuck ]
@@ -98,7 +98,7 @@ next-claimed (digits v last rest) c = by (eqb c (ending last)) refl (mayFollow v
       only = λ bytes all t.
           ⊎_elim
           (λ w. (w.1.0, w.1.1, w.1.2))
-          (λ w. absurd (omega (arith, w.2, eqb-true c (ending last) e, ending-low last)))
+          (λ w. absurd (omega (arith, w.2, eqb-true c (ending last) e, ending_low last)))
           t;
     }
     by false e true f =
@@ -113,7 +113,7 @@ next-claimed (digits v last rest) c = by (eqb c (ending last)) refl (mayFollow v
               (all, refl, subst (λ (k : ℕ). Text (digits (v * 10 + k) last rest) bytes all) same w.5))
               t;
         }
-    by false e false f = λ bytes all t. ⊎_elim (λ w. eqb-false c (ending last) e w.0) (λ w. no-follower v c f w.0 w.1 w.2 w.3 w.4) t
+    by false e false f = λ bytes all t. ⊎_elim (λ w. eqb-false c (ending last) e w.0) (λ w. no_follower v c f w.0 w.1 w.2 w.3 w.4) t
 
 -- ---- all bytes
 
@@ -139,28 +139,28 @@ here file at c bytes e =
     }
 
 module _ {root : Form} (file : List ℕ) where
-  ended-given : (form : Form) (at : ℕ) (words : List ℕ) → Reached root file at words form → at ≡ length file → Given root file (ended form at words)
+  ended_given : (form : Form) (at : ℕ) (words : List ℕ) → Reached root file at words form → at ≡ length file → Given root file (ended form at words)
   unfolding ended Text
-  ended-given finished at words h e = finished-good file at words h e
-  ended-given (byte b rest) at words h e = (refl, halt-short file at words (byte b rest) h e (λ all t. t))
-  ended-given (field last rest) at words h e = (refl, halt-short file at words (field last rest) h e (λ all t. t))
-  ended-given (digits v last rest) at words h e = (refl, halt-short file at words (digits v last rest) h e (λ all t. t))
+  ended_given finished at words h e = finished_good file at words h e
+  ended_given (byte b rest) at words h e = (refl, halt_short file at words (byte b rest) h e (λ all t. t))
+  ended_given (field last rest) at words h e = (refl, halt_short file at words (field last rest) h e (λ all t. t))
+  ended_given (digits v last rest) at words h e = (refl, halt_short file at words (digits v last rest) h e (λ all t. t))
 
-  read-given : (bytes : List ℕ) (form : Form) (at : ℕ) (words : List ℕ) → Reached root file at words form → at ≤ length file → drop at file ≡ bytes
-      → Given root file (readFrom form bytes at words)
-  unfolding readFrom
-  read-given [] form at words h p e =
+  read_given : (bytes : List ℕ) (form : Form) (at : ℕ) (words : List ℕ) → Reached root file at words form → at ≤ length file → drop at file ≡ bytes
+      → Given root file (read_from form bytes at words)
+  unfolding read_from
+  read_given [] form at words h p e =
       let l : length file - at ≡ 0 = sym (length-drop at file) ∙ ap (λ (l : List ℕ). length l) e in
-      ended-given form at words h (omega arith)
-  read-given (c ∷ bytes) form at words h p e = by (next_of form c) (next-claimed form c) (λ rest new. read-given bytes rest (at + 1) (words ++ new))
+      ended_given form at words h (omega arith)
+  read_given (c ∷ bytes) form at words h p e = by (next_of form c) (next_claimed form c) (λ rest new. read_given bytes rest (at + 1) (words ++ new))
     where
       place : Here file at c bytes
       place = here file at c bytes e
 
       by : (next : Next) → Claimed form c next
           → ((rest : Form) (new : List ℕ) → Reached root file (at + 1) (words ++ new) rest → at + 1 ≤ length file → drop (at + 1) file ≡ bytes
-          → Given root file (readFrom rest bytes (at + 1) (words ++ new)))
-          → Given root file (elim next [ on new rest ↦ readFrom rest bytes (at + 1) (words ++ new) | stuck ↦ refuses 50 at ])
+          → Given root file (read_from rest bytes (at + 1) (words ++ new)))
+          → Given root file (elim next [ on new rest ↦ read_from rest bytes (at + 1) (words ++ new) | stuck ↦ refuses 50 at ])
       by (on new rest) step more =
           more rest new (advance file at words form h place.inside new rest (rw place.byte step)) (omega (arith, place.inside)) place.behind
       by stuck never more = (refl, halt file at words form h place.inside (rw place.byte never))
@@ -173,65 +173,65 @@ Says f file (reads words) = Accepted f file words
 Says f file (refuses code at) = Refusal f file code at
 
 said : (f : Layout) (file : List ℕ) (r : Reading) → length file ≤ 32768 → Given (whole f) file r → Says f file r
-said f file (reads words) p t = record { short = p; good = text-good f file words t }
-said f file (refuses code at) p t = inr (t.0, p, stopped-refused f file at t.1)
+said f file (reads words) p t = record { short = p; good = text_good f file words t }
+said f file (refuses code at) p t = inr (t.0, p, stopped_refused f file at t.1)
 
 -- the reading is right
-pub reading-says : (f : Layout) (file : List ℕ) → Says f file (reading f file)
+pub reading_says : (f : Layout) (file : List ℕ) → Says f file (reading f file)
 unfolding reading
-reading-says f file = by (ltb 32768 (length file)) refl
+reading_says f file = by (ltb 32768 (length file)) refl
   where
-    by : (long : Bool) → ltb 32768 (length file) ≡ long → Says f file (elim long [ true ↦ refuses 51 0 | false ↦ readFrom (whole f) file 0 [] ])
+    by : (long : Bool) → ltb 32768 (length file) ≡ long → Says f file (elim long [ true ↦ refuses 51 0 | false ↦ read_from (whole f) file 0 [] ])
     by true e = inl (refl, refl, ltb-true 32768 (length file) e)
-    by false e = said f file (readFrom (whole f) file 0 []) (ltb-false 32768 (length file) e) (read-given file file (whole f) 0 [] (reached-none file) (omega arith) refl)
+    by false e = said f file (read_from (whole f) file 0 []) (ltb-false 32768 (length file) e) (read_given file file (whole f) 0 [] (reached_none file) (omega arith) refl)
 
 -- and nothing else is
-pub says-one : (f : Layout) (file : List ℕ) (r s : Reading) → Says f file r → Says f file s → r ≡ s
-says-one f file (reads us) (reads vs) p q = ap reads (good-one f file us vs p.good q.good)
-says-one f file (reads us) (refuses code at) p q = absurd (refusal-accepted f file us code at q p)
-says-one f file (refuses code at) (reads vs) p q = absurd (refusal-accepted f file vs code at p q)
-says-one f file (refuses code at) (refuses code' at') p q = let e = refusal-one f file code code' at at' p q in ap₂ refuses e.0 e.1
+pub says_one : (f : Layout) (file : List ℕ) (r s : Reading) → Says f file r → Says f file s → r ≡ s
+says_one f file (reads us) (reads vs) p q = ap reads (good_one f file us vs p.good q.good)
+says_one f file (reads us) (refuses code at) p q = absurd (refusal_accepted f file us code at q p)
+says_one f file (refuses code at) (reads vs) p q = absurd (refusal_accepted f file vs code at p q)
+says_one f file (refuses code at) (refuses code' at') p q = let e = refusal_one f file code code' at at' p q in ap₂ refuses e.0 e.1
 
-pub accepted-reads : (f : Layout) (file words : List ℕ) → Accepted f file words → reading f file ≡ reads words
-accepted-reads f file words a = says-one f file (reading f file) (reads words) (reading-says f file) a
+pub accepted_reads : (f : Layout) (file words : List ℕ) → Accepted f file words → reading f file ≡ reads words
+accepted_reads f file words a = says_one f file (reading f file) (reads words) (reading_says f file) a
 
-pub refusal-refuses : (f : Layout) (file : List ℕ) (code at : ℕ) → Refusal f file code at → reading f file ≡ refuses code at
-refusal-refuses f file code at r = says-one f file (reading f file) (refuses code at) (reading-says f file) r
+pub refusal_refuses : (f : Layout) (file : List ℕ) (code at : ℕ) → Refusal f file code at → reading f file ≡ refuses code at
+refusal_refuses f file code at r = says_one f file (reading f file) (refuses code at) (reading_says f file) r
 
 -- ---- the answer, and the lent words
 
-fits-into : (room : ℕ) (words : List ℕ) → length words ≤ room → readInto room (reads words) ≡ record { answer = answer.Words (length words); lent = padded room words }
-unfolding readInto
-fits-into room words p = rw (le-leb (length words) room p, readInto)
+fits_into : (room : ℕ) (words : List ℕ) → length words ≤ room → read_into room (reads words) ≡ record { answer = answer.Words (length words); lent = padded room words }
+unfolding read_into
+fits_into room words p = rw (le-leb (length words) room p, read_into)
 
-over-into : (room : ℕ) (words : List ℕ) → room < length words → readInto room (reads words) ≡ record { answer = answer.NoRoom; lent = replicate room 0 }
-unfolding readInto
-over-into room words p = rw (lt-leb (length words) room p, readInto)
+over_into : (room : ℕ) (words : List ℕ) → room < length words → read_into room (reads words) ≡ record { answer = answer.NoRoom; lent = replicate room 0 }
+unfolding read_into
+over_into room words p = rw (lt-leb (length words) room p, read_into)
 
 module _ (f : Layout) (file : List ℕ) (room : ℕ) (lent : List ℕ) where
   abbrev Reads : Answer → Type 0
-  Reads a = record { answer = a; lent = lent } ≡ readInto room (reading f file)
+  Reads a = record { answer = a; lent = lent } ≡ read_into room (reading f file)
 
   -- each answer that `Answered` allows is what the file reads as
-  pub refused-read : (code at : ℕ) → Refusal f file code at → lent ≡ replicate room 0 → Reads (answer.Refused code at)
-  unfolding readInto
-  refused-read code at h e = rw (refusal-refuses f file code at h, e) refl
+  pub refused_read : (code at : ℕ) → Refusal f file code at → lent ≡ replicate room 0 → Reads (answer.Refused code at)
+  unfolding read_into
+  refused_read code at h e = rw (refusal_refuses f file code at h, e) refl
 
-  pub short-read : (words : List ℕ) → Accepted f file words → room < length words → lent ≡ replicate room 0 → Reads answer.NoRoom
-  short-read words a p e = rw (accepted-reads f file words a, over-into room words p, e) refl
+  pub short_read : (words : List ℕ) → Accepted f file words → room < length words → lent ≡ replicate room 0 → Reads answer.NoRoom
+  short_read words a p e = rw (accepted_reads f file words a, over_into room words p, e) refl
 
-  pub words-read-into : (words : List ℕ) (count : ℕ) → Accepted f file words → length words ≡ count → count ≤ room → lent ≡ padded room words → Reads (answer.Words count)
-  words-read-into words count a l p e =
+  pub words_read_into : (words : List ℕ) (count : ℕ) → Accepted f file words → length words ≡ count → count ≤ room → lent ≡ padded room words → Reads (answer.Words count)
+  words_read_into words count a l p e =
       let fits : length words ≤ room = omega arith in
-      rw (accepted-reads f file words a, fits-into room words fits, e, l) refl
+      rw (accepted_reads f file words a, fits_into room words fits, e, l) refl
 
 -- and what the file reads as is allowed: `Answered` says it with no reader
 module _ (f : Layout) (file : List ℕ) (room : ℕ) where
   abbrev Allowed : WordsRead → Type 0
   Allowed w = Answered f file room w.lent w.answer
 
-  allowed : (r : Reading) → Says f file r → Allowed (readInto room r)
-  unfolding readInto
+  allowed : (r : Reading) → Says f file r → Allowed (read_into room r)
+  unfolding read_into
   allowed (reads words) s = by (leb (length words) room) refl
     where
       by : (fits : Bool) → leb (length words) room ≡ fits
@@ -243,5 +243,5 @@ module _ (f : Layout) (file : List ℕ) (room : ℕ) where
       by false e = (words, s, omega (arith, leb-false (length words) room e), refl)
   allowed (refuses code at) s = (s, refl)
 
-  pub is-answered : {a : Answer} {lent : List ℕ} → record { answer = a; lent = lent } ≡ readInto room (reading f file) → Answered f file room lent a
-  is-answered e = subst Allowed (sym e) (allowed (reading f file) (reading-says f file))
+  pub is_answered : {a : Answer} {lent : List ℕ} → record { answer = a; lent = lent } ≡ read_into room (reading f file) → Answered f file room lent a
+  is_answered e = subst Allowed (sym e) (allowed (reading f file) (reading_says f file))

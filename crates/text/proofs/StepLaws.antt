@@ -9,12 +9,12 @@ use native.Mathlib.Numerals.{add-one}
 use lib.ListN.{length, take, drop, get_or}
 use lib.Seq.{take-suc, take-length, split_at, append_snoc}
 use Rattle.text.specs.Form.{Form, finished, byte, field, digits, ending, Text}
-use Rattle.text.specs.Steps.{Reached, Stopped, NumberRead, numberRefused}
+use Rattle.text.specs.Steps.{Reached, Stopped, NumberRead, number_refused}
 use Rattle.text.specs.declared.number.Number.{Number}
 
 -- at first all of the file is to come
-pub reached-none : {root : Form} (file : List ℕ) → Reached root file 0 [] root
-reached-none file = record { sound = λ bytes more t. t; only = λ bytes all t. (all, refl, t) }
+pub reached_none : {root : Form} (file : List ℕ) → Reached root file 0 [] root
+reached_none file = record { sound = λ bytes more t. t; only = λ bytes all t. (all, refl, t) }
 
 -- the form takes the byte c, which completes these words, and goes on as `next`
 pub record Step (form : Form) (c : ℕ) (new : List ℕ) (next : Form) : Type 0 where
@@ -48,8 +48,8 @@ module _ {root : Form} (file : List ℕ) (at : ℕ) (words : List ℕ) (form : F
     }
 
     -- a step that completes no word
-    advance-in : (next : Form) → Step form (get_or file at 0) [] next → Reached root file (at + 1) words next
-    advance-in next s = rw (append-nil words) at (advance [] next s)
+    advance_in : (next : Form) → Step form (get_or file at 0) [] next → Reached root file (at + 1) words next
+    advance_in next s = rw (append-nil words) at (advance [] next s)
 
     -- the form does not take the byte
     pub halt : ((bytes all : List ℕ) → Text form (get_or file at 0 ∷ bytes) all → ⊥) → Stopped root file at
@@ -60,13 +60,13 @@ module _ {root : Form} (file : List ℕ) (at : ℕ) (words : List ℕ) (form : F
           rest = bytes;
           words = words ++ more;
           viable = h.sound bytes more t;
-          no-further = λ p bytes all t. never bytes _ (h.only (get_or file at 0 ∷ bytes) all (rw (front bytes) at t)).2;
+          no_further = λ p bytes all t. never bytes _ (h.only (get_or file at 0 ∷ bytes) all (rw (front bytes) at t)).2;
           not_good = λ all t. never (drop (suc at) file) _ (h.only (get_or file at 0 ∷ drop (suc at) file) all (rw (split_at file at 0 inside) at t)).2;
         }
 
   -- the file is at its end, and the form is not
-  pub halt-short : at ≡ length file → ((all : List ℕ) → Text form [] all → ⊥) → Stopped root file at
-  halt-short end never =
+  pub halt_short : at ≡ length file → ((all : List ℕ) → Text form [] all → ⊥) → Stopped root file at
+  halt_short end never =
       let (bytes, more, t) = inhabited form in
       let e : file ≡ take at file ++ [] = rw (end, take-length file, append-nil file) in
       record {
@@ -74,114 +74,114 @@ module _ {root : Form} (file : List ℕ) (at : ℕ) (words : List ℕ) (form : F
         rest = bytes;
         words = words ++ more;
         viable = h.sound bytes more t;
-        no-further = λ p bytes all t. absurd (omega arith);
+        no_further = λ p bytes all t. absurd (omega arith);
         not_good = λ all t. never _ (h.only [] all (rw e at t)).2;
       }
 
 -- ---- a byte of a line of names
 
 module _ {root : Form} (file : List ℕ) (at : ℕ) (words : List ℕ) (b : ℕ) (next : Form) (h : Reached root file at words (byte b next)) where
-  pub byte-taken : at < length file → get_or file at 0 ≡ b → Reached root file (at + 1) words next
+  pub byte_taken : at < length file → get_or file at 0 ≡ b → Reached root file (at + 1) words next
   unfolding Text
-  byte-taken p e = advance-in file at words (byte b next) h p next (record {
+  byte_taken p e = advance_in file at words (byte b next) h p next (record {
     sound = λ bytes more t. (e, t);
     only = λ bytes all t. (all, refl, t.1);
   })
 
-  pub byte-other : at < length file → (get_or file at 0 ≡ b → ⊥) → Stopped root file at
+  pub byte_other : at < length file → (get_or file at 0 ≡ b → ⊥) → Stopped root file at
   unfolding Text
-  byte-other p f = halt file at words (byte b next) h p (λ bytes all t. f t.0)
+  byte_other p f = halt file at words (byte b next) h p (λ bytes all t. f t.0)
 
-  pub byte-missing : at ≡ length file → Stopped root file at
+  pub byte_missing : at ≡ length file → Stopped root file at
   unfolding Text
-  byte-missing e = halt-short file at words (byte b next) h e (λ all t. t)
+  byte_missing e = halt_short file at words (byte b next) h e (λ all t. t)
 
 -- ---- the first digit of a number
 
 module _ {root : Form} (file : List ℕ) (at : ℕ) (words : List ℕ) (last : Bool) (rest : ℕ → Form) (h : Reached root file at words (field last rest)) where
   pub first_taken : (d : ℕ) → at < length file → d < 10 → get_or file at 0 ≡ 48 + d → Reached root file (at + 1) words (digits d last rest)
   unfolding Text
-  first_taken d p q e = advance-in file at words (field last rest) h p (digits d last rest) (record {
+  first_taken d p q e = advance_in file at words (field last rest) h p (digits d last rest) (record {
     sound = λ bytes more t. (d, q, e, t);
     only = λ bytes all t.
         let same : t.0 ≡ d = omega (arith, t.2, e) in
         (all, refl, subst (λ (k : ℕ). Text (digits k last rest) bytes all) same t.3);
   })
 
-  pub first-other : at < length file → ((d : ℕ) → d < 10 → get_or file at 0 ≡ 48 + d → ⊥) → Stopped root file at
+  pub first_other : at < length file → ((d : ℕ) → d < 10 → get_or file at 0 ≡ 48 + d → ⊥) → Stopped root file at
   unfolding Text
-  first-other p f = halt file at words (field last rest) h p (λ bytes all t. f t.0 t.1 t.2)
+  first_other p f = halt file at words (field last rest) h p (λ bytes all t. f t.0 t.1 t.2)
 
-  pub first-missing : at ≡ length file → Stopped root file at
+  pub first_missing : at ≡ length file → Stopped root file at
   unfolding Text
-  first-missing e = halt-short file at words (field last rest) h e (λ all t. t)
+  first_missing e = halt_short file at words (field last rest) h e (λ all t. t)
 
 -- ---- after digits of the value v: another digit, or the end
 
-pub ending-low : (last : Bool) → ending last < 48
-ending-low true = omega arith
-ending-low false = omega arith
+pub ending_low : (last : Bool) → ending last < 48
+ending_low true = omega arith
+ending_low false = omega arith
 
 module _ {root : Form} (file : List ℕ) (at : ℕ) (words : List ℕ) (v : ℕ) (last : Bool) (rest : ℕ → Form) (h : Reached root file at words (digits v last rest)) where
-  pub digit-taken : (d : ℕ) → at < length file → d < 10 → get_or file at 0 ≡ 48 + d → 0 < v → v * 10 + d < 2 ^ 32 → Reached root file (at + 1) words (digits (v * 10 + d) last rest)
+  pub digit_taken : (d : ℕ) → at < length file → d < 10 → get_or file at 0 ≡ 48 + d → 0 < v → v * 10 + d < 2 ^ 32 → Reached root file (at + 1) words (digits (v * 10 + d) last rest)
   unfolding Text
-  digit-taken d p q e r m = advance-in file at words (digits v last rest) h p (digits (v * 10 + d) last rest) (record {
+  digit_taken d p q e r m = advance_in file at words (digits v last rest) h p (digits (v * 10 + d) last rest) (record {
     sound = λ bytes more t. inr (d, q, e, r, m, t);
     only = λ bytes all t.
         ⊎_elim
-        (λ w. absurd (omega (arith, w.0, e, ending-low last)))
+        (λ w. absurd (omega (arith, w.0, e, ending_low last)))
         (λ w.
         let same : w.0 ≡ d = omega (arith, w.2, e) in
         (all, refl, subst (λ (k : ℕ). Text (digits (v * 10 + k) last rest) bytes all) same w.5))
         t;
   })
 
-  pub end-taken : at < length file → get_or file at 0 ≡ ending last → Reached root file (at + 1) (words ++ (v ∷ [])) (rest v)
+  pub end_taken : at < length file → get_or file at 0 ≡ ending last → Reached root file (at + 1) (words ++ (v ∷ [])) (rest v)
   unfolding Text
-  end-taken p e = advance file at words (digits v last rest) h p (v ∷ []) (rest v) (record {
+  end_taken p e = advance file at words (digits v last rest) h p (v ∷ []) (rest v) (record {
     sound = λ bytes more t. inl (e, (more, refl, t));
     only = λ bytes all t.
         ⊎_elim
         (λ w. (w.1.0, w.1.1, w.1.2))
-        (λ w. absurd (omega (arith, w.2, e, ending-low last)))
+        (λ w. absurd (omega (arith, w.2, e, ending_low last)))
         t;
   })
 
   -- a byte that is neither the end nor a digit that may follow
-  pub digit-other : at < length file → (get_or file at 0 ≡ ending last → ⊥) → ((d : ℕ) → d < 10 → get_or file at 0 ≡ 48 + d → 0 < v → v * 10 + d < 2 ^ 32 → ⊥) → Stopped root file at
+  pub digit_other : at < length file → (get_or file at 0 ≡ ending last → ⊥) → ((d : ℕ) → d < 10 → get_or file at 0 ≡ 48 + d → 0 < v → v * 10 + d < 2 ^ 32 → ⊥) → Stopped root file at
   unfolding Text
-  digit-other p f g = halt file at words (digits v last rest) h p (λ bytes all t. ⊎_elim (λ w. f w.0) (λ w. g w.0 w.1 w.2 w.3 w.4) t)
+  digit_other p f g = halt file at words (digits v last rest) h p (λ bytes all t. ⊎_elim (λ w. f w.0) (λ w. g w.0 w.1 w.2 w.3 w.4) t)
 
-  pub digit-missing : at ≡ length file → Stopped root file at
+  pub digit_missing : at ≡ length file → Stopped root file at
   unfolding Text
-  digit-missing e = halt-short file at words (digits v last rest) h e (λ all t. t)
+  digit_missing e = halt_short file at words (digits v last rest) h e (λ all t. t)
 
 -- ---- the end of the file
 
 module _ {root : Form} (file : List ℕ) (at : ℕ) (words : List ℕ) (h : Reached root file at words finished) where
-  pub finished-good : at ≡ length file → Text root file words
+  pub finished_good : at ≡ length file → Text root file words
   unfolding Text
-  finished-good e =
+  finished_good e =
       let f : take at file ++ [] ≡ file = rw (e, take-length file, append-nil file) in
       rw f at (rw (append-nil words) at (h.sound [] [] refl))
 
-  pub finished-more : at < length file → Stopped root file at
+  pub finished_more : at < length file → Stopped root file at
   unfolding Text
-  finished-more p = halt file at words finished h p (λ bytes all t. t)
+  finished_more p = halt file at words finished h p (λ bytes all t. t)
 
 -- ---- what reading a number gives
 
-pub true-false : true ≡ false → ⊥
-true-false e = let z : ◌≡◌ {A = ℕ} 0 1 = cc in omega arith
+pub true_false : true ≡ false → ⊥
+true_false e = let z : ◌≡◌ {A = ℕ} 0 1 = cc in omega arith
 
-pub false-true : false ≡ true → ⊥
-false-true e = true-false (sym e)
+pub false_true : false ≡ true → ⊥
+false_true e = true_false (sym e)
 
-pub number-refused : {file : List ℕ} {start : ℕ} {last : Bool} {r : Number} {at : ℕ} → r ≡ numberRefused at → at ≤ length file
+pub number_refused_lem : {file : List ℕ} {start : ℕ} {last : Bool} {r : Number} {at : ℕ} → r ≡ number_refused at → at ≤ length file
     → ((root : Form) (words : List ℕ) (next : ℕ → Form) → Reached root file start words (field last next) → Stopped root file at) → NumberRead file start last r
-number-refused e p f = rw e (record {
+number_refused_lem e p f = rw e (record {
   within = p;
-  long = λ g. absurd (true-false g);
+  long = λ g. absurd (true_false g);
   stopped = λ root words next h g. f root words next h;
-  reached = λ root words next h g. absurd (true-false g);
+  reached = λ root words next h g. absurd (true_false g);
 })

@@ -14,20 +14,20 @@ use Rattle.text.specs.Decimal.{choose, decimal}
 use Rattle.text.specs.Line.{after, line, lines}
 use Rattle.text.specs.Form.{ending}
 use Rattle.text.specs.Lent.{Holds}
-use Rattle.text.specs.Printed.{resultNames, treeNames, rows_of, treeLines, printed, written_of, lent_of, Wrote, Held, WroteSome}
+use Rattle.text.specs.Printed.{result_names, tree_names, rows_of, tree_lines, printed, written_of, lent_of, Wrote, Held, WroteSome}
 use Rattle.text.specs.File.{Words}
 use Rattle.text.specs.declared.write.Written.{Written}
 use Rattle.text.specs.declared.write.Written.TheVariants.{Bytes, NoRoom}
-use Rattle.text.proofs.LentLaws.{holds-put, holds-some, cleared-zeros, cleared-padded}
-use Rattle.text.proofs.DecimalLaws.{decimal-ten}
-use Rattle.text.proofs.FormLaws.{after-ending}
-use Rattle.text.proofs.PartLaws.{last-number}
+use Rattle.text.proofs.LentLaws.{holds_put, holds_some, cleared_zeros, cleared_padded}
+use Rattle.text.proofs.DecimalLaws.{decimal_ten}
+use Rattle.text.proofs.FormLaws.{after_ending}
+use Rattle.text.proofs.PartLaws.{last_number}
 
 pub wrote_none : (b : List ℕ) (start : ℕ) → Wrote b start [] b start
 wrote_none b start = record { long = sym (add-zero start); holds = λ before h. rw (append-nil before) h }
 
-pub wrote-byte : (b : List ℕ) (start byte : ℕ) → Wrote b start (byte ∷ []) (set b start byte) (start + 1)
-wrote-byte b start byte = record { long = refl; holds = λ before h. holds-put b start byte before h }
+pub wrote_byte : (b : List ℕ) (start byte : ℕ) → Wrote b start (byte ∷ []) (set b start byte) (start + 1)
+wrote_byte b start byte = record { long = refl; holds = λ before h. holds_put b start byte before h }
 
 module _ {b b' b'' : List ℕ} {start middle end : ℕ} {s t : List ℕ} where
   pub wrote_then : Wrote b start s b' middle → Wrote b' middle t b'' end → Wrote b start (s ++ t) b'' end
@@ -36,12 +36,12 @@ module _ {b b' b'' : List ℕ} {start middle end : ℕ} {s t : List ℕ} where
     holds = λ before p. rw (append_assoc before s t) at (k.holds (before ++ s) (h.holds before p));
   }
 
-  pub wrote-some : Wrote b start s b' middle → WroteSome b' middle t b'' end → WroteSome b start (s ++ t) b'' end
-  wrote-some h k before p = rw (append_assoc before s t) at (k (before ++ s) (h.holds before p))
+  pub wrote_some : Wrote b start s b' middle → WroteSome b' middle t b'' end → WroteSome b start (s ++ t) b'' end
+  wrote_some h k before p = rw (append_assoc before s t) at (k (before ++ s) (h.holds before p))
 
 -- all of it
-pub wrote-all : {b b' : List ℕ} {start end : ℕ} {s : List ℕ} → Wrote b start s b' end → WroteSome b start s b' end
-wrote-all {s = s} h before p = record {
+pub wrote_all : {b b' : List ℕ} {start end : ℕ} {s : List ℕ} → Wrote b start s b' end → WroteSome b start s b' end
+wrote_all {s = s} h before p = record {
   held = before ++ s;
   rest = [];
   split = sym (append-nil (before ++ s));
@@ -52,26 +52,26 @@ wrote-all {s = s} h before p = record {
 -- ---- a line of numbers
 
 -- the numbers from i on
-pub line-open : (ns : List ℕ) (i : ℕ) → i < length ns → line (drop i ns) ≡ decimal (get_or ns i 0) ++ (ending (eqb (i + 1) (length ns)) ∷ line (drop (i + 1) ns))
+pub line_open : (ns : List ℕ) (i : ℕ) → i < length ns → line (drop i ns) ≡ decimal (get_or ns i 0) ++ (ending (eqb (i + 1) (length ns)) ∷ line (drop (i + 1) ns))
 unfolding line
-line-open ns i p =
+line_open ns i p =
     let m : length (drop (suc i) ns) ≡ length ns - suc i = length-drop (suc i) ns in
     let e : after (drop (suc i) ns) ≡ ending (eqb (i + 1) (length ns)) =
-    after-ending (drop (suc i) ns) ∙ ap (λ (b : Bool). ending b) (last-number (length (drop (suc i) ns)) i (length ns) (omega arith)) in
+    after_ending (drop (suc i) ns) ∙ ap (λ (b : Bool). ending b) (last_number (length (drop (suc i) ns)) i (length ns) (omega arith)) in
     rw (drop-cons ns i 0 p, e, add-one i)
 
-pub line-done : (ns : List ℕ) (i : ℕ) → length ns ≤ i → line (drop i ns) ≡ []
+pub line_done : (ns : List ℕ) (i : ℕ) → length ns ≤ i → line (drop i ns) ≡ []
 unfolding line
-line-done ns i p = rw (drop_of_length-le ns p)
+line_done ns i p = rw (drop_of_length-le ns p)
 
 -- one number more of a line
-pub line-more : (ns text : List ℕ) (i : ℕ) → i < length ns → text ++ line (drop i ns) ≡ line ns
+pub line_more : (ns text : List ℕ) (i : ℕ) → i < length ns → text ++ line (drop i ns) ≡ line ns
     → (text ++ (decimal (get_or ns i 0) ++ (ending (eqb (i + 1) (length ns)) ∷ []))) ++ line (drop (i + 1) ns) ≡ line ns
-line-more ns text i p h =
+line_more ns text i p h =
     let d = decimal (get_or ns i 0) in
     let c = ending (eqb (i + 1) (length ns)) in
     append_assoc text (d ++ (c ∷ [])) (line (drop (i + 1) ns))
-    ∙ ap (λ (l : List ℕ). text ++ l) (append_assoc d (c ∷ []) (line (drop (i + 1) ns)) ∙ sym (line-open ns i p))
+    ∙ ap (λ (l : List ℕ). text ++ l) (append_assoc d (c ∷ []) (line (drop (i + 1) ns)) ∙ sym (line_open ns i p))
     ∙ h
 
 -- ---- the lines of a tree
@@ -80,14 +80,14 @@ rows_split : (count : ℕ) (words : List ℕ) → lines (rows_of (suc count) wor
 unfolding rows_of lines
 rows_split count words = refl
 
-pub tree-done : (rows i : ℕ) (words : List ℕ) → rows ≤ i → lines (rows_of (rows - i) words) ≡ []
+pub tree_done : (rows i : ℕ) (words : List ℕ) → rows ≤ i → lines (rows_of (rows - i) words) ≡ []
 unfolding rows_of lines
-tree-done rows i words p = let e : rows - i ≡ 0 = omega arith in rw e
+tree_done rows i words p = let e : rows - i ≡ 0 = omega arith in rw e
 
 -- one row more of a tree
-pub tree-more : (tree text all : List ℕ) (rows i : ℕ) → i < rows → text ++ lines (rows_of (rows - i) (drop (i * 6) tree)) ≡ all
+pub tree_more : (tree text all : List ℕ) (rows i : ℕ) → i < rows → text ++ lines (rows_of (rows - i) (drop (i * 6) tree)) ≡ all
     → (text ++ line (take 6 (drop (i * 6) tree))) ++ lines (rows_of (rows - (i + 1)) (drop ((i + 1) * 6) tree)) ≡ all
-tree-more tree text all rows i p h =
+tree_more tree text all rows i p h =
     let e : rows - i ≡ suc (rows - (i + 1)) = omega arith in
     let f : (i + 1) * 6 ≡ i * 6 + 6 = omega arith in
     append_assoc text (line (take 6 (drop (i * 6) tree))) (lines (rows_of (rows - (i + 1)) (drop ((i + 1) * 6) tree)))
@@ -95,8 +95,8 @@ tree-more tree text all rows i p h =
     ∙ rw e at h
 
 -- so much was written
-pub wrote-part : {b b' : List ℕ} {start end : ℕ} (text rest all : List ℕ) → Wrote b start text b' end → text ++ rest ≡ all → (end ≤ length b' → rest ≡ []) → WroteSome b start all b' end
-wrote-part text rest all h e f before p = record {
+pub wrote_part : {b b' : List ℕ} {start end : ℕ} (text rest all : List ℕ) → Wrote b start text b' end → text ++ rest ≡ all → (end ≤ length b' → rest ≡ []) → WroteSome b start all b' end
+wrote_part text rest all h e f before p = record {
   held = before ++ text;
   rest = rest;
   split = rw (← e) (sym (append_assoc before text rest));
@@ -107,39 +107,39 @@ wrote-part text rest all h e f before p = record {
 -- ---- the result
 
 -- a line of numbers of 32 bits
-pub line-most : (ns : List ℕ) → Words ns → length (line ns) ≤ length ns * 11
+pub line_most : (ns : List ℕ) → Words ns → length (line ns) ≤ length ns * 11
 unfolding line
-line-most [] p = omega arith
-line-most (n ∷ ns) p = simp length-append (omega (arith, line-most ns p.1, decimal-ten n p.0))
+line_most [] p = omega arith
+line_most (n ∷ ns) p = simp length-append (omega (arith, line_most ns p.1, decimal_ten n p.0))
 
-pub printed-refused : (code at rows visits : ℕ) (tree : List ℕ) → (code ≡ 0 → ⊥) → printed code at rows visits tree ≡ resultNames ++ line (code ∷ at ∷ rows ∷ visits ∷ [])
-unfolding printed treeLines
-printed-refused zero at rows visits tree f = absurd (f refl)
-printed-refused (suc code) at rows visits tree f = rw (append-nil (line (suc code ∷ at ∷ rows ∷ visits ∷ [])))
+pub printed_refused : (code at rows visits : ℕ) (tree : List ℕ) → (code ≡ 0 → ⊥) → printed code at rows visits tree ≡ result_names ++ line (code ∷ at ∷ rows ∷ visits ∷ [])
+unfolding printed tree_lines
+printed_refused zero at rows visits tree f = absurd (f refl)
+printed_refused (suc code) at rows visits tree f = rw (append-nil (line (suc code ∷ at ∷ rows ∷ visits ∷ [])))
 
-pub printed-accepted : (code at rows visits : ℕ) (tree : List ℕ) → code ≡ 0
-    → printed code at rows visits tree ≡ resultNames ++ (line (code ∷ at ∷ rows ∷ visits ∷ []) ++ (treeNames ++ lines (rows_of (length tree / 6) tree)))
-unfolding printed treeLines
-printed-accepted zero at rows visits tree e = refl
-printed-accepted (suc code) at rows visits tree e = absurd (omega arith)
+pub printed_accepted : (code at rows visits : ℕ) (tree : List ℕ) → code ≡ 0
+    → printed code at rows visits tree ≡ result_names ++ (line (code ∷ at ∷ rows ∷ visits ∷ []) ++ (tree_names ++ lines (rows_of (length tree / 6) tree)))
+unfolding printed tree_lines
+printed_accepted zero at rows visits tree e = refl
+printed_accepted (suc code) at rows visits tree e = absurd (omega arith)
 
 -- ---- the end of a text
 
 -- there is such a text, whatever the buffer and the end
-pub held-some : (b : List ℕ) (end : ℕ) → Held (take end (b ++ replicate end 0)) b end
-held-some b end = record { held = take end (b ++ replicate end 0); rest = []; split = sym (append-nil (take end (b ++ replicate end 0))); holds = holds-some b end; whole = λ _. refl }
+pub held_some : (b : List ℕ) (end : ℕ) → Held (take end (b ++ replicate end 0)) b end
+held_some b end = record { held = take end (b ++ replicate end 0); rest = []; split = sym (append-nil (take end (b ++ replicate end 0))); holds = holds_some b end; whole = λ _. refl }
 
 module _ {text b : List ℕ} {end : ℕ} (h : Held text b end) where
   over : length b < end → length b < length text
   over p = omega (arith, h.holds.counted, ap (λ (l : List ℕ). length l) h.split ∙ length-append h.held h.rest)
 
-  pub over-answer : length b < end → NoRoom ≡ written_of (length b) text
+  pub over_answer : length b < end → NoRoom ≡ written_of (length b) text
   unfolding written_of
-  over-answer p = rw (lt-leb (length text) (length b) (over p))
+  over_answer p = rw (lt-leb (length text) (length b) (over p))
 
-  pub over-lent : {b' : List ℕ} → length b < end → b' ≡ take 0 b ++ replicate (length b - 0) 0 → b' ≡ lent_of (length b) text
+  pub over_lent : {b' : List ℕ} → length b < end → b' ≡ take 0 b ++ replicate (length b - 0) 0 → b' ≡ lent_of (length b) text
   unfolding lent_of
-  over-lent {b'} p e = rw (lt-leb (length text) (length b) (over p)) (cleared-zeros b b' (length b) refl e)
+  over_lent {b'} p e = rw (lt-leb (length text) (length b) (over p)) (cleared_zeros b b' (length b) refl e)
 
   module _ (p : end ≤ length b) where
     -- all of it is there
@@ -151,13 +151,13 @@ module _ {text b : List ℕ} {end : ℕ} (h : Held text b end) where
     within : leb (length text) (length b) ≡ true
     within = le-leb (length text) (length b) (omega (arith, all_held.counted))
 
-    pub fits-answer : Bytes end ≡ written_of (length b) text
+    pub fits_answer : Bytes end ≡ written_of (length b) text
     unfolding written_of
-    fits-answer = rw within (ap Bytes (sym all_held.counted))
+    fits_answer = rw within (ap Bytes (sym all_held.counted))
 
-    pub fits-lent : {b' : List ℕ} → b' ≡ take end b ++ replicate (length b - end) 0 → b' ≡ lent_of (length b) text
+    pub fits_lent : {b' : List ℕ} → b' ≡ take end b ++ replicate (length b - end) 0 → b' ≡ lent_of (length b) text
     unfolding lent_of
-    fits-lent {b'} e = rw within (cleared-padded b b' text end (length b) refl all_held p e)
+    fits_lent {b'} e = rw within (cleared_padded b b' text end (length b) refl all_held p e)
 
 -- ---- room
 
@@ -165,53 +165,53 @@ module _ {text b : List ℕ} {end : ℕ} (h : Held text b end) where
 abbrev pub Narrow : List ℕ → Type 0
 Narrow words = (i : ℕ) → get_or words i 0 < 2 ^ 32
 
-pub narrow-words : (words : List ℕ) → Narrow words → Words words
-narrow-words [] p = tt
-narrow-words (w ∷ words) p = (p 0, narrow-words words (λ i. p (suc i)))
+pub narrow_words : (words : List ℕ) → Narrow words → Words words
+narrow_words [] p = tt
+narrow_words (w ∷ words) p = (p 0, narrow_words words (λ i. p (suc i)))
 
-pub narrow-take : (n : ℕ) (words : List ℕ) → Narrow words → Narrow (take n words)
-narrow-take n [] p i = rw (take-nil {A = ℕ} n) (p i)
-narrow-take zero (w ∷ words) p i = omega arith
-narrow-take (suc n) (w ∷ words) p zero = p 0
-narrow-take (suc n) (w ∷ words) p (suc i) = narrow-take n words (λ k. p (suc k)) i
+pub narrow_take : (n : ℕ) (words : List ℕ) → Narrow words → Narrow (take n words)
+narrow_take n [] p i = rw (take-nil {A = ℕ} n) (p i)
+narrow_take zero (w ∷ words) p i = omega arith
+narrow_take (suc n) (w ∷ words) p zero = p 0
+narrow_take (suc n) (w ∷ words) p (suc i) = narrow_take n words (λ k. p (suc k)) i
 
-pub narrow-drop : (n : ℕ) (words : List ℕ) → Narrow words → Narrow (drop n words)
-narrow-drop n words p i = rw (get_or-drop n words i 0) (p (n + i))
+pub narrow_drop : (n : ℕ) (words : List ℕ) → Narrow words → Narrow (drop n words)
+narrow_drop n words p i = rw (get_or-drop n words i 0) (p (n + i))
 
-tree-most : (count : ℕ) (words : List ℕ) → Narrow words → length (lines (rows_of count words)) ≤ count * 66
+tree_most : (count : ℕ) (words : List ℕ) → Narrow words → length (lines (rows_of count words)) ≤ count * 66
 unfolding rows_of lines
-tree-most zero words p = omega arith
-tree-most (suc count) words p =
+tree_most zero words p = omega arith
+tree_most (suc count) words p =
     let l : length (take 6 words) ≤ 6 = rw (length-take 6 words) (omega arith) in
-    simp length-append (omega (arith, line-most (take 6 words) (narrow-words (take 6 words) (narrow-take 6 words p)), tree-most count (drop 6 words) (narrow-drop 6 words p)))
+    simp length-append (omega (arith, line_most (take 6 words) (narrow_words (take 6 words) (narrow_take 6 words p)), tree_most count (drop 6 words) (narrow_drop 6 words p)))
 
 -- 77 bytes for the lines of a result, and 66 for each row, are enough
-pub printed-most : (code at rows visits : ℕ) (tree : List ℕ) → Words (code ∷ at ∷ rows ∷ visits ∷ []) → Narrow tree
+pub printed_most : (code at rows visits : ℕ) (tree : List ℕ) → Words (code ∷ at ∷ rows ∷ visits ∷ []) → Narrow tree
     → length (printed code at rows visits tree) ≤ 77 + length tree / 6 * 66
-unfolding printed treeLines
-printed-most zero at rows visits tree p q =
-    simp length-append (omega (arith, line-most (zero ∷ at ∷ rows ∷ visits ∷ []) p, tree-most (length tree / 6) tree q))
-printed-most (suc code) at rows visits tree p q =
-    simp length-append (omega (arith, line-most (suc code ∷ at ∷ rows ∷ visits ∷ []) p))
+unfolding printed tree_lines
+printed_most zero at rows visits tree p q =
+    simp length-append (omega (arith, line_most (zero ∷ at ∷ rows ∷ visits ∷ []) p, tree_most (length tree / 6) tree q))
+printed_most (suc code) at rows visits tree p q =
+    simp length-append (omega (arith, line_most (suc code ∷ at ∷ rows ∷ visits ∷ []) p))
 
 -- so much room is never too little
-pub text-fits : (room : ℕ) (text : List ℕ) → length text ≤ room → written_of room text ≡ Bytes (length text)
+pub text_fits : (room : ℕ) (text : List ℕ) → length text ≤ room → written_of room text ≡ Bytes (length text)
 unfolding written_of
-text-fits room text p = rw (le-leb (length text) room p)
+text_fits room text p = rw (le-leb (length text) room p)
 
-pub written-fits : (room code at rows visits : ℕ) (tree : List ℕ) → Words (code ∷ at ∷ rows ∷ visits ∷ []) → Narrow tree → 77 + length tree / 6 * 66 ≤ room
+pub written_fits : (room code at rows visits : ℕ) (tree : List ℕ) → Words (code ∷ at ∷ rows ∷ visits ∷ []) → Narrow tree → 77 + length tree / 6 * 66 ≤ room
     → written_of room (printed code at rows visits tree) ≡ Bytes (length (printed code at rows visits tree))
-written-fits room code at rows visits tree p q r = text-fits room (printed code at rows visits tree) (omega (arith, printed-most code at rows visits tree p q))
+written_fits room code at rows visits tree p q r = text_fits room (printed code at rows visits tree) (omega (arith, printed_most code at rows visits tree p q))
 
 -- what was written lies within the lent bytes
-pub bytes-within : (room end : ℕ) (text : List ℕ) (r : Written) → r ≡ written_of room text → r ≡ Bytes end → end ≤ room
+pub bytes_within : (room end : ℕ) (text : List ℕ) (r : Written) → r ≡ written_of room text → r ≡ Bytes end → end ≤ room
 unfolding written_of
-bytes-within room end text r e f = by-room (leb (length text) room) refl (sym e ∙ f)
+bytes_within room end text r e f = by_room (leb (length text) room) refl (sym e ∙ f)
   where
     count : Written → ℕ
     count (Bytes n) = n
     count NoRoom = 0
 
-    by-room : (b : Bool) → leb (length text) room ≡ b → choose b (λ _. Bytes (length text)) (λ _. NoRoom) ≡ Bytes end → end ≤ room
-    by-room true p g = omega (arith, leb-true (length text) room p, ap count g)
-    by-room false p g = omega (arith, ap count g)
+    by_room : (b : Bool) → leb (length text) room ≡ b → choose b (λ _. Bytes (length text)) (λ _. NoRoom) ≡ Bytes end → end ≤ room
+    by_room true p g = omega (arith, leb-true (length text) room p, ap count g)
+    by_room false p g = omega (arith, ap count g)

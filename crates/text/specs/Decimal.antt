@@ -7,10 +7,10 @@ choose true a b = a tt
 choose false a b = b tt
 
 -- the digits of n, the highest first, with no leading zero: those of n / 10, if there are any, then n % 10. `steps` bounds the recursion
-unfoldable pub digitsOf : ℕ → ℕ → List ℕ
-digitsOf zero n = (48 + n) ∷ []
-digitsOf (suc steps) n = choose (ltb n 10) (λ _. (48 + n) ∷ []) (λ _. digitsOf steps (n / 10) ++ ((48 + n % 10) ∷ []))
+unfoldable pub digits_of : ℕ → ℕ → List ℕ
+digits_of zero n = (48 + n) ∷ []
+digits_of (suc steps) n = choose (ltb n 10) (λ _. (48 + n) ∷ []) (λ _. digits_of steps (n / 10) ++ ((48 + n % 10) ∷ []))
 
 -- a number in decimal
 unfoldable pub decimal : ℕ → List ℕ
-decimal n = digitsOf n n
+decimal n = digits_of n n

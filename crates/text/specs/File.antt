@@ -70,5 +70,5 @@ pub record Viable (f : Layout) (start : List ℕ) : Type 0 where
 pub record Refused (f : Layout) (file : List ℕ) (at : ℕ) : Type 0 where
   pub within : at ≤ length file
   pub viable : Viable f (take at file)
-  pub no-further : at < length file → Viable f (take (at + 1) file) → ⊥
+  pub no_further : at < length file → Viable f (take (at + 1) file) → ⊥
   pub not_good : (words : List ℕ) → Good f file words → ⊥

@@ -18,19 +18,19 @@ pub record Layout : Type 0 where
   pub places : Columns
   pub identifiers : Columns
 
-abbrev pub blockColumns : Version → Columns
-blockColumns Old = record { names = ascii "first count code a b c d e id span\n"; width = 10 }
-blockColumns New = record { names = ascii "first count code a b c d e id from to\n"; width = 11 }
+abbrev pub block_columns : Version → Columns
+block_columns Old = record { names = ascii "first count code a b c d e id span\n"; width = 10 }
+block_columns New = record { names = ascii "first count code a b c d e id from to\n"; width = 11 }
 
-abbrev pub instructionColumns : Version → Columns
-instructionColumns Old = record { names = ascii "id lvalue code p q span\n"; width = 6 }
-instructionColumns New = record { names = ascii "id lvalue code p q from to\n"; width = 7 }
+abbrev pub instruction_columns : Version → Columns
+instruction_columns Old = record { names = ascii "id lvalue code p q span\n"; width = 6 }
+instruction_columns New = record { names = ascii "id lvalue code p q from to\n"; width = 7 }
 
 abbrev pub layout : Version → Layout
 layout version = record {
   head = record { names = ascii "entry blocks instructions cases places identifiers\n"; width = 6 };
-  blocks = blockColumns version;
-  instructions = instructionColumns version;
+  blocks = block_columns version;
+  instructions = instruction_columns version;
   cases = record { names = ascii "test block\n"; width = 2 };
   places = record { names = ascii "identifier\n"; width = 1 };
   identifiers = record { names = ascii "named\n"; width = 1 };

@@ -31,8 +31,8 @@ placing answer buffer = record { code = answer.code; at = answer.at; length = an
 -- ---- what a program prints of such an answer
 
 -- the text; of a refusal two lines, with no rows and no visits
-unfoldable pub printedPlacing : Placing → List ℕ
-printedPlacing answer = choose (eqb answer.code 0) (λ _. take answer.length answer.buffer) (λ _. printed answer.code answer.at 0 0 [])
+unfoldable pub printed_placing : Placing → List ℕ
+printed_placing answer = choose (eqb answer.code 0) (λ _. take answer.length answer.buffer) (λ _. printed answer.code answer.at 0 0 [])
 
 -- a buffer of `lent` bytes holds a text of the answer's length, and then zeros; a refusal has no text
 pub record Holding (lent : ℕ) (answer : Placing) : Type 0 where

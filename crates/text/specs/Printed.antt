@@ -7,11 +7,11 @@ use Rattle.text.specs.Lent.{padded, Holds}
 use Rattle.text.specs.declared.write.Written.{Written}
 use Rattle.text.specs.declared.write.Written.TheVariants.{Bytes, NoRoom}
 
-abbrev pub resultNames : List ℕ
-resultNames = ascii "code at rows visits\n"
+abbrev pub result_names : List ℕ
+result_names = ascii "code at rows visits\n"
 
-abbrev pub treeNames : List ℕ
-treeNames = ascii "op a b c d e\n"
+abbrev pub tree_names : List ℕ
+tree_names = ascii "op a b c d e\n"
 
 -- the first `count` rows of six words
 unfoldable pub rows_of : ℕ → List ℕ → List (List ℕ)
@@ -19,12 +19,12 @@ rows_of zero words = []
 rows_of (suc count) words = take 6 words ∷ rows_of count (drop 6 words)
 
 -- the lines of a tree, if the code says accepted: its names, then a line for each whole row
-unfoldable pub treeLines : ℕ → List ℕ → List ℕ
-treeLines zero tree = treeNames ++ lines (rows_of (length tree / 6) tree)
-treeLines (suc code) tree = []
+unfoldable pub tree_lines : ℕ → List ℕ → List ℕ
+tree_lines zero tree = tree_names ++ lines (rows_of (length tree / 6) tree)
+tree_lines (suc code) tree = []
 
 unfoldable pub printed : ℕ → ℕ → ℕ → ℕ → List ℕ → List ℕ
-printed code at rows visits tree = resultNames ++ (line (code ∷ at ∷ rows ∷ visits ∷ []) ++ treeLines code tree)
+printed code at rows visits tree = result_names ++ (line (code ∷ at ∷ rows ∷ visits ∷ []) ++ tree_lines code tree)
 
 -- the answer of writing a text into `room` lent bytes, and what these hold then: the text and zeros, or zeros if it does not fit
 unfoldable pub written_of : ℕ → List ℕ → Written

@@ -1,4 +1,4 @@
--- What a program prints of a file, and what the bytes lent for it hold then. The text (`fileText`) depends on what the file reads as; `printing` puts it there.
+-- What a program prints of a file, and what the bytes lent for it hold then. The text (`file_text`) depends on what the file reads as; `printing` puts it there.
 -- `Prints` says of the text the same with no reader in it; `proofs/PrintsLaws` shows that it allows this text alone.
 use Rattle.std.specs.Prelude.{◌≡◌, List, [], ◌⊎◌, ℕ, ◌≤◌, length}
 use Rattle.text.specs.Layout.{Layout}
@@ -18,13 +18,13 @@ abbrev pub printing : (room : ℕ) → (text : List ℕ) → Printing
 printing room text = record { answer = written_of room text; bytes = lent_of room text }
 
 -- a file in the form prints what `of` gives for its words; any other what `other` gives for its refusal
-unfoldable pub fileText : (of : List ℕ → List ℕ) → (other : (code at : ℕ) → List ℕ) → Reading → List ℕ
-fileText of other (reads words) = of words
-fileText of other (refuses code at) = other code at
+unfoldable pub file_text : (of : List ℕ → List ℕ) → (other : (code at : ℕ) → List ℕ) → Reading → List ℕ
+file_text of other (reads words) = of words
+file_text of other (refuses code at) = other code at
 
 -- two lines, "rows and visits 0"
-abbrev pub refusalText : (code at : ℕ) → List ℕ
-refusalText code at = printed code at 0 0 []
+abbrev pub refusal_text : (code at : ℕ) → List ℕ
+refusal_text code at = printed code at 0 0 []
 
 -- ---- the same with no reader in it: the file is good and has these words, or it is refused
 

@@ -16,21 +16,21 @@ pub data Next : Type 0 where
   on : (new : List ℕ) → Form → Next
   stuck : Next
 
-unfoldable pub isDigit : ℕ → Bool
-isDigit c = leb 48 c && leb c 57
+unfoldable pub is_digit : ℕ → Bool
+is_digit c = leb 48 c && leb c 57
 
 -- after digits of the value v: there is no leading zero, and a number has 32 bits
-unfoldable pub mayFollow : (v c : ℕ) → Bool
-mayFollow v c = isDigit c && (ltb 0 v && ltb (v * 10 + (c - 48)) 4294967296)
+unfoldable pub may_follow : (v c : ℕ) → Bool
+may_follow v c = is_digit c && (ltb 0 v && ltb (v * 10 + (c - 48)) 4294967296)
 
 unfoldable pub next_of : Form → ℕ → Next
 next_of finished c = stuck
 next_of (byte b rest) c = elim (eqb c b) [ true ↦ on [] rest | false ↦ stuck ]
-next_of (field last rest) c = elim (isDigit c) [ true ↦ on [] (digits (c - 48) last rest) | false ↦ stuck ]
+next_of (field last rest) c = elim (is_digit c) [ true ↦ on [] (digits (c - 48) last rest) | false ↦ stuck ]
 next_of (digits v last rest) c =
     elim (eqb c (ending last)) [
       | true ↦ on (v ∷ []) (rest v)
-      | false ↦ elim (mayFollow v c) [ true ↦ on [] (digits (v * 10 + (c - 48)) last rest) | false ↦ stuck ]
+      | false ↦ elim (may_follow v c) [ true ↦ on [] (digits (v * 10 + (c - 48)) last rest) | false ↦ stuck ]
     ]
 
 -- at the file's end
@@ -41,13 +41,13 @@ ended (field last rest) at words = refuses 50 at
 ended (digits v last rest) at words = refuses 50 at
 
 -- the bytes from `at` on, after these words
-unfoldable pub readFrom : Form → (bytes : List ℕ) → (at : ℕ) → (words : List ℕ) → Reading
-readFrom form [] at words = ended form at words
-readFrom form (c ∷ bytes) at words = elim (next_of form c) [ on new rest ↦ readFrom rest bytes (at + 1) (words ++ new) | stuck ↦ refuses 50 at ]
+unfoldable pub read_from : Form → (bytes : List ℕ) → (at : ℕ) → (words : List ℕ) → Reading
+read_from form [] at words = ended form at words
+read_from form (c ∷ bytes) at words = elim (next_of form c) [ on new rest ↦ read_from rest bytes (at + 1) (words ++ new) | stuck ↦ refuses 50 at ]
 
 -- 51, at 0, for a file of over 32,768 bytes; then 50
 unfoldable pub reading : Layout → List ℕ → Reading
-reading f file = elim (ltb 32768 (length file)) [ true ↦ refuses 51 0 | false ↦ readFrom (whole f) file 0 [] ]
+reading f file = elim (ltb 32768 (length file)) [ true ↦ refuses 51 0 | false ↦ read_from (whole f) file 0 [] ]
 
 -- the answer, and what the lent words hold then
 pub record WordsRead : Type 0 where
@@ -55,10 +55,10 @@ pub record WordsRead : Type 0 where
   pub lent : List ℕ
 
 -- the words and then zeros in `room` lent words; zeros alone where they are refused or too many
-unfoldable pub readInto : (room : ℕ) → Reading → WordsRead
-readInto room (reads words) =
+unfoldable pub read_into : (room : ℕ) → Reading → WordsRead
+read_into room (reads words) =
     elim (leb (length words) room) [
       | true ↦ record { answer = answer.Words (length words); lent = padded room words }
       | false ↦ record { answer = answer.NoRoom; lent = replicate room 0 }
     ]
-readInto room (refuses code at) = record { answer = answer.Refused code at; lent = replicate room 0 }
+read_into room (refuses code at) = record { answer = answer.Refused code at; lent = replicate room 0 }

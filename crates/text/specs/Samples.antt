@@ -2,19 +2,19 @@
 use Rattle.std.specs.Prelude.{◌≡◌, refl, List, [], ◌∷◌, ℕ}
 use Rattle.std.proofs.Common.{arith}
 use Rattle.text.specs.Ascii.{ascii}
-use Rattle.text.specs.Decimal.{digitsOf, decimal}
+use Rattle.text.specs.Decimal.{digits_of, decimal}
 use Rattle.text.specs.Line.{line, lines, flat}
 use Rattle.text.specs.Layout.{layout}
 use Rattle.text.specs.File.{Tables, Formed, Good}
 use Rattle.text.specs.declared.version.Version.TheVariants.{Old, New}
-use Rattle.text.specs.Printed.{rows_of, treeLines, printed}
+use Rattle.text.specs.Printed.{rows_of, tree_lines, printed}
 
 smallest : decimal 0 ≡ ascii "0"
-unfolding decimal digitsOf
+unfolding decimal digits_of
 smallest = refl
 
 largest : decimal 4294967295 ≡ ascii "4294967295"
-unfolding decimal digitsOf
+unfolding decimal digits_of
 largest = refl
 
 -- one block, which returns place 0, with no span
@@ -28,9 +28,9 @@ sample span = record {
   identifiers = (1 ∷ []) ∷ [];
 }
 
-sample-formed : Formed (layout New) (sample (0 ∷ 0 ∷ []))
+sample_formed : Formed (layout New) (sample (0 ∷ 0 ∷ []))
 unfolding sample
-sample-formed = record {
+sample_formed = record {
   head = omega arith;
   blocks = omega arith;
   instructions = omega arith;
@@ -39,16 +39,16 @@ sample-formed = record {
   identifiers = omega arith;
 }
 
-pub sample-good : Good (layout New)
+pub sample_good : Good (layout New)
     (ascii "entry blocks instructions cases places identifiers\n0 1 0 0 1 1\nfirst count code a b c d e id from to\n0 0 3 0 0 0 0 0 7 0 0\nid lvalue code p q from to\ntest block\nidentifier\n0\nnamed\n1\n")
     (0 ∷ 1 ∷ 0 ∷ 0 ∷ 1 ∷ 1 ∷ 0 ∷ 0 ∷ 3 ∷ 0 ∷ 0 ∷ 0 ∷ 0 ∷ 0 ∷ 7 ∷ 0 ∷ 0 ∷ 0 ∷ 1 ∷ [])
-unfolding sample line lines flat decimal digitsOf
-sample-good = record { tables = sample (0 ∷ 0 ∷ []); formed = sample-formed; text = refl; word = refl }
+unfolding sample line lines flat decimal digits_of
+sample_good = record { tables = sample (0 ∷ 0 ∷ []); formed = sample_formed; text = refl; word = refl }
 
 -- the same in paper 01's form
-old-sample-formed : Formed (layout Old) (sample (0 ∷ []))
+old_sample_formed : Formed (layout Old) (sample (0 ∷ []))
 unfolding sample
-old-sample-formed = record {
+old_sample_formed = record {
   head = omega arith;
   blocks = omega arith;
   instructions = omega arith;
@@ -57,17 +57,17 @@ old-sample-formed = record {
   identifiers = omega arith;
 }
 
-old-sample-good : Good (layout Old)
+old_sample_good : Good (layout Old)
     (ascii "entry blocks instructions cases places identifiers\n0 1 0 0 1 1\nfirst count code a b c d e id span\n0 0 3 0 0 0 0 0 7 0\nid lvalue code p q span\ntest block\nidentifier\n0\nnamed\n1\n")
     (0 ∷ 1 ∷ 0 ∷ 0 ∷ 1 ∷ 1 ∷ 0 ∷ 0 ∷ 3 ∷ 0 ∷ 0 ∷ 0 ∷ 0 ∷ 0 ∷ 7 ∷ 0 ∷ 0 ∷ 1 ∷ [])
-unfolding sample line lines flat decimal digitsOf
-old-sample-good = record { tables = sample (0 ∷ []); formed = old-sample-formed; text = refl; word = refl }
+unfolding sample line lines flat decimal digits_of
+old_sample_good = record { tables = sample (0 ∷ []); formed = old_sample_formed; text = refl; word = refl }
 
-pub sample-printed : printed 0 0 2 1 (22 ∷ 0 ∷ 7 ∷ 0 ∷ 0 ∷ 0 ∷ 9 ∷ 1 ∷ 0 ∷ 0 ∷ 0 ∷ 0 ∷ []) ≡ ascii "code at rows visits\n0 0 2 1\nop a b c d e\n22 0 7 0 0 0\n9 1 0 0 0 0\n"
-unfolding printed treeLines rows_of line lines decimal digitsOf
-sample-printed = refl
+pub sample_printed : printed 0 0 2 1 (22 ∷ 0 ∷ 7 ∷ 0 ∷ 0 ∷ 0 ∷ 9 ∷ 1 ∷ 0 ∷ 0 ∷ 0 ∷ 0 ∷ []) ≡ ascii "code at rows visits\n0 0 2 1\nop a b c d e\n22 0 7 0 0 0\n9 1 0 0 0 0\n"
+unfolding printed tree_lines rows_of line lines decimal digits_of
+sample_printed = refl
 
 -- a refusal has two lines
-refusal-printed : printed 40 0 2 1 [] ≡ ascii "code at rows visits\n40 0 2 1\n"
-unfolding printed treeLines line decimal digitsOf
-refusal-printed = refl
+refusal_printed : printed 40 0 2 1 [] ≡ ascii "code at rows visits\n40 0 2 1\n"
+unfolding printed tree_lines line decimal digits_of
+refusal_printed = refl

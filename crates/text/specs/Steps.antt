@@ -18,7 +18,7 @@ pub record Stopped (root : Form) (file : List ℕ) (at : ℕ) : Type 0 where
   pub rest : List ℕ
   pub words : List ℕ
   pub viable : Text root (take at file ++ rest) words
-  pub no-further : at < length file → (bytes all : List ℕ) → Text root (take (at + 1) file ++ bytes) all → ⊥
+  pub no_further : at < length file → (bytes all : List ℕ) → Text root (take (at + 1) file ++ bytes) all → ⊥
   pub not_good : (all : List ℕ) → Text root file all → ⊥
 
 -- a digit's value, and 10 for any other byte
@@ -40,8 +40,8 @@ pub record Extended (value byte r : ℕ) : Type 0 where
   pub more : r < 2 ^ 32 → (digit : ℕ) × (r ≡ value * 10 + digit) × Follows value byte digit
   pub none : r ≡ 2 ^ 32 → (digit : ℕ) → Follows value byte digit → ⊥
 
-abbrev pub numberRefused : ℕ → Number
-numberRefused at = record { refused = true; at = at; value = 0 }
+abbrev pub number_refused : ℕ → Number
+number_refused at = record { refused = true; at = at; value = 0 }
 
 -- what reading a number with its end gives, from `at` on
 pub record NumberRead (file : List ℕ) (at : ℕ) (last : Bool) (r : Number) : Type 0 where
@@ -101,8 +101,8 @@ pub record FileRead (f : Layout) (file : List ℕ) (r : Cursor) (buffer : List �
   pub stopped : r.refused ≡ true → Stopped (whole f) file r.at
   pub reached : r.refused ≡ false → (words : List ℕ) × Text (whole f) file words × Holds buffer r.count words
 
-abbrev pub cursorRefused : ℕ → Cursor
-cursorRefused at = record { refused = true; at = at; count = 0 }
+abbrev pub cursor_refused : ℕ → Cursor
+cursor_refused at = record { refused = true; at = at; count = 0 }
 
-abbrev pub cursorAt : ℕ → ℕ → Cursor
-cursorAt at count = record { refused = false; at = at; count = count }
+abbrev pub cursor_at : ℕ → ℕ → Cursor
+cursor_at at count = record { refused = false; at = at; count = count }

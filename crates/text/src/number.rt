@@ -1,7 +1,7 @@
 // Numbers, and the bytes that end them.
 ghost use Rattle.std.specs.Prelude.{◌≡◌, ◌≤◌, length};
 ghost use Rattle.text.specs.Form.{ending};
-ghost use Rattle.text.specs.Steps.{Digit, Extended, NumberRead, numberRefused};
+ghost use Rattle.text.specs.Steps.{Digit, Extended, NumberRead, number_refused};
 
 // A number that was read, and the byte after its end; or the byte that it is refused at.
 #[derive(Drop)]
@@ -47,7 +47,7 @@ pub fn ending_byte(last: bool) -> u8
 }
 
 fn number_refused(at: usize) -> Number
-    ensures { result ≡ numberRefused at }
+    ensures { result ≡ number_refused at }
 {
     Number {
         refused: true,

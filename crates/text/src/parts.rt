@@ -1,8 +1,8 @@
 // The file from its first line to its end: lines of names, rows, tables.
 ghost use Rattle.std.specs.Prelude.{◌≡◌, length};
-ghost use Rattle.text.specs.Layout.{layout, blockColumns, instructionColumns};
+ghost use Rattle.text.specs.Layout.{layout, block_columns, instruction_columns};
 ghost use Rattle.text.specs.Form.{rows, table, tables};
-ghost use Rattle.text.specs.Steps.{Near, NamesRead, PartRead, RowRead, HeadRead, FileRead, cursorAt, cursorRefused};
+ghost use Rattle.text.specs.Steps.{Near, NamesRead, PartRead, RowRead, HeadRead, FileRead, cursor_at, cursor_refused};
 
 use crate::lent::{put_word, put_words};
 use crate::number::read_number;
@@ -17,7 +17,7 @@ pub struct Cursor {
 }
 
 fn cursor_at(at: usize, count: usize) -> Cursor
-    ensures { result ≡ cursorAt at count }
+    ensures { result ≡ cursor_at at count }
 {
     Cursor {
         refused: false,
@@ -27,7 +27,7 @@ fn cursor_at(at: usize, count: usize) -> Cursor
 }
 
 fn cursor_refused(at: usize) -> Cursor
-    ensures { result ≡ cursorRefused at }
+    ensures { result ≡ cursor_refused at }
 {
     Cursor {
         refused: true,
@@ -120,7 +120,7 @@ fn read_table(
 // Reads the table of blocks.
 fn read_blocks(file: &[u8], from: Cursor, version: Version, lines: u32, words: &mut [u32]) -> Cursor
     requires { Near file.now from }
-    ensures { PartRead file.now (table (blockColumns version).names (blockColumns version).width lines) from words.old result words.new }
+    ensures { PartRead file.now (table (block_columns version).names (block_columns version).width lines) from words.old result words.new }
 {
     match version {
         Version::Old => read_table(
@@ -151,7 +151,7 @@ fn read_instructions(
     words: &mut [u32],
 ) -> Cursor
     requires { Near file.now from }
-    ensures { PartRead file.now (table (instructionColumns version).names (instructionColumns version).width lines) from words.old result words.new }
+    ensures { PartRead file.now (table (instruction_columns version).names (instruction_columns version).width lines) from words.old result words.new }
 {
     match version {
         Version::Old => read_table(file, from, b"id lvalue code p q span\n", 6, lines, words),

@@ -1,6 +1,6 @@
 ghost use Rattle.std.specs.Prelude.{◌≡◌, length};
 ghost use Rattle.text.specs.Layout.{layout};
-ghost use Rattle.text.specs.Reading.{reading, readInto};
+ghost use Rattle.text.specs.Reading.{reading, read_into};
 ghost use Rattle.text.specs.declared.version.Version.TheVariants.{New};
 
 use crate::lent::clear_words;
@@ -20,7 +20,7 @@ pub enum Answer {
 
 // Reads a file of this form: its words into the lent ones, then zeros. In any other case the lent words are all zeros.
 pub fn read_as(file: &[u8], version: Version, words: &mut [u32]) -> Answer
-    ensures { record { answer = result; lent = words.new } ≡ readInto (length words.old) (reading (layout version) file.now) }
+    ensures { record { answer = result; lent = words.new } ≡ read_into (length words.old) (reading (layout version) file.now) }
 {
     if 32768 < file.len() {
         clear_words(words, 0);
@@ -44,7 +44,7 @@ pub fn read_as(file: &[u8], version: Version, words: &mut [u32]) -> Answer
 
 // Reads a file of the form of today.
 pub fn read(file: &[u8], words: &mut [u32]) -> Answer
-    ensures { record { answer = result; lent = words.new } ≡ readInto (length words.old) (reading (layout New) file.now) }
+    ensures { record { answer = result; lent = words.new } ≡ read_into (length words.old) (reading (layout New) file.now) }
 {
     read_as(file, Version::New, words)
 }

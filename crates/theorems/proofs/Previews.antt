@@ -8,8 +8,8 @@ use denote.Ref.{Bor}
 use Rattle.definition.specs.Around.{Rule, rust, language}
 use Rattle.definition.specs.Build.{refusal, built}
 use Rattle.definition.specs.Build as definition
-use Rattle.definition.specs.Preview.{Preview, previewed, numbersOf}
-use Rattle.definition.proofs.Preview.{preview-numbers, preview-code, preview-40, preview-41}
+use Rattle.definition.specs.Preview.{Preview, previewed, numbers_of}
+use Rattle.definition.proofs.Preview.{preview_numbers, preview_code, preview_40, preview_41}
 use Rattle.build.specs.Entry.{outcome}
 use Rattle.walk.specs.declared.Outcome.{Outcome}
 use Rattle.preview.specs.Entry.{numbers}
@@ -28,42 +28,42 @@ use Rattle.preview.proofs.reactive_preview_language.Reads as language-export
 
 -- ---- the entries: the words alone in, and nothing is asked
 
-pub preview-meets-its-contract : {M : Type 1} → stated.statement M
-preview-meets-its-contract = proved.met
+pub preview_meets_its_contract : {M : Type 1} → stated.statement M
+preview_meets_its_contract = proved.met
 
-pub the-language-preview-meets-its-contract : {M : Type 1} → language-stated.statement M
-the-language-preview-meets-its-contract = language-proved.met
+pub the_language_preview_meets_its_contract : {M : Type 1} → language_stated.statement M
+the_language_preview_meets_its_contract = language_proved.met
 
-pub the-preview-export-meets-its-contract : {M : Type 1} → export-stated.statement M
-the-preview-export-meets-its-contract = export-proved.met
+pub the_preview_export_meets_its_contract : {M : Type 1} → export_stated.statement M
+the_preview_export_meets_its_contract = export_proved.met
 
-pub the-language-preview-export-meets-its-contract : {M : Type 1} → language-export-stated.statement M
-the-language-preview-export-meets-its-contract = language-export-proved.met
+pub the_language_preview_export_meets_its_contract : {M : Type 1} → language_export_stated.statement M
+the_language_preview_export_meets_its_contract = language_export_proved.met
 
 abbrev pub Lent : Type 0
 Lent = Bor (List ℕ) × Unit {0}
 
-pub preview-asks-nothing : (κs : Lfts 1) (before : Lent) → entry.Asked κs before
-preview-asks-nothing κs before = tt
+pub preview_asks_nothing : (κs : Lfts 1) (before : Lent) → entry.Asked κs before
+preview_asks_nothing κs before = tt
 
-pub preview-gives-the-definition : (κs : Lfts 1) (before after : Lent) (answer : Outcome) → entry.Learnt κs before answer after → numbers answer ≡ previewed rust before.0.now
-preview-gives-the-definition κs before after answer learnt = learnt
+pub preview_gives_the_definition : (κs : Lfts 1) (before after : Lent) (answer : Outcome) → entry.Learnt κs before answer after → numbers answer ≡ previewed rust before.0.now
+preview_gives_the_definition κs before after answer learnt = learnt
 
-pub the-language-preview-asks-nothing : (κs : Lfts 1) (before : Lent) → language-entry.Asked κs before
-the-language-preview-asks-nothing κs before = tt
+pub the_language_preview_asks_nothing : (κs : Lfts 1) (before : Lent) → language_entry.Asked κs before
+the_language_preview_asks_nothing κs before = tt
 
-pub the-language-preview-gives-the-definition : (κs : Lfts 1) (before after : Lent) (answer : Outcome) → language-entry.Learnt κs before answer after
+pub the_language_preview_gives_the_definition : (κs : Lfts 1) (before after : Lent) (answer : Outcome) → language_entry.Learnt κs before answer after
     → numbers answer ≡ previewed language before.0.now
-the-language-preview-gives-the-definition κs before after answer learnt = learnt
+the_language_preview_gives_the_definition κs before after answer learnt = learnt
 
 -- the export's references: the words, at, rows, visits and lines
 abbrev pub LentWithAnswer : Type 0
 LentWithAnswer = Bor (List ℕ) × (Bor ℕ × (Bor ℕ × (Bor ℕ × (Bor ℕ × Unit {0}))))
 
-pub the-preview-export-asks-nothing : (κs : Lfts 5) (before : LentWithAnswer) → export.Asked κs before
-the-preview-export-asks-nothing κs before = tt
+pub the_preview_export_asks_nothing : (κs : Lfts 5) (before : LentWithAnswer) → export.Asked κs before
+the_preview_export_asks_nothing κs before = tt
 
-pub the-preview-export-gives-the-definition : (κs : Lfts 5) (before after : LentWithAnswer) (code : ℕ) → export.Learnt κs before code after
+pub the_preview_export_gives_the_definition : (κs : Lfts 5) (before after : LentWithAnswer) (code : ℕ) → export.Learnt κs before code after
     → record {
       code = code;
       at = after.1.0.now;
@@ -71,12 +71,12 @@ pub the-preview-export-gives-the-definition : (κs : Lfts 5) (before after : Len
       visits = after.1.1.1.0.now;
       lines = after.1.1.1.1.0.now;
     } ≡ previewed rust before.0.now
-the-preview-export-gives-the-definition κs before after code learnt = learnt
+the_preview_export_gives_the_definition κs before after code learnt = learnt
 
-pub the-language-preview-export-asks-nothing : (κs : Lfts 5) (before : LentWithAnswer) → language-export.Asked κs before
-the-language-preview-export-asks-nothing κs before = tt
+pub the_language_preview_export_asks_nothing : (κs : Lfts 5) (before : LentWithAnswer) → language_export.Asked κs before
+the_language_preview_export_asks_nothing κs before = tt
 
-pub the-language-preview-export-gives-the-definition : (κs : Lfts 5) (before after : LentWithAnswer) (code : ℕ) → language-export.Learnt κs before code after
+pub the_language_preview_export_gives_the_definition : (κs : Lfts 5) (before after : LentWithAnswer) (code : ℕ) → language_export.Learnt κs before code after
     → record {
       code = code;
       at = after.1.0.now;
@@ -84,42 +84,42 @@ pub the-language-preview-export-gives-the-definition : (κs : Lfts 5) (before af
       visits = after.1.1.1.0.now;
       lines = after.1.1.1.1.0.now;
     } ≡ previewed language before.0.now
-the-language-preview-export-gives-the-definition κs before after code learnt = learnt
+the_language_preview_export_gives_the_definition κs before after code learnt = learnt
 
 -- ---- a preview and a build of the same words, in either entry
 
 -- `told` and `ensured` are what the two calls learn
 module _ (rule : Rule) (words tree index tree' index' : List ℕ) (preview answer : Outcome) (told : numbers preview ≡ previewed rule words)
     (ensured : outcome answer tree' index' ≡ built rule words (length tree) (length index)) where
-  fewer-rows : (P : ℕ → Type 0) → P preview.rows → P (previewed rule words).rows
-  fewer-rows P h = subst (λ (p : Preview). P p.rows) told h
+  fewer_rows : (P : ℕ → Type 0) → P preview.rows → P (previewed rule words).rows
+  fewer_rows P h = subst (λ (p : Preview). P p.rows) told h
 
-  fewer-lines : (P : ℕ → Type 0) → P preview.lines → P (previewed rule words).lines
-  fewer-lines P h = subst (λ (p : Preview). P p.lines) told h
+  fewer_lines : (P : ℕ → Type 0) → P preview.lines → P (previewed rule words).lines
+  fewer_lines P h = subst (λ (p : Preview). P p.lines) told h
 
   -- "For every input these equal what the build gives on a copy with both buffers large enough": the five numbers
-  pub the-preview-is-the-build's : preview.rows ≤ length tree / 6 → preview.lines ≤ length index / 3 → numbers answer ≡ numbers preview
-  the-preview-is-the-build's h k =
-      ap (λ (o : definition.Outcome). numbersOf o) ensured
-      ∙ preview-numbers rule words (length tree) (length index) (fewer-rows (λ n. n ≤ length tree / 6) h) (fewer-lines (λ n. n ≤ length index / 3) k)
+  pub the_preview_is_the_build's : preview.rows ≤ length tree / 6 → preview.lines ≤ length index / 3 → numbers answer ≡ numbers preview
+  the_preview_is_the_build's h k =
+      ap (λ (o : definition.Outcome). numbers_of o) ensured
+      ∙ preview_numbers rule words (length tree) (length index) (fewer_rows (λ n. n ≤ length tree / 6) h) (fewer_lines (λ n. n ≤ length index / 3) k)
       ∙ sym told
 
   -- with fewer places for rows the build is 40, with the preview's rows and visits, and zeros in both buffers
-  pub with-fewer-rows-40 : length tree / 6 < preview.rows
+  pub with_fewer_rows_40 : length tree / 6 < preview.rows
       → outcome answer tree' index' ≡ refusal 40 0 preview.rows preview.visits (length tree) (length index)
-  with-fewer-rows-40 h =
+  with_fewer_rows_40 h =
       ensured
-      ∙ preview-40 rule words (length tree) (length index) (fewer-rows (λ n. length tree / 6 < n) h)
+      ∙ preview_40 rule words (length tree) (length index) (fewer_rows (λ n. length tree / 6 < n) h)
       ∙ ap (λ (p : Preview). refusal 40 0 p.rows p.visits (length tree) (length index)) (sym told)
 
   -- else with fewer for lines 41
-  pub with-fewer-lines-41 : preview.rows ≤ length tree / 6 → length index / 3 < preview.lines
+  pub with_fewer_lines_41 : preview.rows ≤ length tree / 6 → length index / 3 < preview.lines
       → outcome answer tree' index' ≡ refusal 41 0 0 preview.visits (length tree) (length index)
-  with-fewer-lines-41 h k =
+  with_fewer_lines_41 h k =
       ensured
-      ∙ preview-41 rule words (length tree) (length index) (fewer-rows (λ n. n ≤ length tree / 6) h) (fewer-lines (λ n. length index / 3 < n) k)
+      ∙ preview_41 rule words (length tree) (length index) (fewer_rows (λ n. n ≤ length tree / 6) h) (fewer_lines (λ n. length index / 3 < n) k)
       ∙ ap (λ (p : Preview). refusal 41 0 0 p.visits (length tree) (length index)) (sym told)
 
 -- "that 40 and 41 don't occur here is proved": no code of a preview is above 31
-pub a-preview-is-never-40-or-41 : (rule : Rule) (words : List ℕ) → (previewed rule words).code ≤ 31
-a-preview-is-never-40-or-41 = preview-code
+pub a_preview_is_never_40_or_41 : (rule : Rule) (words : List ℕ) → (previewed rule words).code ≤ 31
+a_preview_is_never_40_or_41 = preview_code

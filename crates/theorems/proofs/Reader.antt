@@ -13,46 +13,46 @@ use Rattle.text.specs.Layout.{layout}
 use Rattle.text.specs.Lent.{padded}
 use Rattle.text.specs.Reading.{reads, refuses, reading}
 use Rattle.text.specs.declared.version.Version.TheVariants.{New}
-use Rattle.text.proofs.ReadingLaws.{accepted-reads, refusal-refuses}
-use Rattle.convert.specs.Write.{tableText}
-use Rattle.convert.specs.Read.{tableRead}
-use Rattle.convert.proofs.PlacedLaws.{good-read}
-use Rattle.convert.proofs.RoomLaws.{half-enough, most-enough}
+use Rattle.text.proofs.ReadingLaws.{accepted_reads, refusal_refuses}
+use Rattle.convert.specs.Write.{table_text}
+use Rattle.convert.specs.Read.{table_read}
+use Rattle.convert.proofs.PlacedLaws.{good_read}
+use Rattle.convert.proofs.RoomLaws.{half_enough, most_enough}
 use Rattle.convert.proofs.table_read.table_read.Statement as read-export-stated
 use Rattle.convert.proofs.table_read.table_read.Met as read-export-proved
 use Rattle.convert.proofs.table_read.table_read.Reads as read-export
-use Rattle.theorems.proofs.Requests.{the-writers-text-is-the-good-file}
+use Rattle.theorems.proofs.Requests.{the_writers_text_is_the_good_file}
 
-pub table-read-meets-its-contract : {M : Type 1} → read-export-stated.statement M
-table-read-meets-its-contract = read-export-proved.met
+pub table_read_meets_its_contract : {M : Type 1} → read_export_stated.statement M
+table_read_meets_its_contract = read_export_proved.met
 
 -- a call's references, before or after it: the file, the lent words, at and the number of words
 abbrev pub FileAndWords : Type 0
 FileAndWords = Bor (List ℕ) × (Bor (List ℕ) × (Bor ℕ × (Bor ℕ × Unit {0})))
 
-pub table-read-asks-nothing : (κs : Lfts 4) (before : FileAndWords) → read-export.Asked κs before
-table-read-asks-nothing κs before = tt
+pub table_read_asks_nothing : (κs : Lfts 4) (before : FileAndWords) → read_export.Asked κs before
+table_read_asks_nothing κs before = tt
 
-pub table-read-gives-the-definition : (κs : Lfts 4) (before after : FileAndWords) (code : ℕ) → read-export.Learnt κs before code after
-    → record { code = code; at = after.1.1.0.now; count = after.1.1.1.0.now; lent = after.1.0.now } ≡ tableRead before.0.now (length before.1.0.now)
-table-read-gives-the-definition κs before after code learnt = learnt
+pub table_read_gives_the_definition : (κs : Lfts 4) (before after : FileAndWords) (code : ℕ) → read_export.Learnt κs before code after
+    → record { code = code; at = after.1.1.0.now; count = after.1.1.1.0.now; lent = after.1.0.now } ≡ table_read before.0.now (length before.1.0.now)
+table_read_gives_the_definition κs before after code learnt = learnt
 
 -- what the file reads as, in that definition, with no reader in it: a good file its words, any other its refusal and place (text/specs/Answer)
-pub a-good-file-reads-as-its-words : (file words : List ℕ) → Accepted (layout New) file words → reading (layout New) file ≡ reads words
-a-good-file-reads-as-its-words = accepted-reads (layout New)
+pub a_good_file_reads_as_its_words : (file words : List ℕ) → Accepted (layout New) file words → reading (layout New) file ≡ reads words
+a_good_file_reads_as_its_words = accepted_reads (layout New)
 
-pub any-other-file-reads-as-its-refusal : (file : List ℕ) (code at : ℕ) → Refusal (layout New) file code at → reading (layout New) file ≡ refuses code at
-any-other-file-reads-as-its-refusal = refusal-refuses (layout New)
+pub any_other_file_reads_as_its_refusal : (file : List ℕ) (code at : ℕ) → Refusal (layout New) file code at → reading (layout New) file ≡ refuses code at
+any_other_file_reads_as_its_refusal = refusal_refuses (layout New)
 
 -- 54 does not come where half as many words are lent as the file has bytes, nor where 16,384 are
-pub half-as-many-words-are-enough : (file : List ℕ) (room : ℕ) → length file ≤ room * 2 + 1 → (tableRead file room).code ≡ 54 → ⊥
-half-as-many-words-are-enough = half-enough
+pub half_as_many_words_are_enough : (file : List ℕ) (room : ℕ) → length file ≤ room * 2 + 1 → (table_read file room).code ≡ 54 → ⊥
+half_as_many_words_are_enough = half_enough
 
-pub words-enough-for-any-file : (file : List ℕ) (room : ℕ) → 16384 ≤ room → (tableRead file room).code ≡ 54 → ⊥
-words-enough-for-any-file = most-enough
+pub words_enough_for_any_file : (file : List ℕ) (room : ℕ) → 16384 ≤ room → (table_read file room).code ≡ 54 → ⊥
+words_enough_for_any_file = most_enough
 
 -- the writer's text of words of 32 bits with no refusal 1 to 4 is read as these words, where it is not too long to be read
-pub what-is-written-is-read-back : (words : List ℕ) → checked words ≡ accepted → ((i : ℕ) → get_or words i 0 < 2 ^ 32) → length (tableText words) ≤ 32768
-    → (room : ℕ) → length words ≤ room → tableRead (tableText words) room ≡ record { code = 0; at = 0; count = length words; lent = padded room words }
-what-is-written-is-read-back words passed narrow short room =
-    good-read (tableText words) room words (record { short = short; good = (the-writers-text-is-the-good-file words passed narrow).0 })
+pub what_is_written_is_read_back : (words : List ℕ) → checked words ≡ accepted → ((i : ℕ) → get_or words i 0 < 2 ^ 32) → length (table_text words) ≤ 32768
+    → (room : ℕ) → length words ≤ room → table_read (table_text words) room ≡ record { code = 0; at = 0; count = length words; lent = padded room words }
+what_is_written_is_read_back words passed narrow short room =
+    good_read (table_text words) room words (record { short = short; good = (the_writers_text_is_the_good_file words passed narrow).0 })

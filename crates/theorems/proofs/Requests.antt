@@ -27,35 +27,35 @@ use Rattle.control.specs.declared.ControlFlowTarget.{ControlFlowTarget}
 use Rattle.definition.specs.Context.{schedule, unschedule}
 use Rattle.definition.specs.Around.{language}
 use Rattle.definition.specs.Build.{built}
-use Rattle.definition.specs.Plain.{with-switch, Plain}
+use Rattle.definition.specs.Plain.{with_switch, Plain}
 use Rattle.definition.specs.PlainLoops.{PlainLoops}
 use Rattle.definition.specs.Tree.{Statements, rows}
-use Rattle.definition.specs.TreeRun.{treeRun}
+use Rattle.definition.specs.TreeRun.{tree_run}
 use Rattle.definition.specs.Run.{Answers}
 use Rattle.definition.specs.RunLaw.{Spoken, SwitchLaw}
 use Rattle.tree_grammar.specs.Grammar.{Answer}
 use Rattle.tree_runs.specs.Given.{RunGives, run_of}
-use Rattle.tree_runs.specs.Ran.{Outcome, refusal, firstNotRun, ended, ran}
+use Rattle.tree_runs.specs.Ran.{Outcome, refusal, first_not_run, ended, ran}
 use Rattle.tree_runs.specs.Numbered.{numbered}
-use Rattle.tree_runs.proofs.OneOutcome.{one-outcome, is-given}
-use Rattle.tree_runs.proofs.SwitchRuns.{the_law, runner-gives, runner-does, never-63-64}
+use Rattle.tree_runs.proofs.OneOutcome.{one_outcome, is_given}
+use Rattle.tree_runs.proofs.SwitchRuns.{the_law, runner_gives, runner_does, never_63_64}
 use Rattle.tree_runs.proofs.LoopRuns as loops
 use Rattle.tree_run.specs.declared.Ran.{Ran}
-use Rattle.tree_run.specs.Holds.{outcomeOf}
+use Rattle.tree_run.specs.Holds.{outcome_of}
 use Rattle.lookup.specs.Lookup.{found, looked}
 use Rattle.lookup.specs.declared.Found.{Found}
 use Rattle.dot.specs.Dot.{drawn}
-use Rattle.convert.specs.Write.{tableText, tableWritten}
-use Rattle.convert.proofs.GoodLaws.{text-good, good-is-text}
-use Rattle.convert.proofs.TextLaws.{sized-shaped}
-use Rattle.convert.specs.OldCheck.{oldChecked}
+use Rattle.convert.specs.Write.{table_text, table_written}
+use Rattle.convert.proofs.GoodLaws.{text_good, good_is_text}
+use Rattle.convert.proofs.TextLaws.{sized_shaped}
+use Rattle.convert.specs.OldCheck.{old_checked}
 use Rattle.convert.specs.Widen.{widened}
-use Rattle.convert.specs.Convert.{Converted, newOfOld, oldOfNew, oldToNew, newToOld, spansVerdict, oldText, textOfAnswer, wholly}
-use Rattle.convert.proofs.OneAnswer.{converted-so, converted-one}
-use Rattle.convert.proofs.RoundTrip.{new-wholly, old-wholly}
-use Rattle.convert.proofs.Trips.{old-again, new-again}
+use Rattle.convert.specs.Convert.{Converted, new_of_old, old_of_new, old_to_new, new_to_old, spans_verdict, old_text, text_of_answer, wholly}
+use Rattle.convert.proofs.OneAnswer.{converted_so, converted_one}
+use Rattle.convert.proofs.RoundTrip.{new_wholly, old_wholly}
+use Rattle.convert.proofs.Trips.{old_again, new_again}
 use Rattle.theorems.specs.Stops.{Stops}
-use Rattle.theorems.proofs.RunReasons.{tree-stops, only-before-running}
+use Rattle.theorems.proofs.RunReasons.{tree_stops, only_before_running}
 use Rattle.dot.proofs.dot.Statement as dot-stated
 use Rattle.dot.proofs.dot.Met as dot-proved
 use Rattle.dot.proofs.dot.Reads as dot-entry
@@ -114,228 +114,228 @@ LentWithAnswer = Bor (List ℕ) × (Bor (List ℕ) × (Bor ℕ × (Bor ℕ × Un
 
 -- ---- M-109: one way to schedule. The operation's promise is one equation for every target and Context: the stack and the set handed back, or 15
 
-pub schedule-meets-its-contract : {M : Type 1} → schedule-stated.statement M
-schedule-meets-its-contract = schedule-proved.met
+pub schedule_meets_its_contract : {M : Type 1} → schedule_stated.statement M
+schedule_meets_its_contract = schedule_proved.met
 
-pub unschedule-meets-its-contract : {M : Type 1} → unschedule-stated.statement M
-unschedule-meets-its-contract = unschedule-proved.met
+pub unschedule_meets_its_contract : {M : Type 1} → unschedule_stated.statement M
+unschedule_meets_its_contract = unschedule_proved.met
 
 -- it asks that the target's blocks are among the 1,024, and room for one entry and its id; a call learns the definition's stack and set, or 15
 abbrev pub Scheduling : Type 0
 Scheduling = Context × (ControlFlowTarget × Unit {0})
 
-pub schedule-asks-for-room-alone : (κs : Lfts 0) (before : Scheduling) → Named before.1.0 → Room before.0 → schedule-entry.Asked κs before
-schedule-asks-for-room-alone κs before named room = (named, room)
+pub schedule_asks_for_room_alone : (κs : Lfts 0) (before : Scheduling) → Named before.1.0 → Room before.0 → schedule_entry.Asked κs before
+schedule_asks_for_room_alone κs before named room = (named, room)
 
-pub schedule-gives-the-definition : (κs : Lfts 0) (before after : Scheduling) (answer : Context) → schedule-entry.Learnt κs before answer after → (visits : ℕ)
+pub schedule_gives_the_definition : (κs : Lfts 0) (before after : Scheduling) (answer : Context) → schedule_entry.Learnt κs before answer after → (visits : ℕ)
     → schedule (target_of before.1.0) (context_of visits before.0) ≡ result_of visits answer
-schedule-gives-the-definition κs before after answer learnt = let promised : Scheduled before.1.0 before.0 answer = learnt in promised.context
+schedule_gives_the_definition κs before after answer learnt = let promised : Scheduled before.1.0 before.0 answer = learnt in promised.context
 
 -- it asks for the stack's last entry, which it takes off
 abbrev pub Unscheduling : Type 0
 Unscheduling = Context × (Entry × Unit {0})
 
-pub unschedule-asks-for-the-last-entry-alone : (κs : Lfts 0) (before : Unscheduling) → Last before.0 before.1.0 → unschedule-entry.Asked κs before
-unschedule-asks-for-the-last-entry-alone κs before last = last
+pub unschedule_asks_for_the_last_entry_alone : (κs : Lfts 0) (before : Unscheduling) → Last before.0 before.1.0 → unschedule_entry.Asked κs before
+unschedule_asks_for_the_last_entry_alone κs before last = last
 
-pub unschedule-gives-the-definition : (κs : Lfts 0) (before after : Unscheduling) (answer : Context) → unschedule-entry.Learnt κs before answer after → (visits : ℕ)
+pub unschedule_gives_the_definition : (κs : Lfts 0) (before after : Unscheduling) (answer : Context) → unschedule_entry.Learnt κs before answer after → (visits : ℕ)
     → unschedule before.1.0.id (context_of visits before.0) ≡ ok (context_of visits answer)
-unschedule-gives-the-definition κs before after answer learnt = let promised : Unscheduled before.1.0 before.0 answer = learnt in promised.context
+unschedule_gives_the_definition κs before after answer learnt = let promised : Unscheduled before.1.0 before.0 answer = learnt in promised.context
 
 -- ---- M-110: draw the blocks
 
-pub dot-meets-its-contract : {M : Type 1} → dot-stated.statement M
-dot-meets-its-contract = dot-proved.met
+pub dot_meets_its_contract : {M : Type 1} → dot_stated.statement M
+dot_meets_its_contract = dot_proved.met
 
-pub dot-asks-nothing : (κs : Lfts 2) (before : Lent) → dot-entry.Asked κs before
-dot-asks-nothing κs before = tt
+pub dot_asks_nothing : (κs : Lfts 2) (before : Lent) → dot_entry.Asked κs before
+dot_asks_nothing κs before = tt
 
-pub dot-gives-the-definition : (κs : Lfts 2) (before after : Lent) (answer : Placed) → dot-entry.Learnt κs before answer after
+pub dot_gives_the_definition : (κs : Lfts 2) (before after : Lent) (answer : Placed) → dot_entry.Learnt κs before answer after
     → placing answer after.1.0.now ≡ drawn before.0.now (length before.1.0.now)
-dot-gives-the-definition κs before after answer learnt = learnt
+dot_gives_the_definition κs before after answer learnt = learnt
 
-pub blocks-to-dot-meets-its-contract : {M : Type 1} → dot-export-stated.statement M
-blocks-to-dot-meets-its-contract = dot-export-proved.met
+pub blocks_to_dot_meets_its_contract : {M : Type 1} → dot_export_stated.statement M
+blocks_to_dot_meets_its_contract = dot_export_proved.met
 
-pub blocks-to-dot-asks-nothing : (κs : Lfts 4) (before : LentWithAnswer) → dot-export.Asked κs before
-blocks-to-dot-asks-nothing κs before = tt
+pub blocks_to_dot_asks_nothing : (κs : Lfts 4) (before : LentWithAnswer) → dot_export.Asked κs before
+blocks_to_dot_asks_nothing κs before = tt
 
-pub blocks-to-dot-gives-the-definition : (κs : Lfts 4) (before after : LentWithAnswer) (code : ℕ) → dot-export.Learnt κs before code after
+pub blocks_to_dot_gives_the_definition : (κs : Lfts 4) (before after : LentWithAnswer) (code : ℕ) → dot_export.Learnt κs before code after
     → record { code = code; at = after.1.1.0.now; length = after.1.1.1.0.now; buffer = after.1.0.now } ≡ drawn before.0.now (length before.1.0.now)
-blocks-to-dot-gives-the-definition κs before after code learnt = learnt
+blocks_to_dot_gives_the_definition κs before after code learnt = learnt
 
 -- ---- M-112: old files into the new form and back
 
-pub write-table-meets-its-contract : {M : Type 1} → write-stated.statement M
-write-table-meets-its-contract = write-proved.met
+pub write_table_meets_its_contract : {M : Type 1} → write_stated.statement M
+write_table_meets_its_contract = write_proved.met
 
-pub write-table-asks-nothing : (κs : Lfts 2) (before : Lent) → write-entry.Asked κs before
-write-table-asks-nothing κs before = tt
+pub write_table_asks_nothing : (κs : Lfts 2) (before : Lent) → write_entry.Asked κs before
+write_table_asks_nothing κs before = tt
 
-pub write-table-gives-the-definition : (κs : Lfts 2) (before after : Lent) (answer : Placed) → write-entry.Learnt κs before answer after
-    → placing answer after.1.0.now ≡ tableWritten before.0.now (length before.1.0.now)
-write-table-gives-the-definition κs before after answer learnt = learnt
+pub write_table_gives_the_definition : (κs : Lfts 2) (before after : Lent) (answer : Placed) → write_entry.Learnt κs before answer after
+    → placing answer after.1.0.now ≡ table_written before.0.now (length before.1.0.now)
+write_table_gives_the_definition κs before after answer learnt = learnt
 
-pub table-write-meets-its-contract : {M : Type 1} → write-export-stated.statement M
-table-write-meets-its-contract = write-export-proved.met
+pub table_write_meets_its_contract : {M : Type 1} → write_export_stated.statement M
+table_write_meets_its_contract = write_export_proved.met
 
-pub table-write-asks-nothing : (κs : Lfts 4) (before : LentWithAnswer) → write-export.Asked κs before
-table-write-asks-nothing κs before = tt
+pub table_write_asks_nothing : (κs : Lfts 4) (before : LentWithAnswer) → write_export.Asked κs before
+table_write_asks_nothing κs before = tt
 
-pub table-write-gives-the-definition : (κs : Lfts 4) (before after : LentWithAnswer) (code : ℕ) → write-export.Learnt κs before code after
-    → record { code = code; at = after.1.1.0.now; length = after.1.1.1.0.now; buffer = after.1.0.now } ≡ tableWritten before.0.now (length before.1.0.now)
-table-write-gives-the-definition κs before after code learnt = learnt
+pub table_write_gives_the_definition : (κs : Lfts 4) (before after : LentWithAnswer) (code : ℕ) → write_export.Learnt κs before code after
+    → record { code = code; at = after.1.1.0.now; length = after.1.1.1.0.now; buffer = after.1.0.now } ≡ table_written before.0.now (length before.1.0.now)
+table_write_gives_the_definition κs before after code learnt = learnt
 
-pub old-to-new-meets-its-contract : {M : Type 1} → old-to-new-stated.statement M
-old-to-new-meets-its-contract = old-to-new-proved.met
+pub old_to_new_meets_its_contract : {M : Type 1} → old_to_new_stated.statement M
+old_to_new_meets_its_contract = old_to_new_proved.met
 
-pub old-to-new-asks-nothing : (κs : Lfts 2) (before : Lent) → old-to-new-entry.Asked κs before
-old-to-new-asks-nothing κs before = tt
+pub old_to_new_asks_nothing : (κs : Lfts 2) (before : Lent) → old_to_new_entry.Asked κs before
+old_to_new_asks_nothing κs before = tt
 
-pub old-to-new-gives-the-definition : (κs : Lfts 2) (before after : Lent) (answer : Placed) → old-to-new-entry.Learnt κs before answer after
-    → placing answer after.1.0.now ≡ oldToNew before.0.now (length before.1.0.now)
-old-to-new-gives-the-definition κs before after answer learnt = learnt
+pub old_to_new_gives_the_definition : (κs : Lfts 2) (before after : Lent) (answer : Placed) → old_to_new_entry.Learnt κs before answer after
+    → placing answer after.1.0.now ≡ old_to_new before.0.now (length before.1.0.now)
+old_to_new_gives_the_definition κs before after answer learnt = learnt
 
-pub table-old-to-new-meets-its-contract : {M : Type 1} → old-to-new-export-stated.statement M
-table-old-to-new-meets-its-contract = old-to-new-export-proved.met
+pub table_old_to_new_meets_its_contract : {M : Type 1} → old_to_new_export_stated.statement M
+table_old_to_new_meets_its_contract = old_to_new_export_proved.met
 
-pub table-old-to-new-asks-nothing : (κs : Lfts 4) (before : LentWithAnswer) → old-to-new-export.Asked κs before
-table-old-to-new-asks-nothing κs before = tt
+pub table_old_to_new_asks_nothing : (κs : Lfts 4) (before : LentWithAnswer) → old_to_new_export.Asked κs before
+table_old_to_new_asks_nothing κs before = tt
 
-pub table-old-to-new-gives-the-definition : (κs : Lfts 4) (before after : LentWithAnswer) (code : ℕ) → old-to-new-export.Learnt κs before code after
-    → record { code = code; at = after.1.1.0.now; length = after.1.1.1.0.now; buffer = after.1.0.now } ≡ oldToNew before.0.now (length before.1.0.now)
-table-old-to-new-gives-the-definition κs before after code learnt = learnt
+pub table_old_to_new_gives_the_definition : (κs : Lfts 4) (before after : LentWithAnswer) (code : ℕ) → old_to_new_export.Learnt κs before code after
+    → record { code = code; at = after.1.1.0.now; length = after.1.1.1.0.now; buffer = after.1.0.now } ≡ old_to_new before.0.now (length before.1.0.now)
+table_old_to_new_gives_the_definition κs before after code learnt = learnt
 
-pub new-to-old-meets-its-contract : {M : Type 1} → new-to-old-stated.statement M
-new-to-old-meets-its-contract = new-to-old-proved.met
+pub new_to_old_meets_its_contract : {M : Type 1} → new_to_old_stated.statement M
+new_to_old_meets_its_contract = new_to_old_proved.met
 
-pub new-to-old-asks-nothing : (κs : Lfts 2) (before : Lent) → new-to-old-entry.Asked κs before
-new-to-old-asks-nothing κs before = tt
+pub new_to_old_asks_nothing : (κs : Lfts 2) (before : Lent) → new_to_old_entry.Asked κs before
+new_to_old_asks_nothing κs before = tt
 
-pub new-to-old-gives-the-definition : (κs : Lfts 2) (before after : Lent) (answer : Placed) → new-to-old-entry.Learnt κs before answer after
-    → placing answer after.1.0.now ≡ newToOld before.0.now (length before.1.0.now)
-new-to-old-gives-the-definition κs before after answer learnt = learnt
+pub new_to_old_gives_the_definition : (κs : Lfts 2) (before after : Lent) (answer : Placed) → new_to_old_entry.Learnt κs before answer after
+    → placing answer after.1.0.now ≡ new_to_old before.0.now (length before.1.0.now)
+new_to_old_gives_the_definition κs before after answer learnt = learnt
 
-pub table-new-to-old-meets-its-contract : {M : Type 1} → new-to-old-export-stated.statement M
-table-new-to-old-meets-its-contract = new-to-old-export-proved.met
+pub table_new_to_old_meets_its_contract : {M : Type 1} → new_to_old_export_stated.statement M
+table_new_to_old_meets_its_contract = new_to_old_export_proved.met
 
-pub table-new-to-old-asks-nothing : (κs : Lfts 4) (before : LentWithAnswer) → new-to-old-export.Asked κs before
-table-new-to-old-asks-nothing κs before = tt
+pub table_new_to_old_asks_nothing : (κs : Lfts 4) (before : LentWithAnswer) → new_to_old_export.Asked κs before
+table_new_to_old_asks_nothing κs before = tt
 
-pub table-new-to-old-gives-the-definition : (κs : Lfts 4) (before after : LentWithAnswer) (code : ℕ) → new-to-old-export.Learnt κs before code after
-    → record { code = code; at = after.1.1.0.now; length = after.1.1.1.0.now; buffer = after.1.0.now } ≡ newToOld before.0.now (length before.1.0.now)
-table-new-to-old-gives-the-definition κs before after code learnt = learnt
+pub table_new_to_old_gives_the_definition : (κs : Lfts 4) (before after : LentWithAnswer) (code : ℕ) → new_to_old_export.Learnt κs before code after
+    → record { code = code; at = after.1.1.0.now; length = after.1.1.1.0.now; buffer = after.1.0.now } ≡ new_to_old before.0.now (length before.1.0.now)
+table_new_to_old_gives_the_definition κs before after code learnt = learnt
 
 -- what the converters give, with no reader in it: of a good file what its words give, of any other its refusal
-pub old-to-new-is-of-the-file : (file : List ℕ) (lent : ℕ) → Converted (layout Old) newOfOld file lent (oldToNew file lent)
-unfolding oldToNew
-old-to-new-is-of-the-file file lent = converted-so (layout Old) newOfOld file lent
+pub old_to_new_is_of_the_file : (file : List ℕ) (lent : ℕ) → Converted (layout Old) new_of_old file lent (old_to_new file lent)
+unfolding old_to_new
+old_to_new_is_of_the_file file lent = converted_so (layout Old) new_of_old file lent
 
-pub new-to-old-is-of-the-file : (file : List ℕ) (lent : ℕ) → Converted (layout New) oldOfNew file lent (newToOld file lent)
-unfolding newToOld
-new-to-old-is-of-the-file file lent = converted-so (layout New) oldOfNew file lent
+pub new_to_old_is_of_the_file : (file : List ℕ) (lent : ℕ) → Converted (layout New) old_of_new file lent (new_to_old file lent)
+unfolding new_to_old
+new_to_old_is_of_the_file file lent = converted_so (layout New) old_of_new file lent
 
 -- and a file and a length have one such answer, every byte of it
-pub a-conversion-has-one-answer : (f : Layout) (of : List ℕ → ℕ → Placing) (file : List ℕ) (lent : ℕ) (a b : Placing) → Converted f of file lent a → Converted f of file lent b → a ≡ b
-a-conversion-has-one-answer = converted-one
+pub a_conversion_has_one_answer : (f : Layout) (of : List ℕ → ℕ → Placing) (file : List ℕ) (lent : ℕ) (a b : Placing) → Converted f of file lent a → Converted f of file lent b → a ≡ b
+a_conversion_has_one_answer = converted_one
 
 -- "Given room, old to new to old gives again any old text that is not refused where the new one is at most 32,768 bytes": code 0 says that it is not refused and has room
-pub old-to-new-to-old : (file : List ℕ) (lent lent' : ℕ) → (oldToNew file lent).code ≡ 0 → (oldToNew file lent).length ≤ 32768 → length file ≤ lent'
-    → newToOld (textOfAnswer (oldToNew file lent)) lent' ≡ wholly lent' file
-old-to-new-to-old = old-again
+pub old_to_new_to_old : (file : List ℕ) (lent lent' : ℕ) → (old_to_new file lent).code ≡ 0 → (old_to_new file lent).length ≤ 32768 → length file ≤ lent'
+    → new_to_old (text_of_answer (old_to_new file lent)) lent' ≡ wholly lent' file
+old_to_new_to_old = old_again
 
 -- "and new to old to new gives the new text where it was possible"
-pub new-to-old-to-new : (file : List ℕ) (lent lent' : ℕ) → (newToOld file lent).code ≡ 0 → length file ≤ lent' → oldToNew (textOfAnswer (newToOld file lent)) lent' ≡ wholly lent' file
-new-to-old-to-new = new-again
+pub new_to_old_to_new : (file : List ℕ) (lent lent' : ℕ) → (new_to_old file lent).code ≡ 0 → length file ≤ lent' → old_to_new (text_of_answer (new_to_old file lent)) lent' ≡ wholly lent' file
+new_to_old_to_new = new_again
 
 -- a file that is not refused has code 0 wherever its text has room
-pub old-to-new-has-room : (file words : List ℕ) (lent : ℕ) → Accepted (layout Old) file words → oldChecked words ≡ accepted → length (tableText (widened words)) ≤ lent
-    → oldToNew file lent ≡ wholly lent (tableText (widened words))
-old-to-new-has-room = new-wholly
+pub old_to_new_has_room : (file words : List ℕ) (lent : ℕ) → Accepted (layout Old) file words → old_checked words ≡ accepted → length (table_text (widened words)) ≤ lent
+    → old_to_new file lent ≡ wholly lent (table_text (widened words))
+old_to_new_has_room = new_wholly
 
-pub new-to-old-has-room : (file words : List ℕ) (lent : ℕ) → Accepted (layout New) file words → checked words ≡ accepted → spansVerdict words ≡ accepted → length (oldText words) ≤ lent
-    → newToOld file lent ≡ wholly lent (oldText words)
-new-to-old-has-room = old-wholly
+pub new_to_old_has_room : (file words : List ℕ) (lent : ℕ) → Accepted (layout New) file words → checked words ≡ accepted → spans_verdict words ≡ accepted → length (old_text words) ≤ lent
+    → new_to_old file lent ≡ wholly lent (old_text words)
+new_to_old_has_room = old_wholly
 
 -- the writer's text of words of 32 bits with no refusal 1 to 4 is a good file with these words, and the only one: every file of that form that has them is that text
-pub the-writers-text-is-the-good-file : (words : List ℕ) → checked words ≡ accepted → ((i : ℕ) → get_or words i 0 < 2 ^ 32)
-    → Good (layout New) (tableText words) words × ((file : List ℕ) → Good (layout New) file words → file ≡ tableText words)
-the-writers-text-is-the-good-file words passed narrow =
-    (text-good New words (sized-shaped words (promised words passed).sized) narrow, λ file good. good-is-text New file words good)
+pub the_writers_text_is_the_good_file : (words : List ℕ) → checked words ≡ accepted → ((i : ℕ) → get_or words i 0 < 2 ^ 32)
+    → Good (layout New) (table_text words) words × ((file : List ℕ) → Good (layout New) file words → file ≡ table_text words)
+the_writers_text_is_the_good_file words passed narrow =
+    (text_good New words (sized_shaped words (promised words passed).sized) narrow, λ file good. good_is_text New file words good)
 
 -- ---- M-101: the lookup
 
-pub find-meets-its-contract : {M : Type 1} → find-stated.statement M
-find-meets-its-contract = find-proved.met
+pub find_meets_its_contract : {M : Type 1} → find_stated.statement M
+find_meets_its_contract = find_proved.met
 
 -- the index, its lines, the label and the tree
 abbrev pub Searched : Type 0
 Searched = Bor (List ℕ) × (ℕ × (ℕ × (Bor (List ℕ) × Unit {0})))
 
-pub find-asks-nothing : (κs : Lfts 2) (before : Searched) → find-entry.Asked κs before
-find-asks-nothing κs before = tt
+pub find_asks_nothing : (κs : Lfts 2) (before : Searched) → find_entry.Asked κs before
+find_asks_nothing κs before = tt
 
-pub find-gives-the-definition : (κs : Lfts 2) (before after : Searched) (answer : Found) → find-entry.Learnt κs before answer after
+pub find_gives_the_definition : (κs : Lfts 2) (before after : Searched) (answer : Found) → find_entry.Learnt κs before answer after
     → answer ≡ found before.0.now before.1.0 before.1.1.0 (length before.1.1.1.0.now)
-find-gives-the-definition κs before after answer learnt = learnt
+find_gives_the_definition κs before after answer learnt = learnt
 
-pub lookup-meets-its-contract : {M : Type 1} → lookup-stated.statement M
-lookup-meets-its-contract = lookup-proved.met
+pub lookup_meets_its_contract : {M : Type 1} → lookup_stated.statement M
+lookup_meets_its_contract = lookup_proved.met
 
 -- and the code and at, which are lent
 abbrev pub SearchedWithCode : Type 0
 SearchedWithCode = Bor (List ℕ) × (ℕ × (ℕ × (Bor (List ℕ) × (Bor ℕ × (Bor ℕ × Unit {0})))))
 
-pub lookup-asks-nothing : (κs : Lfts 4) (before : SearchedWithCode) → lookup_entry.Asked κs before
-lookup-asks-nothing κs before = tt
+pub lookup_asks_nothing : (κs : Lfts 4) (before : SearchedWithCode) → lookup_entry.Asked κs before
+lookup_asks_nothing κs before = tt
 
 -- the code, at, and the words of the part given back
-pub lookup-gives-the-definition : (κs : Lfts 4) (before after : SearchedWithCode) (answer : Bor (List ℕ)) → lookup_entry.Learnt κs before answer after
+pub lookup_gives_the_definition : (κs : Lfts 4) (before after : SearchedWithCode) (answer : Bor (List ℕ)) → lookup_entry.Learnt κs before answer after
     → record { code = after.1.1.1.1.0.now; at = after.1.1.1.1.1.0.now; words = answer.now } ≡ looked before.0.now before.1.0 before.1.1.0 before.1.1.1.0.now
-lookup-gives-the-definition κs before after answer learnt = learnt
+lookup_gives_the_definition κs before after answer learnt = learnt
 
-pub tree-lookup-meets-its-contract : {M : Type 1} → lookup-export-stated.statement M
-tree-lookup-meets-its-contract = lookup-export-proved.met
+pub tree_lookup_meets_its_contract : {M : Type 1} → lookup_export_stated.statement M
+tree_lookup_meets_its_contract = lookup_export_proved.met
 
 -- and at, begin and end
 abbrev pub SearchedWithPart : Type 0
 SearchedWithPart = Bor (List ℕ) × (ℕ × (ℕ × (Bor (List ℕ) × (Bor ℕ × (Bor ℕ × (Bor ℕ × Unit {0}))))))
 
-pub tree-lookup-asks-nothing : (κs : Lfts 5) (before : SearchedWithPart) → lookup-export.Asked κs before
-tree-lookup-asks-nothing κs before = tt
+pub tree_lookup_asks_nothing : (κs : Lfts 5) (before : SearchedWithPart) → lookup_export.Asked κs before
+tree_lookup_asks_nothing κs before = tt
 
-pub tree-lookup-gives-the-definition : (κs : Lfts 5) (before after : SearchedWithPart) (code : ℕ) → lookup-export.Learnt κs before code after
+pub tree_lookup_gives_the_definition : (κs : Lfts 5) (before after : SearchedWithPart) (code : ℕ) → lookup_export.Learnt κs before code after
     → record { code = code; at = after.1.1.1.1.0.now; begin = after.1.1.1.1.1.0.now; end = after.1.1.1.1.1.1.0.now }
     ≡ found before.0.now before.1.0 before.1.1.0 (length before.1.1.1.0.now)
-tree-lookup-gives-the-definition κs before after code learnt = learnt
+tree_lookup_gives_the_definition κs before after code learnt = learnt
 
 -- ---- M-103: run a tree on paper
 
-pub run-tree-meets-its-contract : {M : Type 1} → run-stated.statement M
-run-tree-meets-its-contract = run-proved.met
+pub run_tree_meets_its_contract : {M : Type 1} → run_stated.statement M
+run_tree_meets_its_contract = run_proved.met
 
 -- the tree, the answers and the lent buffer
 abbrev pub Run : Type 0
 Run = Bor (List ℕ) × (Bor (List ℕ) × (Bor (List ℕ) × Unit {0}))
 
-pub run-tree-asks-nothing : (κs : Lfts 3) (before : Run) → run-entry.Asked κs before
-run-tree-asks-nothing κs before = tt
+pub run_tree_asks_nothing : (κs : Lfts 3) (before : Run) → run_entry.Asked κs before
+run_tree_asks_nothing κs before = tt
 
-pub run-tree-gives-the-definition : (κs : Lfts 3) (before after : Run) (answer : Ran) → run-entry.Learnt κs before answer after
-    → outcomeOf answer after.1.1.0.now ≡ run_of before.0.now before.1.0.now (length before.1.1.0.now)
-run-tree-gives-the-definition κs before after answer learnt = learnt
+pub run_tree_gives_the_definition : (κs : Lfts 3) (before after : Run) (answer : Ran) → run_entry.Learnt κs before answer after
+    → outcome_of answer after.1.1.0.now ≡ run_of before.0.now before.1.0.now (length before.1.1.0.now)
+run_tree_gives_the_definition κs before after answer learnt = learnt
 
-pub tree-run-meets-its-contract : {M : Type 1} → run-export-stated.statement M
-tree-run-meets-its-contract = run-export-proved.met
+pub tree_run_meets_its_contract : {M : Type 1} → run_export_stated.statement M
+tree_run_meets_its_contract = run_export_proved.met
 
 -- and at, number and reason
 abbrev pub RunWithAnswer : Type 0
 RunWithAnswer = Bor (List ℕ) × (Bor (List ℕ) × (Bor (List ℕ) × (Bor ℕ × (Bor ℕ × (Bor ℕ × Unit {0})))))
 
-pub tree-run-asks-nothing : (κs : Lfts 6) (before : RunWithAnswer) → run-export.Asked κs before
-tree-run-asks-nothing κs before = tt
+pub tree_run_asks_nothing : (κs : Lfts 6) (before : RunWithAnswer) → run_export.Asked κs before
+tree_run_asks_nothing κs before = tt
 
-pub tree-run-gives-the-definition : (κs : Lfts 6) (before after : RunWithAnswer) (code : ℕ) → run-export.Learnt κs before code after
+pub tree_run_gives_the_definition : (κs : Lfts 6) (before after : RunWithAnswer) (code : ℕ) → run_export.Learnt κs before code after
     → record {
       code = code;
       at = after.1.1.1.0.now;
@@ -343,71 +343,71 @@ pub tree-run-gives-the-definition : (κs : Lfts 6) (before after : RunWithAnswer
       reason = after.1.1.1.1.1.0.now;
       buffer = after.1.1.0.now;
     } ≡ run_of before.0.now before.1.0.now (length before.1.1.0.now)
-tree-run-gives-the-definition κs before after code learnt = learnt
+tree_run_gives_the_definition κs before after code learnt = learnt
 
 -- what that definition gives, with no reader in it: of words that the check refuses its refusal, of any others the run of the tree that they read as
-pub a-run-is-of-the-tree-read : (words : List ℕ) (answers : Answers) (lent : ℕ) → RunGives words answers lent (run_of words answers lent)
-a-run-is-of-the-tree-read words answers lent = is-given words answers lent refl
+pub a_run_is_of_the_tree_read : (words : List ℕ) (answers : Answers) (lent : ℕ) → RunGives words answers lent (run_of words answers lent)
+a_run_is_of_the_tree_read words answers lent = is_given words answers lent refl
 
 -- and any words, answers and length have one such outcome, every lent word of it
-pub a-run-has-one-outcome : (words : List ℕ) (answers : Answers) (lent : ℕ) {o o' : Outcome} → RunGives words answers lent o → RunGives words answers lent o' → o ≡ o'
-a-run-has-one-outcome = one-outcome
+pub a_run_has_one_outcome : (words : List ℕ) (answers : Answers) (lent : ℕ) {o o' : Outcome} → RunGives words answers lent o → RunGives words answers lent o' → o ≡ o'
+a_run_has_one_outcome = one_outcome
 
 -- no run of a tree stops for another reason than "return, throw, end of the tree, or no answer left", or a jump without target (63); the run with row numbers neither
-pub a-tree-stops-for-a-reason-of-the-paper : (root : Statements) (answers : Answers) → firstNotRun (rows root) 0 ≡ none
-    → Stops (treeRun root answers) × Stops (treeRun (numbered 0 root) answers)
-a-tree-stops-for-a-reason-of-the-paper = tree-stops
+pub a_tree_stops_for_a_reason_of_the_paper : (root : Statements) (answers : Answers) → first_not_run (rows root) 0 ≡ none
+    → Stops (tree_run root answers) × Stops (tree_run (numbered 0 root) answers)
+a_tree_stops_for_a_reason_of_the_paper = tree_stops
 
 -- "64, before running, at the first LOGICAL, COND, OPTIONAL, TRY, FOROF or FORIN": where one stands, and never after running
-pub only-such-a-row-gives-64 : (root : Statements) (answers : Answers) (lent : ℕ) → (ran root answers lent).code ≡ 64
-    → (i : ℕ) × (firstNotRun (rows root) 0 ≡ some i) × (ran root answers lent ≡ refusal 64 i lent)
-only-such-a-row-gives-64 = only-before-running
+pub only_such_a_row_gives_64 : (root : Statements) (answers : Answers) (lent : ℕ) → (ran root answers lent).code ≡ 64
+    → (i : ℕ) × (first_not_run (rows root) 0 ≡ some i) × (ran root answers lent ≡ refusal 64 i lent)
+only_such_a_row_gives_64 = only_before_running
 
 -- ---- M-113: the runner on the trees of plain tables with switches. The law itself stands in Theorems
 
-module _ (words : List ℕ) (lent lentIndex : ℕ) (h : (built language words lent lentIndex).code ≡ 0) (plain : Plain with-switch (table_of words)) where
+module _ (words : List ℕ) (lent lent_index : ℕ) (h : (built language words lent lent_index).code ≡ 0) (plain : Plain with_switch (table_of words)) where
   -- the rows of the tree, in the lent buffer
   abbrev tree : List ℕ
-  tree = take ((built language words lent lentIndex).rows * 6) (built language words lent lentIndex).buffer
+  tree = take ((built language words lent lent_index).rows * 6) (built language words lent lent_index).buffer
 
   -- the law: the block run and the tree's run agree over every list spoken of
-  abbrev law : SwitchLaw words (built language words lent lentIndex)
-  law = the_law words lent lentIndex h plain
+  abbrev law : SwitchLaw words (built language words lent lent_index)
+  law = the_law words lent lent_index h plain
 
   -- "The runner of M-103 is proved to do what this law's tree run does, on trees of such tables that M-100's check accepts, for the lists spoken of, where none of
   -- 63, 64 and 65 is given": it gives the rows that both runs perform, then zeros, and their reason
-  pub the-runner-does-what-the-runs-do : (answers : Answers) (spoken : Spoken (table_of words) answers) (room at : ℕ) → Answer tree 0 at → ((run_of tree answers room).code ≡ 65 → ⊥)
+  pub the_runner_does_what_the_runs_do : (answers : Answers) (spoken : Spoken (table_of words) answers) (room at : ℕ) → Answer tree 0 at → ((run_of tree answers room).code ≡ 65 → ⊥)
       → run_of tree answers room ≡ ended (law.agree answers spoken).performed room (law.agree answers spoken).reason
-  the-runner-does-what-the-runs-do answers spoken room at check f =
-      let e = runner-gives words lent lentIndex h plain answers room at (run_of tree answers room) check (is-given tree answers room refl) in
-      e ∙ runner-does words lent lentIndex h plain answers spoken room (λ q. f (ap (λ (z : Outcome). z.code) e ∙ q))
+  the_runner_does_what_the_runs_do answers spoken room at check f =
+      let e = runner_gives words lent lent_index h plain answers room at (run_of tree answers room) check (is_given tree answers room refl) in
+      e ∙ runner_does words lent lent_index h plain answers spoken room (λ q. f (ap (λ (z : Outcome). z.code) e ∙ q))
 
   -- 63 and 64 never come there
-  pub the-runner-refuses-only-a-short-buffer : (answers : Answers) → Spoken (table_of words) answers → (room at : ℕ) → Answer tree 0 at
+  pub the_runner_refuses_only_a_short_buffer : (answers : Answers) → Spoken (table_of words) answers → (room at : ℕ) → Answer tree 0 at
       → ((run_of tree answers room).code ≡ 0) ⊎ ((run_of tree answers room).code ≡ 65)
-  the-runner-refuses-only-a-short-buffer answers spoken room at check =
-      subst (λ (z : Outcome). (z.code ≡ 0) ⊎ (z.code ≡ 65)) (sym (runner-gives words lent lentIndex h plain answers room at (run_of tree answers room) check (is-given tree answers room refl)))
-      (never-63-64 words lent lentIndex h plain answers spoken room)
+  the_runner_refuses_only_a_short_buffer answers spoken room at check =
+      subst (λ (z : Outcome). (z.code ≡ 0) ⊎ (z.code ≡ 65)) (sym (runner_gives words lent lent_index h plain answers room at (run_of tree answers room) check (is_given tree answers room refl)))
+      (never_63_64 words lent lent_index h plain answers spoken room)
 
 -- ---- beyond the papers: the same of plain tables with DoWhile, For and Switch (definition/specs/PlainLoops)
 
-module _ (words : List ℕ) (lent lentIndex : ℕ) (h : (built language words lent lentIndex).code ≡ 0) (plain : PlainLoops with-switch (table_of words)) where
-  abbrev tree-with-loops : List ℕ
-  tree-with-loops = take ((built language words lent lentIndex).rows * 6) (built language words lent lentIndex).buffer
+module _ (words : List ℕ) (lent lent_index : ℕ) (h : (built language words lent lent_index).code ≡ 0) (plain : PlainLoops with_switch (table_of words)) where
+  abbrev tree_with_loops : List ℕ
+  tree_with_loops = take ((built language words lent lent_index).rows * 6) (built language words lent lent_index).buffer
 
-  abbrev law-with-loops : SwitchLaw words (built language words lent lentIndex)
-  law-with-loops = loops.the_law words lent lentIndex h plain
+  abbrev law_with_loops : SwitchLaw words (built language words lent lent_index)
+  law_with_loops = loops.the_law words lent lent_index h plain
 
-  pub the-runner-does-what-the-runs-with-loops-do : (answers : Answers) (spoken : Spoken (table_of words) answers) (room at : ℕ) → Answer tree-with-loops 0 at
-      → ((run_of tree-with-loops answers room).code ≡ 65 → ⊥)
-      → run_of tree-with-loops answers room ≡ ended (law-with-loops.agree answers spoken).performed room (law-with-loops.agree answers spoken).reason
-  the-runner-does-what-the-runs-with-loops-do answers spoken room at check f =
-      let e = loops.runner-gives words lent lentIndex h plain answers room at (run_of tree-with-loops answers room) check (is-given tree-with-loops answers room refl) in
-      e ∙ loops.runner-does words lent lentIndex h plain answers spoken room (λ q. f (ap (λ (z : Outcome). z.code) e ∙ q))
+  pub the_runner_does_what_the_runs_with_loops_do : (answers : Answers) (spoken : Spoken (table_of words) answers) (room at : ℕ) → Answer tree_with_loops 0 at
+      → ((run_of tree_with_loops answers room).code ≡ 65 → ⊥)
+      → run_of tree_with_loops answers room ≡ ended (law_with_loops.agree answers spoken).performed room (law_with_loops.agree answers spoken).reason
+  the_runner_does_what_the_runs_with_loops_do answers spoken room at check f =
+      let e = loops.runner_gives words lent lent_index h plain answers room at (run_of tree_with_loops answers room) check (is_given tree_with_loops answers room refl) in
+      e ∙ loops.runner_does words lent lent_index h plain answers spoken room (λ q. f (ap (λ (z : Outcome). z.code) e ∙ q))
 
-  pub with-loops-the-runner-refuses-only-a-short-buffer : (answers : Answers) → Spoken (table_of words) answers → (room at : ℕ) → Answer tree-with-loops 0 at
-      → ((run_of tree-with-loops answers room).code ≡ 0) ⊎ ((run_of tree-with-loops answers room).code ≡ 65)
-  with-loops-the-runner-refuses-only-a-short-buffer answers spoken room at check =
+  pub with_loops_the_runner_refuses_only_a_short_buffer : (answers : Answers) → Spoken (table_of words) answers → (room at : ℕ) → Answer tree_with_loops 0 at
+      → ((run_of tree_with_loops answers room).code ≡ 0) ⊎ ((run_of tree_with_loops answers room).code ≡ 65)
+  with_loops_the_runner_refuses_only_a_short_buffer answers spoken room at check =
       subst (λ (z : Outcome). (z.code ≡ 0) ⊎ (z.code ≡ 65))
-      (sym (loops.runner-gives words lent lentIndex h plain answers room at (run_of tree-with-loops answers room) check (is-given tree-with-loops answers room refl)))
-      (loops.never-63-64 words lent lentIndex h plain answers spoken room)
+      (sym (loops.runner_gives words lent lent_index h plain answers room at (run_of tree_with_loops answers room) check (is_given tree_with_loops answers room refl)))
+      (loops.never_63_64 words lent lent_index h plain answers spoken room)

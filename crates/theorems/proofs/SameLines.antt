@@ -7,142 +7,142 @@ use mathlib.Core.List.{List, [], ◌∷◌, ◌++◌, map, map-append}
 use mathlib.Core.Option.{Option, none, some}
 use mathlib.Core.Bool.{Bool, true, false}
 use lib.ListN.{length, length-append}
-use Rattle.definition.specs.Index.{label_of, rowsIn, Labelled, labelledBy, in_parts, inList, inCases, Line, line_of, lines}
-use Rattle.definition.proofs.Relabels.{Relabeled, the_same, a-break, in-if, in-switch, in-do-while, in-while, in-for, in-for-of, in-for-in, in-label, in-try, in_scope}
-use Rattle.definition.proofs.Relabels.{RelabeledAll, none_left, and_then, RelabeledCases, no-case-left, a_case, relabels}
+use Rattle.definition.specs.Index.{label_of, rows_in, Labelled, labelled_by, in_parts, in_list, in_cases, Line, line_of, lines}
+use Rattle.definition.proofs.Relabels.{Relabeled, the_same, a_break, in_if, in_switch, in_do_while, in_while, in_for, in_for_of, in_for_in, in_label, in_try, in_scope}
+use Rattle.definition.proofs.Relabels.{RelabeledAll, none_left, and_then, RelabeledCases, no_case_left, a_case, relabels}
 use Rattle.definition.specs.Around.{Enclosing}
 use Rattle.definition.specs.Relabeled.{relabeled}
-use Rattle.definition.specs.Tree.{Value, Statement, Statements, ◌▸◌, Cases, Row, valueRows, updateRows, statementRows, statementsRows, blockRows, casesRows}
-use Rattle.definition.proofs.Rows.{value-append, update-append, statement-append}
+use Rattle.definition.specs.Tree.{Value, Statement, Statements, ◌▸◌, Cases, Row, value_rows, update_rows, statement_rows, statements_rows, block_rows, cases_rows}
+use Rattle.definition.proofs.Rows.{value_append, update_append, statement_append}
 
 -- ---- as many rows
 
 abbrev AsMany : (f g : List Row → List Row) → Type 0
 AsMany f g = (k l : List Row) → length k ≡ length l → length (f k) ≡ length (g l)
 
-value-many : (v : Value) → AsMany (valueRows v) (valueRows v)
-value-many v k l e =
-    omega (arith, e, ap length (value-append v [] k), ap length (value-append v [] l), length-append (valueRows v []) k, length-append (valueRows v []) l)
+value_many : (v : Value) → AsMany (value_rows v) (value_rows v)
+value_many v k l e =
+    omega (arith, e, ap length (value_append v [] k), ap length (value_append v [] l), length-append (value_rows v []) k, length-append (value_rows v []) l)
 
-update-many : (u : Option Value) → AsMany (updateRows u) (updateRows u)
-update-many u k l e =
-    omega (arith, e, ap length (update-append u [] k), ap length (update-append u [] l), length-append (updateRows u []) k, length-append (updateRows u []) l)
+update_many : (u : Option Value) → AsMany (update_rows u) (update_rows u)
+update_many u k l e =
+    omega (arith, e, ap length (update_append u [] k), ap length (update_append u [] l), length-append (update_rows u []) k, length-append (update_rows u []) l)
 
 mutual
-  statement-many : {s s' : Statement} → Relabeled s s' → AsMany (statementRows s) (statementRows s')
-  statement-many (the_same s) k l e =
-      omega (arith, e, ap length (statement-append s [] k), ap length (statement-append s [] l), length-append (statementRows s []) k, length-append (statementRows s []) l)
-  statement-many (a-break target id loops) k l e = ap suc e
-  statement-many (in-if x i g true p q) k l e = block-many p _ _ (block-many q _ _ (ap suc e))
-  statement-many (in-if x i g false p q) k l e = block-many p _ _ (ap suc e)
-  statement-many (in-switch x i g p) k l e = cases-many p _ _ (ap suc e)
-  statement-many (in-do-while i g v p) k l e = block-many p _ _ (value-many v _ _ (ap suc e))
-  statement-many (in-while i g v p) k l e = value-many v _ _ (block-many p _ _ (ap suc e))
-  statement-many (in-for i g a v u p) k l e = value-many a _ _ (value-many v _ _ (update-many u _ _ (block-many p _ _ (ap suc e))))
-  statement-many (in-for-of i g s a v p) k l e = value-many a _ _ (value-many v _ _ (block-many p _ _ (ap suc e)))
-  statement-many (in-for-in i g s a p) k l e = value-many a _ _ (block-many p _ _ (ap suc e))
-  statement-many (in-label i g p) k l e = block-many p _ _ (ap suc e)
-  statement-many (in-try i g m p q) k l e = block-many p _ _ (block-many q _ _ (ap suc e))
-  statement-many (in_scope true s p) k l e = block-many p _ _ (ap suc e)
-  statement-many (in_scope false s p) k l e = block-many p _ _ (ap suc e)
+  statement_many : {s s' : Statement} → Relabeled s s' → AsMany (statement_rows s) (statement_rows s')
+  statement_many (the_same s) k l e =
+      omega (arith, e, ap length (statement_append s [] k), ap length (statement_append s [] l), length-append (statement_rows s []) k, length-append (statement_rows s []) l)
+  statement_many (a_break target id loops) k l e = ap suc e
+  statement_many (in_if x i g true p q) k l e = block_many p _ _ (block_many q _ _ (ap suc e))
+  statement_many (in_if x i g false p q) k l e = block_many p _ _ (ap suc e)
+  statement_many (in_switch x i g p) k l e = cases_many p _ _ (ap suc e)
+  statement_many (in_do_while i g v p) k l e = block_many p _ _ (value_many v _ _ (ap suc e))
+  statement_many (in_while i g v p) k l e = value_many v _ _ (block_many p _ _ (ap suc e))
+  statement_many (in_for i g a v u p) k l e = value_many a _ _ (value_many v _ _ (update_many u _ _ (block_many p _ _ (ap suc e))))
+  statement_many (in_for_of i g s a v p) k l e = value_many a _ _ (value_many v _ _ (block_many p _ _ (ap suc e)))
+  statement_many (in_for_in i g s a p) k l e = value_many a _ _ (block_many p _ _ (ap suc e))
+  statement_many (in_label i g p) k l e = block_many p _ _ (ap suc e)
+  statement_many (in_try i g m p q) k l e = block_many p _ _ (block_many q _ _ (ap suc e))
+  statement_many (in_scope true s p) k l e = block_many p _ _ (ap suc e)
+  statement_many (in_scope false s p) k l e = block_many p _ _ (ap suc e)
 
-  list-many : {s s' : Statements} → RelabeledAll s s' → AsMany (statementsRows s) (statementsRows s')
-  list-many none_left k l e = e
-  list-many (and_then p q) k l e = statement-many p _ _ (list-many q k l e)
+  list_many : {s s' : Statements} → RelabeledAll s s' → AsMany (statements_rows s) (statements_rows s')
+  list_many none_left k l e = e
+  list_many (and_then p q) k l e = statement_many p _ _ (list_many q k l e)
 
-  block-many : {s s' : Statements} → RelabeledAll s s' → AsMany (blockRows s) (blockRows s')
-  block-many none_left k l e = ap suc e
-  block-many (and_then p q) k l e = statement-many p _ _ (list-many q _ _ (ap suc e))
+  block_many : {s s' : Statements} → RelabeledAll s s' → AsMany (block_rows s) (block_rows s')
+  block_many none_left k l e = ap suc e
+  block_many (and_then p q) k l e = statement_many p _ _ (list_many q _ _ (ap suc e))
 
-  cases-many : {s s' : Cases} → RelabeledCases s s' → AsMany (casesRows s) (casesRows s')
-  cases-many no-case-left k l e = e
-  cases-many (a_case x p q) k l e = block-many p _ _ (ap suc (cases-many q k l e))
+  cases_many : {s s' : Cases} → RelabeledCases s s' → AsMany (cases_rows s) (cases_rows s')
+  cases_many no_case_left k l e = e
+  cases_many (a_case x p q) k l e = block_many p _ _ (ap suc (cases_many q k l e))
 
 -- ---- the same lines
 
 abbrev Alike : (xs ys : List Labelled) → Type 0
 Alike xs ys = map line_of xs ≡ map line_of ys
 
-alike-append : (xs ys zs ws : List Labelled) → Alike xs zs → Alike ys ws → Alike (xs ++ ys) (zs ++ ws)
-alike-append xs ys zs ws p q =
+alike_append : (xs ys zs ws : List Labelled) → Alike xs zs → Alike ys ws → Alike (xs ++ ys) (zs ++ ws)
+alike_append xs ys zs ws p q =
     map-append line_of xs ys ∙ ap (λ (z : List Line). z ++ map line_of ys) p ∙ ap (λ (z : List Line). map line_of zs ++ z) q ∙ sym (map-append line_of zs ws)
 
-own-alike : (g : Option ℕ) (n : ℕ) (s s' : Statement) → rowsIn (statementRows s) ≡ rowsIn (statementRows s') → Alike (labelledBy g n s) (labelledBy g n s')
-own-alike none n s s' e = refl
-own-alike (some g) n s s' e = ap (λ (m : ℕ). record { label = g; first = n; closing = (n + m) - 1 } ∷ []) e
+own_alike : (g : Option ℕ) (n : ℕ) (s s' : Statement) → rows_in (statement_rows s) ≡ rows_in (statement_rows s') → Alike (labelled_by g n s) (labelled_by g n s')
+own_alike none n s s' e = refl
+own_alike (some g) n s s' e = ap (λ (m : ℕ). record { label = g; first = n; closing = (n + m) - 1 } ∷ []) e
 
-same-label : {s s' : Statement} → Relabeled s s' → label_of s ≡ label_of s'
-same-label (the_same s) = refl
-same-label (a-break target id loops) = refl
-same-label (in-if x i g y p q) = refl
-same-label (in-switch x i g p) = refl
-same-label (in-do-while i g v p) = refl
-same-label (in-while i g v p) = refl
-same-label (in-for i g a v u p) = refl
-same-label (in-for-of i g s a v p) = refl
-same-label (in-for-in i g s a p) = refl
-same-label (in-label i g p) = refl
-same-label (in-try i g m p q) = refl
-same-label (in_scope y s p) = refl
+same_label : {s s' : Statement} → Relabeled s s' → label_of s ≡ label_of s'
+same_label (the_same s) = refl
+same_label (a_break target id loops) = refl
+same_label (in_if x i g y p q) = refl
+same_label (in_switch x i g p) = refl
+same_label (in_do_while i g v p) = refl
+same_label (in_while i g v p) = refl
+same_label (in_for i g a v u p) = refl
+same_label (in_for_of i g s a v p) = refl
+same_label (in_for_in i g s a p) = refl
+same_label (in_label i g p) = refl
+same_label (in_try i g m p q) = refl
+same_label (in_scope y s p) = refl
 
 -- the same lines from another row, which is the same
-list-moved : (xs : List Labelled) (s : Statements) (n m : ℕ) → n ≡ m → Alike xs (inList n s) → Alike xs (inList m s)
-list-moved xs s n m e p = p ∙ ap (λ (k : ℕ). map line_of (inList k s)) e
+list_moved : (xs : List Labelled) (s : Statements) (n m : ℕ) → n ≡ m → Alike xs (in_list n s) → Alike xs (in_list m s)
+list_moved xs s n m e p = p ∙ ap (λ (k : ℕ). map line_of (in_list k s)) e
 
-cases_moved : (xs : List Labelled) (s : Cases) (n m : ℕ) → n ≡ m → Alike xs (inCases n s) → Alike xs (inCases m s)
-cases_moved xs s n m e p = p ∙ ap (λ (k : ℕ). map line_of (inCases k s)) e
+cases_moved : (xs : List Labelled) (s : Cases) (n m : ℕ) → n ≡ m → Alike xs (in_cases n s) → Alike xs (in_cases m s)
+cases_moved xs s n m e p = p ∙ ap (λ (k : ℕ). map line_of (in_cases k s)) e
 
 -- two nested lists, the second behind the first
-two-alike : (c c' a a' : Statements) (n : ℕ) → rowsIn (blockRows c) ≡ rowsIn (blockRows c') → Alike (inList n c) (inList n c')
-    → Alike (inList (n + rowsIn (blockRows c)) a) (inList (n + rowsIn (blockRows c)) a')
-    → Alike (inList n c ++ inList (n + rowsIn (blockRows c)) a) (inList n c' ++ inList (n + rowsIn (blockRows c')) a')
-two-alike c c' a a' n e p q =
-    alike-append (inList n c) (inList (n + rowsIn (blockRows c)) a) (inList n c') (inList (n + rowsIn (blockRows c')) a') p
-    (list-moved (inList (n + rowsIn (blockRows c)) a) a' (n + rowsIn (blockRows c)) (n + rowsIn (blockRows c')) (ap (λ (m : ℕ). n + m) e) q)
+two_alike : (c c' a a' : Statements) (n : ℕ) → rows_in (block_rows c) ≡ rows_in (block_rows c') → Alike (in_list n c) (in_list n c')
+    → Alike (in_list (n + rows_in (block_rows c)) a) (in_list (n + rows_in (block_rows c)) a')
+    → Alike (in_list n c ++ in_list (n + rows_in (block_rows c)) a) (in_list n c' ++ in_list (n + rows_in (block_rows c')) a')
+two_alike c c' a a' n e p q =
+    alike_append (in_list n c) (in_list (n + rows_in (block_rows c)) a) (in_list n c') (in_list (n + rows_in (block_rows c')) a') p
+    (list_moved (in_list (n + rows_in (block_rows c)) a) a' (n + rows_in (block_rows c)) (n + rows_in (block_rows c')) (ap (λ (m : ℕ). n + m) e) q)
 
 -- a statement and the rest of its list
-rest-alike : (s s' : Statement) (r r' : Statements) (n : ℕ) → rowsIn (statementRows s) ≡ rowsIn (statementRows s') → label_of s ≡ label_of s' → Alike (in_parts n s) (in_parts n s')
-    → Alike (inList (n + rowsIn (statementRows s)) r) (inList (n + rowsIn (statementRows s)) r') → Alike (inList n (s ▸ r)) (inList n (s' ▸ r'))
-unfolding inList
-rest-alike s s' r r' n e l p q =
-    alike-append (in_parts n s ++ labelledBy (label_of s) n s) (inList (n + rowsIn (statementRows s)) r)
-    (in_parts n s' ++ labelledBy (label_of s') n s') (inList (n + rowsIn (statementRows s')) r')
-    (alike-append (in_parts n s) (labelledBy (label_of s) n s) (in_parts n s') (labelledBy (label_of s') n s') p
-    (own-alike (label_of s) n s s' e ∙ ap (λ (g : Option ℕ). map line_of (labelledBy g n s')) l))
-    (list-moved (inList (n + rowsIn (statementRows s)) r) r' (n + rowsIn (statementRows s)) (n + rowsIn (statementRows s')) (ap (λ (m : ℕ). n + m) e) q)
+rest_alike : (s s' : Statement) (r r' : Statements) (n : ℕ) → rows_in (statement_rows s) ≡ rows_in (statement_rows s') → label_of s ≡ label_of s' → Alike (in_parts n s) (in_parts n s')
+    → Alike (in_list (n + rows_in (statement_rows s)) r) (in_list (n + rows_in (statement_rows s)) r') → Alike (in_list n (s ▸ r)) (in_list n (s' ▸ r'))
+unfolding in_list
+rest_alike s s' r r' n e l p q =
+    alike_append (in_parts n s ++ labelled_by (label_of s) n s) (in_list (n + rows_in (statement_rows s)) r)
+    (in_parts n s' ++ labelled_by (label_of s') n s') (in_list (n + rows_in (statement_rows s')) r')
+    (alike_append (in_parts n s) (labelled_by (label_of s) n s) (in_parts n s') (labelled_by (label_of s') n s') p
+    (own_alike (label_of s) n s s' e ∙ ap (λ (g : Option ℕ). map line_of (labelled_by g n s')) l))
+    (list_moved (in_list (n + rows_in (statement_rows s)) r) r' (n + rows_in (statement_rows s)) (n + rows_in (statement_rows s')) (ap (λ (m : ℕ). n + m) e) q)
 
 mutual
-  unfolding in_parts inList inCases
+  unfolding in_parts in_list in_cases
 
-  parts-alike : {s s' : Statement} → Relabeled s s' → (n : ℕ) → Alike (in_parts n s) (in_parts n s')
-  parts-alike (the_same s) n = refl
-  parts-alike (a-break target id loops) n = refl
-  parts-alike (in-if x i g true {first = c} {first' = c'} {second = a} {second' = a'} p q) n =
-      two-alike c c' a a' n (block-many p [] [] refl) (list-alike p n) (list-alike q (n + rowsIn (blockRows c)))
-  parts-alike (in-if x i g false p q) n = list-alike p n
-  parts-alike (in-switch x i g p) n = cases_alike p n
-  parts-alike (in-do-while i g v p) n = list-alike p n
-  parts-alike (in-while i g v p) n = list-alike p _
-  parts-alike (in-for i g a v u p) n = list-alike p _
-  parts-alike (in-for-of i g s a v p) n = list-alike p _
-  parts-alike (in-for-in i g s a p) n = list-alike p _
-  parts-alike (in-label i g p) n = list-alike p n
-  parts-alike (in-try i g m {first = c} {first' = c'} {second = a} {second' = a'} p q) n =
-      two-alike c c' a a' n (block-many p [] [] refl) (list-alike p n) (list-alike q (n + rowsIn (blockRows c)))
-  parts-alike (in_scope y s p) n = list-alike p n
+  parts_alike : {s s' : Statement} → Relabeled s s' → (n : ℕ) → Alike (in_parts n s) (in_parts n s')
+  parts_alike (the_same s) n = refl
+  parts_alike (a_break target id loops) n = refl
+  parts_alike (in_if x i g true {first = c} {first' = c'} {second = a} {second' = a'} p q) n =
+      two_alike c c' a a' n (block_many p [] [] refl) (list_alike p n) (list_alike q (n + rows_in (block_rows c)))
+  parts_alike (in_if x i g false p q) n = list_alike p n
+  parts_alike (in_switch x i g p) n = cases_alike p n
+  parts_alike (in_do_while i g v p) n = list_alike p n
+  parts_alike (in_while i g v p) n = list_alike p _
+  parts_alike (in_for i g a v u p) n = list_alike p _
+  parts_alike (in_for_of i g s a v p) n = list_alike p _
+  parts_alike (in_for_in i g s a p) n = list_alike p _
+  parts_alike (in_label i g p) n = list_alike p n
+  parts_alike (in_try i g m {first = c} {first' = c'} {second = a} {second' = a'} p q) n =
+      two_alike c c' a a' n (block_many p [] [] refl) (list_alike p n) (list_alike q (n + rows_in (block_rows c)))
+  parts_alike (in_scope y s p) n = list_alike p n
 
-  list-alike : {s s' : Statements} → RelabeledAll s s' → (n : ℕ) → Alike (inList n s) (inList n s')
-  list-alike none_left n = refl
-  list-alike (and_then {statement = a} {statement' = a'} {rest = r} {rest' = r'} p q) n =
-      rest-alike a a' r r' n (statement-many p [] [] refl) (same-label p) (parts-alike p n) (list-alike q (n + rowsIn (statementRows a)))
+  list_alike : {s s' : Statements} → RelabeledAll s s' → (n : ℕ) → Alike (in_list n s) (in_list n s')
+  list_alike none_left n = refl
+  list_alike (and_then {statement = a} {statement' = a'} {rest = r} {rest' = r'} p q) n =
+      rest_alike a a' r r' n (statement_many p [] [] refl) (same_label p) (parts_alike p n) (list_alike q (n + rows_in (statement_rows a)))
 
-  cases_alike : {s s' : Cases} → RelabeledCases s s' → (n : ℕ) → Alike (inCases n s) (inCases n s')
-  cases_alike no-case-left n = refl
+  cases_alike : {s s' : Cases} → RelabeledCases s s' → (n : ℕ) → Alike (in_cases n s) (in_cases n s')
+  cases_alike no_case_left n = refl
   cases_alike (a_case x {body = b} {body' = b'} {rest = r} {rest' = r'} p q) n =
-      alike-append (inList n b) (inCases (n + (rowsIn (blockRows b) + 1)) r) (inList n b') (inCases (n + (rowsIn (blockRows b') + 1)) r') (list-alike p n)
-      (cases_moved (inCases (n + (rowsIn (blockRows b) + 1)) r) r' (n + (rowsIn (blockRows b) + 1)) (n + (rowsIn (blockRows b') + 1))
-      (ap (λ (m : ℕ). n + (m + 1)) (block-many p [] [] refl)) (cases_alike q (n + (rowsIn (blockRows b) + 1))))
+      alike_append (in_list n b) (in_cases (n + (rows_in (block_rows b) + 1)) r) (in_list n b') (in_cases (n + (rows_in (block_rows b') + 1)) r') (list_alike p n)
+      (cases_moved (in_cases (n + (rows_in (block_rows b) + 1)) r) r' (n + (rows_in (block_rows b) + 1)) (n + (rows_in (block_rows b') + 1))
+      (ap (λ (m : ℕ). n + (m + 1)) (block_many p [] [] refl)) (cases_alike q (n + (rows_in (block_rows b) + 1))))
 
 pub same_lines : (around : List Enclosing) (first : Statements) → lines first ≡ lines (relabeled around first)
 unfolding lines
-same_lines around first = list-alike (relabels around first) 0
+same_lines around first = list_alike (relabels around first) 0

@@ -17,11 +17,11 @@ Lent = Bor (List ℕ) × (Bor (List ℕ) × (Bor (List ℕ) × Unit {0}))
 -- what a call of build_reactive_function, or of build_language (M-102), must show, and what it learns
 abbrev pub Asked : Rule → Lfts 3 → (before : Lent) → Type 0
 Asked rust κs before = first_entry.Asked κs before
-Asked language κs before = language-entry.Asked κs before
+Asked language κs before = language_entry.Asked κs before
 
 abbrev pub Learnt : Rule → Lfts 3 → (before : Lent) → (answer : Outcome) → (after : Lent) → Type 0
 Learnt rust κs before answer after = first_entry.Learnt κs before answer after
-Learnt language κs before answer after = language-entry.Learnt κs before answer after
+Learnt language κs before answer after = language_entry.Learnt κs before answer after
 
 -- what a call gives: code, at, rows, visits, lines, and every lent word of both buffers
 abbrev pub given : (answer : Outcome) → (after : Lent) → definition.Outcome

@@ -5,7 +5,7 @@ use Rattle.definition.specs.Build.{words_of, built}
 use Rattle.definition.specs.Named.{Named}
 use Rattle.definition.specs.Tree.{Statements, rows}
 
-pub record LabelsThere (rule : Rule) (words : List ℕ) (lent lentIndex : ℕ) : Type 0 where
+pub record LabelsThere (rule : Rule) (words : List ℕ) (lent lent_index : ℕ) : Type 0 where
   pub root : Statements
-  pub held : take ((built rule words lent lentIndex).rows * 6) (built rule words lent lentIndex).buffer ≡ words_of (rows root)
+  pub held : take ((built rule words lent lent_index).rows * 6) (built rule words lent lent_index).buffer ≡ words_of (rows root)
   pub named : Named rule [] root

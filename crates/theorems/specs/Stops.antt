@@ -1,16 +1,16 @@
--- M-103: the reasons for which the run of a tree stops. (`not_plain` and `no-such-case` are the block run's.)
+-- M-103: the reasons for which the run of a tree stops. (`not_plain` and `no_such_case` are the block run's.)
 use Rattle.std.specs.Prelude.{◌≡◌, Bool, true, false}
-use Rattle.definition.specs.Run.{Reason, returned, threw, no-answer-left, not_plain, no_target, end-of-tree, no-such-case, Run, unfinished, stopped}
+use Rattle.definition.specs.Run.{Reason, returned, threw, no_answer_left, not_plain, no_target, end_of_tree, no_such_case, Run, unfinished, stopped}
 
-abbrev pub stopsATree : Reason → Bool
-stopsATree (returned value id) = true
-stopsATree (threw value id) = true
-stopsATree no-answer-left = true
-stopsATree (no_target id) = true
-stopsATree end-of-tree = true
-stopsATree not_plain = false
-stopsATree no-such-case = false
+abbrev pub stops_a_tree : Reason → Bool
+stops_a_tree (returned value id) = true
+stops_a_tree (threw value id) = true
+stops_a_tree no_answer_left = true
+stops_a_tree (no_target id) = true
+stops_a_tree end_of_tree = true
+stops_a_tree not_plain = false
+stops_a_tree no_such_case = false
 
 abbrev pub Stops : Run → Type 0
 Stops unfinished = ⊥
-Stops (stopped performed left reason) = stopsATree reason ≡ true
+Stops (stopped performed left reason) = stops_a_tree reason ≡ true

@@ -10,78 +10,78 @@ use lib.Seq.{get_or-set_same, get_or-set_other}
 use lib.Dec.{eqb, leb}
 use borrow.Author.Tests.{eqb-true, eqb-false, leb-true}
 use Rattle.tree_grammar.specs.Ranges.{in_range}
-use Rattle.tree_grammar.specs.Needs.{Sort, serves, parts_of, madeBy}
+use Rattle.tree_grammar.specs.Needs.{Sort, serves, parts_of, made_by}
 use Rattle.tree_grammar.proofs.Upto.{and_both}
 use Rattle.tree_check.specs.declared.TreeRead.{TreeRead}
-use Rattle.tree_check.specs.Found.{word_at, row_at, partsBegin, Ready, readFrom, noBegins, noList, treeRead, Begun}
-use Rattle.tree_check.proofs.PartLaws.{found-low}
-use Rattle.tree_check.proofs.ReadLaws.{set-low, start-ready}
+use Rattle.tree_check.specs.Found.{word_at, row_at, parts_begin, Ready, read_from, no_begins, no_list, tree_read, Begun}
+use Rattle.tree_check.proofs.PartLaws.{found_low}
+use Rattle.tree_check.proofs.ReadLaws.{set_low, start_ready}
 
 module _ (words : List ℕ) where
   -- what is stored for a row does not change where the parts before it begin
-  same-search : (begins : List ℕ) → ((j : ℕ) → get_or begins j 0 ≤ j) → (k first : ℕ) (wanted : List Sort) (cursor : ℕ) → cursor ≤ k
-      → partsBegin words (set begins k first) wanted cursor ≡ partsBegin words begins wanted cursor
-  unfolding partsBegin
-  same-search begins low k first [] cursor h = refl
-  same-search begins low k first (sort ∷ wanted) zero h = refl
-  same-search begins low k first (sort ∷ wanted) (suc last) h =
+  same_search : (begins : List ℕ) → ((j : ℕ) → get_or begins j 0 ≤ j) → (k first : ℕ) (wanted : List Sort) (cursor : ℕ) → cursor ≤ k
+      → parts_begin words (set begins k first) wanted cursor ≡ parts_begin words begins wanted cursor
+  unfolding parts_begin
+  same_search begins low k first [] cursor h = refl
+  same_search begins low k first (sort ∷ wanted) zero h = refl
+  same_search begins low k first (sort ∷ wanted) (suc last) h =
       let same : get_or (set begins k first) last 0 ≡ get_or begins last 0 = get_or-set_other begins k last first 0 (λ e. omega arith) in
-      ap (λ (o : Option ℕ). elim (serves sort (madeBy (word_at words last 0))) [ true ↦ o | false ↦ none ])
-      (ap (partsBegin words (set begins k first) wanted) same ∙ same-search begins low k first wanted (get_or begins last 0) (omega (arith, low last)))
+      ap (λ (o : Option ℕ). elim (serves sort (made_by (word_at words last 0))) [ true ↦ o | false ↦ none ])
+      (ap (parts_begin words (set begins k first) wanted) same ∙ same_search begins low k first wanted (get_or begins last 0) (omega (arith, low last)))
 
-  next-begun : (begins : List ℕ) (i first : ℕ) → Begun words begins i → i < length begins → first ≤ i → partsBegin words begins (parts_of (row_at words i)) i ≡ some first
+  next_begun : (begins : List ℕ) (i first : ℕ) → Begun words begins i → i < length begins → first ≤ i → parts_begin words begins (parts_of (row_at words i)) i ≡ some first
       → Begun words (set begins i first) (suc i)
-  next-begun begins i first b room l e = record { begun = λ k h. by k h (eqb k i) refl; low = set-low begins i first b.low room l }
+  next_begun begins i first b room l e = record { begun = λ k h. by k h (eqb k i) refl; low = set_low begins i first b.low room l }
     where
-      by : (k : ℕ) → k < suc i → (y : Bool) → eqb k i ≡ y → partsBegin words (set begins i first) (parts_of (row_at words k)) k ≡ some (get_or (set begins i first) k 0)
+      by : (k : ℕ) → k < suc i → (y : Bool) → eqb k i ≡ y → parts_begin words (set begins i first) (parts_of (row_at words k)) k ≡ some (get_or (set begins i first) k 0)
       by k h true q =
           let z : k ≡ i = eqb-true k i q in
-          rw z (same-search begins b.low i first (parts_of (row_at words i)) i (omega arith) ∙ (e ∙ ap (λ (n : ℕ). some n) (sym (get_or-set_same begins i first 0 room))))
+          rw z (same_search begins b.low i first (parts_of (row_at words i)) i (omega arith) ∙ (e ∙ ap (λ (n : ℕ). some n) (sym (get_or-set_same begins i first 0 room))))
       by k h false q =
           let f : k ≡ i → ⊥ = eqb-false k i q in
           let under : k < i = omega arith in
-          same-search begins b.low i first (parts_of (row_at words k)) k (omega arith)
+          same_search begins b.low i first (parts_of (row_at words k)) k (omega arith)
           ∙ (b.begun k under ∙ ap (λ (n : ℕ). some n) (sym (get_or-set_other begins i k first 0 f)))
 
-  all-begun : (count i : ℕ) (begins : List ℕ) → Begun words begins i → i + count ≤ length begins → (readFrom words begins i count).code ≡ 0
-      → Begun words (readFrom words begins i count).begin (i + count)
-  unfolding readFrom
-  all-begun zero i begins b room e = let z : i + 0 ≡ i = omega arith in rw z b
-  all-begun (suc count) i begins b room e =
-      by (in_range (row_at words i)) (partsBegin words begins (parts_of (row_at words i)) i) refl e
-      (λ first l q c. all-begun count (suc i) (set begins i first) (next-begun begins i first b (omega arith) l q) (omega (arith, length-set begins i first)) c)
+  all_begun : (count i : ℕ) (begins : List ℕ) → Begun words begins i → i + count ≤ length begins → (read_from words begins i count).code ≡ 0
+      → Begun words (read_from words begins i count).begin (i + count)
+  unfolding read_from
+  all_begun zero i begins b room e = let z : i + 0 ≡ i = omega arith in rw z b
+  all_begun (suc count) i begins b room e =
+      by (in_range (row_at words i)) (parts_begin words begins (parts_of (row_at words i)) i) refl e
+      (λ first l q c. all_begun count (suc i) (set begins i first) (next_begun begins i first b (omega arith) l q) (omega (arith, length-set begins i first)) c)
     where
       read : Bool → Option ℕ → TreeRead
       read y o =
           elim y [
-            | true ↦ elim o [ none ↦ record { code = 61; at = i; begin = begins } | some first ↦ readFrom words (set begins i first) (suc i) count ]
+            | true ↦ elim o [ none ↦ record { code = 61; at = i; begin = begins } | some first ↦ read_from words (set begins i first) (suc i) count ]
             | false ↦ record { code = 60; at = i; begin = begins }
           ]
 
-      by : (y : Bool) (o : Option ℕ) → partsBegin words begins (parts_of (row_at words i)) i ≡ o → (read y o).code ≡ 0
-          → ((first : ℕ) → first ≤ i → partsBegin words begins (parts_of (row_at words i)) i ≡ some first → (readFrom words (set begins i first) (suc i) count).code ≡ 0
-          → Begun words (readFrom words (set begins i first) (suc i) count).begin (suc i + count))
+      by : (y : Bool) (o : Option ℕ) → parts_begin words begins (parts_of (row_at words i)) i ≡ o → (read y o).code ≡ 0
+          → ((first : ℕ) → first ≤ i → parts_begin words begins (parts_of (row_at words i)) i ≡ some first → (read_from words (set begins i first) (suc i) count).code ≡ 0
+          → Begun words (read_from words (set begins i first) (suc i) count).begin (suc i + count))
           → Begun words (read y o).begin (i + suc count)
       by false o q e on = absurd (omega arith)
       by true none q e on = absurd (omega arith)
       by true (some first) q e on =
           let z : i + suc count ≡ suc i + count = omega arith in
-          rw z (on first (found-low words begins b.low (parts_of (row_at words i)) i first q) q e)
+          rw z (on first (found_low words begins b.low (parts_of (row_at words i)) i first q) q e)
 
-  pub begins-found : (treeRead words).code ≡ 0 → Begun words (treeRead words).begin (length words / 6)
-  unfolding treeRead
-  begins-found h = by (eqb (length words) (length words / 6 * 6) && (leb 1 (length words / 6) && leb (length words / 6) 2048)) refl h
+  pub begins_found : (tree_read words).code ≡ 0 → Begun words (tree_read words).begin (length words / 6)
+  unfolding tree_read
+  begins_found h = by (eqb (length words) (length words / 6 * 6) && (leb 1 (length words / 6) && leb (length words / 6) 2048)) refl h
     where
       by : (y : Bool) → eqb (length words) (length words / 6 * 6) && (leb 1 (length words / 6) && leb (length words / 6) 2048) ≡ y
-          → (elim y as (λ x. TreeRead) [ true ↦ readFrom words noBegins 0 (length words / 6) | false ↦ noList ]).code ≡ 0
-          → Begun words (elim y as (λ x. TreeRead) [ true ↦ readFrom words noBegins 0 (length words / 6) | false ↦ noList ]).begin (length words / 6)
+          → (elim y as (λ x. TreeRead) [ true ↦ read_from words no_begins 0 (length words / 6) | false ↦ no_list ]).code ≡ 0
+          → Begun words (elim y as (λ x. TreeRead) [ true ↦ read_from words no_begins 0 (length words / 6) | false ↦ no_list ]).begin (length words / 6)
       by false e h = absurd (omega arith)
       by true e h =
-          let s : Ready words noBegins 0 = start-ready words in
+          let s : Ready words no_begins 0 = start_ready words in
           let n : ℕ = length words / 6 in
           let sized : (leb 1 n && leb n 2048) ≡ true = (and_both (eqb (length words) (n * 6)) (leb 1 n && leb n 2048) e).1 in
           let few : leb n 2048 ≡ true = (and_both (leb 1 n) (leb n 2048) sized).1 in
           let z : 0 + length words / 6 ≡ length words / 6 = omega arith in
-          let room : 0 + length words / 6 ≤ length noBegins = omega (arith, s.size, leb-true (length words / 6) 2048 few) in
-          subst (λ (n : ℕ). Begun words (readFrom words noBegins 0 (length words / 6)).begin n) z
-          (all-begun (length words / 6) 0 noBegins (record { begun = λ k l. absurd (omega arith); low = s.low }) room h)
+          let room : 0 + length words / 6 ≤ length no_begins = omega (arith, s.size, leb-true (length words / 6) 2048 few) in
+          subst (λ (n : ℕ). Begun words (read_from words no_begins 0 (length words / 6)).begin n) z
+          (all_begun (length words / 6) 0 no_begins (record { begun = λ k l. absurd (omega arith); low = s.low }) room h)

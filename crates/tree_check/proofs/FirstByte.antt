@@ -1,4 +1,4 @@
--- `tableWords` reads just the good files, and the place that it stops at is the first byte no good file could have there, or the file's length.
+-- `table_words` reads just the good files, and the place that it stops at is the first byte no good file could have there, or the file's length.
 use mathlib.Core.Path.{◌≡◌, refl, sym, ap, ◌∙◌, subst}
 use Prim.Native.Nat.{ℕ, zero, suc, ◌+◌, ◌-◌, ◌*◌, ◌^◌, ◌<◌, ◌≤◌}
 use native.Mathlib.Omega.{arith}
@@ -14,36 +14,36 @@ use Rattle.text.specs.Steps.{Follows}
 use Rattle.text.specs.Decimal.{decimal}
 use Rattle.text.specs.Line.{line, lines, flat}
 use Rattle.text.specs.File.{Words, Rows}
-use Rattle.text.proofs.DecimalLaws.{decimal-small, decimal-next}
+use Rattle.text.proofs.DecimalLaws.{decimal_small, decimal_next}
 use Rattle.tree_check.specs.declared.scan.Scan.{Scan}
-use Rattle.tree_check.specs.Scan.{Scanned, stopped, words, digitOf, follows, nextColumn, refusedScan, firstDigit, inNumber, stepped, with_words, endedWord, scanned, startScan, alike, tableWords}
+use Rattle.tree_check.specs.Scan.{Scanned, stopped, words, digit_of, follows, next_column, refused_scan, first_digit, in_number, stepped, with_words, ended_word, scanned, start_scan, alike, table_words}
 use Rattle.tree_check.specs.Good.{TableFile, RefusedAt}
-use Rattle.tree_check.proofs.ScanLaws.{follows-true}
-use Rattle.tree_check.proofs.FileLaws.{with_none, column-low, next_low}
-use Rattle.tree_check.proofs.ReadBack.{opened, closed, goes_on, LineRead, line-one, line-more, last-ending, other-ending, first-column, later-column, line_read, names-there, table-back}
+use Rattle.tree_check.proofs.ScanLaws.{follows_true}
+use Rattle.tree_check.proofs.FileLaws.{with_none, column_low, next_low}
+use Rattle.tree_check.proofs.ReadBack.{opened, closed, goes_on, LineRead, line_one, line_more, last_ending, other_ending, first_column, later_column, line_read, names_there, table_back}
 
-true-false : true ≡ false → ⊥
-true-false e = let z : ◌≡◌ {A = ℕ} 0 1 = cc in omega arith
+true_false : true ≡ false → ⊥
+true_false e = let z : ◌≡◌ {A = ℕ} 0 1 = cc in omega arith
 
-stopped-words : {at : ℕ} {list : List ℕ} → stopped at ≡ words list → ⊥
-stopped-words e = let z : ◌≡◌ {A = ℕ} 0 1 = cc in omega arith
+stopped_words : {at : ℕ} {list : List ℕ} → stopped at ≡ words list → ⊥
+stopped_words e = let z : ◌≡◌ {A = ℕ} 0 1 = cc in omega arith
 
-stopped-at : {at n : ℕ} → stopped at ≡ stopped n → at ≡ n
-stopped-at e = cc
+stopped_at : {at n : ℕ} → stopped at ≡ stopped n → at ≡ n
+stopped_at e = cc
 
 words_are : {l k : List ℕ} → words l ≡ words k → l ≡ k
 words_are e = cc
 
 -- ---- what a byte does
 
-digit-small : (byte : ℕ) → (digitOf byte ≡ 10 → ⊥) → (digitOf byte < 10) × (byte ≡ 48 + digitOf byte)
-digit-small byte f = by (leb 48 byte) refl (leb byte 57) refl
+digit_small : (byte : ℕ) → (digit_of byte ≡ 10 → ⊥) → (digit_of byte < 10) × (byte ≡ 48 + digit_of byte)
+digit_small byte f = by (leb 48 byte) refl (leb byte 57) refl
   where
-    by : (x : Bool) → leb 48 byte ≡ x → (y : Bool) → leb byte 57 ≡ y → (digitOf byte < 10) × (byte ≡ 48 + digitOf byte)
+    by : (x : Bool) → leb 48 byte ≡ x → (y : Bool) → leb byte 57 ≡ y → (digit_of byte < 10) × (byte ≡ 48 + digit_of byte)
     by true p true q =
         let low : 48 ≤ byte = leb-true 48 byte p in
         let high : byte ≤ 57 = leb-true byte 57 q in
-        let d : digitOf byte ≡ byte - 48 = rw (p, q) in
+        let d : digit_of byte ≡ byte - 48 = rw (p, q) in
         (omega (arith, d), omega (arith, d))
     by true p false q = absurd (f (rw (p, q)))
     by false p y q = absurd (f (rw p))
@@ -60,37 +60,37 @@ module _ (last : ℕ) where
   step_is : (scan : Scan) (byte : ℕ) → Step scan byte
   step_is scan byte = by scan.begun refl
     where
-      first : scan.begun ≡ false → (y : Bool) → eqb (digitOf byte) 10 ≡ y → Step scan byte
+      first : scan.begun ≡ false → (y : Bool) → eqb (digit_of byte) 10 ≡ y → Step scan byte
       first o true e =
-          let is : stepped last scan byte ≡ refusedScan = unfold stepped firstDigit in rw (o, e) in
+          let is : stepped last scan byte ≡ refused_scan = unfold stepped first_digit in rw (o, e) in
           refuses (ap (λ (s : Scan). s.refused) is)
       first o false e =
-          let is : stepped last scan byte ≡ opened last scan.column (digitOf byte) = unfold stepped firstDigit in rw (o, e) in
-          let d : (digitOf byte < 10) × (byte ≡ 48 + digitOf byte) = digit-small byte (eqb-false (digitOf byte) 10 e) in
-          begins (digitOf byte) d.0 d.1 o is
+          let is : stepped last scan byte ≡ opened last scan.column (digit_of byte) = unfold stepped first_digit in rw (o, e) in
+          let d : (digit_of byte < 10) × (byte ≡ 48 + digit_of byte) = digit_small byte (eqb-false (digit_of byte) 10 e) in
+          begins (digit_of byte) d.0 d.1 o is
 
       inside : scan.begun ≡ true → (y : Bool) → eqb byte (ending (eqb scan.column last)) ≡ y → (z : Bool) → follows scan.value byte ≡ z → Step scan byte
-      inside o true e z q = ends o (eqb-true byte (ending (eqb scan.column last)) e) (unfold stepped inNumber in rw (o, e))
+      inside o true e z q = ends o (eqb-true byte (ending (eqb scan.column last)) e) (unfold stepped in_number in rw (o, e))
       inside o false e true q =
-          let f : Follows scan.value byte (byte - 48) = follows-true scan.value byte q in
-          lengthens (byte - 48) f.small f.shown o f.led f.fits (unfold stepped inNumber in rw (o, e, q))
+          let f : Follows scan.value byte (byte - 48) = follows_true scan.value byte q in
+          lengthens (byte - 48) f.small f.shown o f.led f.fits (unfold stepped in_number in rw (o, e, q))
       inside o false e false q =
-          let is : stepped last scan byte ≡ refusedScan = unfold stepped inNumber in rw (o, e, q) in
+          let is : stepped last scan byte ≡ refused_scan = unfold stepped in_number in rw (o, e, q) in
           refuses (ap (λ (s : Scan). s.refused) is)
 
       by : (y : Bool) → scan.begun ≡ y → Step scan byte
       by true o = inside o (eqb byte (ending (eqb scan.column last))) refl (follows scan.value byte) refl
-      by false o = first o (eqb (digitOf byte) 10) refl
+      by false o = first o (eqb (digit_of byte) 10) refl
 
   -- a byte that is refused stops the scan
-  stops-here : (scan : Scan) (at byte : ℕ) (rest : List ℕ) → (stepped last scan byte).refused ≡ true → scanned last scan at (byte ∷ rest) ≡ stopped at
+  stops_here : (scan : Scan) (at byte : ℕ) (rest : List ℕ) → (stepped last scan byte).refused ≡ true → scanned last scan at (byte ∷ rest) ≡ stopped at
   unfolding scanned
-  stops-here scan at byte rest e =
-      ap (λ (y : Bool). elim y [ true ↦ stopped at | false ↦ with_words (endedWord (stepped last scan byte)) (scanned last (stepped last scan byte) (suc at) rest) ]) e
+  stops_here scan at byte rest e =
+      ap (λ (y : Bool). elim y [ true ↦ stopped at | false ↦ with_words (ended_word (stepped last scan byte)) (scanned last (stepped last scan byte) (suc at) rest) ]) e
 
-  onward-is : (scan : Scan) (at byte : ℕ) (rest : List ℕ) → (stepped last scan byte).refused ≡ false
-      → scanned last scan at (byte ∷ rest) ≡ with_words (endedWord (stepped last scan byte)) (scanned last (stepped last scan byte) (suc at) rest)
-  onward-is scan at byte rest e = goes_on last scan (stepped last scan byte) at byte rest refl e
+  onward_is : (scan : Scan) (at byte : ℕ) (rest : List ℕ) → (stepped last scan byte).refused ≡ false
+      → scanned last scan at (byte ∷ rest) ≡ with_words (ended_word (stepped last scan byte)) (scanned last (stepped last scan byte) (suc at) rest)
+  onward_is scan at byte rest e = goes_on last scan (stepped last scan byte) at byte rest refl e
 
   -- ---- what is read is a good file's
 
@@ -115,9 +115,9 @@ module _ (last : ℕ) where
     first : scan.begun ≡ false → scan.column ≡ 0 → Whole text list
     later : scan.begun ≡ false → (scan.column ≡ 0 → ⊥) → Left scan.column text list
 
-  whole-line : {column : ℕ} {text list : List ℕ} → column ≡ 0 → Left column text list → Whole text list
+  whole_line : {column : ℕ} {text list : List ℕ} → column ≡ 0 → Left column text list → Whole text list
   unfolding lines flat
-  whole-line e l = record {
+  whole_line e l = record {
     rows = l.numbers ∷ l.rows;
     formed = (record { long = omega (arith, l.long, e); words = l.fit }, l.formed);
     same = l.same;
@@ -125,14 +125,14 @@ module _ (last : ℕ) where
   }
 
   -- a number before whole lines, or before the rest of its line
-  last-number : {column value : ℕ} {text list : List ℕ} → column ≡ last → value < 2 ^ 32 → Whole text list → Left column (decimal value ++ (10 ∷ text)) (value ∷ list)
-  last-number {column} {value} e v w = record {
+  last_number : {column value : ℕ} {text list : List ℕ} → column ≡ last → value < 2 ^ 32 → Whole text list → Left column (decimal value ++ (10 ∷ text)) (value ∷ list)
+  last_number {column} {value} e v w = record {
     numbers = value ∷ [];
     rows = w.rows;
     fit = (v, tt);
     formed = w.formed;
     long = omega (arith, e);
-    same = ap (λ (z : List ℕ). decimal value ++ (10 ∷ z)) w.same ∙ sym (line-one last value (lines w.rows));
+    same = ap (λ (z : List ℕ). decimal value ++ (10 ∷ z)) w.same ∙ sym (line_one last value (lines w.rows));
     all = ap (λ (z : List ℕ). value ∷ z) w.all;
   }
 
@@ -149,29 +149,29 @@ module _ (last : ℕ) where
         fit = (v, w);
         formed = l.formed;
         long = omega (arith, e);
-        same = ap (λ (z : List ℕ). decimal value ++ (32 ∷ z)) s ∙ sym (line-more last value m numbers (lines l.rows));
+        same = ap (λ (z : List ℕ). decimal value ++ (32 ∷ z)) s ∙ sym (line_more last value m numbers (lines l.rows));
         all = ap (λ (z : List ℕ). value ∷ z) a;
       }
 
   -- a number has ended
-  number-ended : (scan : Scan) {text list : List ℕ} → scan.column ≤ last → scan.value < 2 ^ 32 → Said (closed last scan.column scan.value) text list
+  number_ended : (scan : Scan) {text list : List ℕ} → scan.column ≤ last → scan.value < 2 ^ 32 → Said (closed last scan.column scan.value) text list
       → Left scan.column (decimal scan.value ++ (ending (eqb scan.column last) ∷ text)) (scan.value ∷ list)
-  number-ended scan {text} {list} c v s = by (eqb scan.column last) refl
+  number_ended scan {text} {list} c v s = by (eqb scan.column last) refl
     where
       by : (y : Bool) → eqb scan.column last ≡ y → Left scan.column (decimal scan.value ++ (ending (eqb scan.column last) ∷ text)) (scan.value ∷ list)
       by true e =
           let at_last : scan.column ≡ last = eqb-true scan.column last e in
-          rw (← (last-ending last scan.column at_last)) (last-number at_last v (s.first refl (first-column last scan.column at_last)))
+          rw (← (last_ending last scan.column at_last)) (last_number at_last v (s.first refl (first_column last scan.column at_last)))
       by false e =
           let before : scan.column ≡ last → ⊥ = eqb-false scan.column last e in
-          let column : nextColumn last scan.column ≡ scan.column + 1 = later-column last scan.column before in
-          let rest : Left (nextColumn last scan.column) text list = s.later refl (λ z. omega (arith, z, column)) in
-          rw (← (other-ending last scan.column before)) (one_number before c v (subst (λ (k : ℕ). Left k text list) column rest))
+          let column : next_column last scan.column ≡ scan.column + 1 = later_column last scan.column before in
+          let rest : Left (next_column last scan.column) text list = s.later refl (λ z. omega (arith, z, column)) in
+          rw (← (other_ending last scan.column before)) (one_number before c v (subst (λ (k : ℕ). Left k text list) column rest))
 
   -- the words after some
-  words-after : (before : List ℕ) (s : Scanned) (list : List ℕ) → with_words before s ≡ words list → (rest : List ℕ) × (s ≡ words rest) × (list ≡ before ++ rest)
-  words-after before (stopped at) list e = absurd (stopped-words e)
-  words-after before (words rest) list e = (rest, refl, sym (words_are e))
+  words_after : (before : List ℕ) (s : Scanned) (list : List ℕ) → with_words before s ≡ words list → (rest : List ℕ) × (s ≡ words rest) × (list ≡ before ++ rest)
+  words_after before (stopped at) list e = absurd (stopped_words e)
+  words_after before (words rest) list e = (rest, refl, sym (words_are e))
 
   abbrev Sound : List ℕ → Type 0
   Sound bytes = (scan : Scan) (at : ℕ) (list : List ℕ) → scan.column ≤ last → scan.value < 2 ^ 32 → scanned last scan at bytes ≡ words list → Said scan bytes list
@@ -183,13 +183,13 @@ module _ (last : ℕ) where
       end = unfold scanned in refl
 
       by : (b : Bool) → scan.begun ≡ b → (y : Bool) → eqb scan.column 0 ≡ y → Said scan [] list
-      by true p y q = let s : scanned last scan at [] ≡ stopped at = end ∙ rw p in absurd (stopped-words (sym s ∙ e))
-      by false p false q = let s : scanned last scan at [] ≡ stopped at = end ∙ rw (p, q) in absurd (stopped-words (sym s ∙ e))
+      by true p y q = let s : scanned last scan at [] ≡ stopped at = end ∙ rw p in absurd (stopped_words (sym s ∙ e))
+      by false p false q = let s : scanned last scan at [] ≡ stopped at = end ∙ rw (p, q) in absurd (stopped_words (sym s ∙ e))
       by false p true q =
           let s : scanned last scan at [] ≡ words [] = end ∙ rw (p, q) in
           let none : [] ≡ list = words_are (sym s ∙ e) in
           record {
-            inside = λ o. absurd (true-false (sym o ∙ p));
+            inside = λ o. absurd (true_false (sym o ∙ p));
             first = λ _ z. record { rows = []; formed = tt; same = unfold lines in refl; all = sym none ∙ (unfold flat in refl) };
             later = λ _ f. absurd (f (eqb-true scan.column 0 q));
           }
@@ -198,32 +198,32 @@ module _ (last : ℕ) where
   sound_more byte bytes on scan at list c v e = by (step_is scan byte)
     where
       by : Step scan byte → Said scan (byte ∷ bytes) list
-      by (refuses r) = absurd (stopped-words (sym (stops-here scan at byte bytes r) ∙ e))
+      by (refuses r) = absurd (stopped_words (sym (stops_here scan at byte bytes r) ∙ e))
       by (begins d h s o q) =
           let rest : scanned last (opened last scan.column d) (suc at) bytes ≡ words list =
           sym (goes_on last scan (opened last scan.column d) at byte bytes q refl ∙ with_none (scanned last (opened last scan.column d) (suc at) bytes)) ∙ e in
           let l : Left scan.column (decimal d ++ bytes) list = (on (opened last scan.column d) (suc at) list c (omega (arith, h)) rest).inside refl in
-          let text : decimal d ++ bytes ≡ byte ∷ bytes = rw (decimal-small d h, s) in
+          let text : decimal d ++ bytes ≡ byte ∷ bytes = rw (decimal_small d h, s) in
           let here : Left scan.column (byte ∷ bytes) list = subst (λ (z : List ℕ). Left scan.column z list) text l in
-          record { inside = λ p. absurd (true-false (sym p ∙ o)); first = λ _ z. whole-line z here; later = λ _ _. here }
+          record { inside = λ p. absurd (true_false (sym p ∙ o)); first = λ _ z. whole_line z here; later = λ _ _. here }
       by (ends o b q) =
           let rest : with_words (scan.value ∷ []) (scanned last (closed last scan.column scan.value) (suc at) bytes) ≡ words list =
           sym (goes_on last scan (closed last scan.column scan.value) at byte bytes q refl) ∙ e in
-          let w = words-after (scan.value ∷ []) (scanned last (closed last scan.column scan.value) (suc at) bytes) list rest in
+          let w = words_after (scan.value ∷ []) (scanned last (closed last scan.column scan.value) (suc at) bytes) list rest in
           let s : Said (closed last scan.column scan.value) bytes w.0 = on (closed last scan.column scan.value) (suc at) w.0 (next_low last scan.column c) v w.1 in
-          let here : Left scan.column (decimal scan.value ++ (byte ∷ bytes)) list = rw (b, w.2) (number-ended scan c v s) in
-          record { inside = λ _. here; first = λ p _. absurd (true-false (sym o ∙ p)); later = λ p _. absurd (true-false (sym o ∙ p)) }
+          let here : Left scan.column (decimal scan.value ++ (byte ∷ bytes)) list = rw (b, w.2) (number_ended scan c v s) in
+          record { inside = λ _. here; first = λ p _. absurd (true_false (sym o ∙ p)); later = λ p _. absurd (true_false (sym o ∙ p)) }
       by (lengthens d h s o p f q) =
           let more : ℕ = scan.value * 10 + d in
           let rest : scanned last (opened last scan.column more) (suc at) bytes ≡ words list =
           sym (goes_on last scan (opened last scan.column more) at byte bytes q refl ∙ with_none (scanned last (opened last scan.column more) (suc at) bytes)) ∙ e in
           let l : Left scan.column (decimal more ++ bytes) list = (on (opened last scan.column more) (suc at) list c f rest).inside refl in
           let text : decimal more ++ bytes ≡ decimal scan.value ++ (byte ∷ bytes) =
-          ap (λ (z : List ℕ). z ++ bytes) (decimal-next scan.value d p h) ∙ (append_assoc (decimal scan.value) ((48 + d) ∷ []) bytes ∙ ap (λ (z : ℕ). decimal scan.value ++ (z ∷ bytes)) (sym s)) in
+          ap (λ (z : List ℕ). z ++ bytes) (decimal_next scan.value d p h) ∙ (append_assoc (decimal scan.value) ((48 + d) ∷ []) bytes ∙ ap (λ (z : ℕ). decimal scan.value ++ (z ∷ bytes)) (sym s)) in
           record {
             inside = λ _. subst (λ (z : List ℕ). Left scan.column z list) text l;
-            first = λ z _. absurd (true-false (sym o ∙ z));
-            later = λ z _. absurd (true-false (sym o ∙ z));
+            first = λ z _. absurd (true_false (sym o ∙ z));
+            later = λ z _. absurd (true_false (sym o ∙ z));
           }
 
   sound : (bytes : List ℕ) → Sound bytes
@@ -232,9 +232,9 @@ module _ (last : ℕ) where
 
   -- ---- where it stops
 
-  zeros-fit : (n : ℕ) → Words (replicate n 0)
-  zeros-fit zero = tt
-  zeros-fit (suc n) = (omega arith, zeros-fit n)
+  zeros_fit : (n : ℕ) → Words (replicate n 0)
+  zeros_fit zero = tt
+  zeros_fit (suc n) = (omega arith, zeros_fit n)
 
   -- bytes that make a file of what was read so far
   record Filled (scan : Scan) (at : ℕ) : Type 0 where
@@ -242,27 +242,27 @@ module _ (last : ℕ) where
     list : List ℕ
     reads : scanned last scan at rest ≡ words list
 
-  ended-scan : (scan : Scan) (at : ℕ) → scan.begun ≡ false → scan.column ≡ 0 → scanned last scan at [] ≡ words []
+  ended_scan : (scan : Scan) (at : ℕ) → scan.begun ≡ false → scan.column ≡ 0 → scanned last scan at [] ≡ words []
   unfolding scanned
-  ended-scan scan at o f = rw (o, f)
+  ended_scan scan at o f = rw (o, f)
 
-  fill-line : (scan : Scan) (at : ℕ) → scan.column ≤ last → scan.begun ≡ false → Filled scan at
-  fill-line scan at c o =
+  fill_line : (scan : Scan) (at : ℕ) → scan.column ≤ last → scan.begun ≡ false → Filled scan at
+  fill_line scan at c o =
       let zeros : List ℕ = replicate (last - scan.column) 0 in
       let many : length zeros ≡ last - scan.column = length-replicate (last - scan.column) 0 in
-      let l : LineRead last scan at (0 ∷ zeros) [] = line_read last zeros 0 scan at [] (omega arith, zeros-fit (last - scan.column)) o (omega (arith, many, c)) in
-      let end : scanned last l.next l.place [] ≡ words [] = ended-scan l.next l.place l.outside l.first in
+      let l : LineRead last scan at (0 ∷ zeros) [] = line_read last zeros 0 scan at [] (omega arith, zeros_fit (last - scan.column)) o (omega (arith, many, c)) in
+      let end : scanned last l.next l.place [] ≡ words [] = ended_scan l.next l.place l.outside l.first in
       record { rest = line (0 ∷ zeros) ++ []; list = (0 ∷ zeros) ++ []; reads = l.same ∙ ap (with_words (0 ∷ zeros)) end }
 
   fill : (scan : Scan) (at : ℕ) → scan.column ≤ last → Filled scan at
   fill scan at c = by scan.begun refl
     where
       by : (y : Bool) → scan.begun ≡ y → Filled scan at
-      by false o = fill-line scan at c o
+      by false o = fill_line scan at c o
       by true o =
           let byte : ℕ = ending (eqb scan.column last) in
-          let is : stepped last scan byte ≡ closed last scan.column scan.value = unfold stepped inNumber in rw (o, eq-eqb byte byte refl) in
-          let f : Filled (closed last scan.column scan.value) (suc at) = fill-line (closed last scan.column scan.value) (suc at) (next_low last scan.column c) refl in
+          let is : stepped last scan byte ≡ closed last scan.column scan.value = unfold stepped in_number in rw (o, eq-eqb byte byte refl) in
+          let f : Filled (closed last scan.column scan.value) (suc at) = fill_line (closed last scan.column scan.value) (suc at) (next_low last scan.column c) refl in
           record {
             rest = byte ∷ f.rest;
             list = (scan.value ∷ []) ++ f.list;
@@ -279,9 +279,9 @@ module _ (last : ℕ) where
   Stopping bytes = (scan : Scan) (at n : ℕ) → scan.column ≤ last → scanned last scan at bytes ≡ stopped n → Stops bytes scan at n
 
   -- it stops at once
-  stops-now : (bytes : List ℕ) (scan : Scan) (at n : ℕ) → scan.column ≤ last → at ≡ n → (n < at + length bytes → (rest : List ℕ) → scanned last scan at (take 1 bytes ++ rest) ≡ stopped at)
+  stops_now : (bytes : List ℕ) (scan : Scan) (at n : ℕ) → scan.column ≤ last → at ≡ n → (n < at + length bytes → (rest : List ℕ) → scanned last scan at (take 1 bytes ++ rest) ≡ stopped at)
       → Stops bytes scan at n
-  stops-now bytes scan at n c e f =
+  stops_now bytes scan at n c e f =
       let none : n - at ≡ 0 = omega (arith, e) in
       let one : suc n - at ≡ 1 = omega (arith, e) in
       let full = fill scan at c in
@@ -292,36 +292,36 @@ module _ (last : ℕ) where
         further = λ l rest. rw one (f l rest ∙ ap stopped e);
       }
 
-  stopping-none : Stopping []
-  stopping-none scan at n c e = stops-now [] scan at n c place (λ l. absurd (omega (arith, l, place)))
+  stopping_none : Stopping []
+  stopping_none scan at n c e = stops_now [] scan at n c place (λ l. absurd (omega (arith, l, place)))
     where
       end : scanned last scan at [] ≡ elim (scan.begun || not (eqb scan.column 0)) [ true ↦ stopped at | false ↦ words [] ]
       end = unfold scanned in refl
 
       by : (y : Bool) → elim y [ true ↦ stopped at | false ↦ words [] ] ≡ stopped n → at ≡ n
-      by true q = stopped-at q
-      by false q = absurd (stopped-words (sym q))
+      by true q = stopped_at q
+      by false q = absurd (stopped_words (sym q))
 
       place : at ≡ n
       place = by (scan.begun || not (eqb scan.column 0)) (sym end ∙ e)
 
   -- a scan behind some words stops where it stops
-  stops-after : (before : List ℕ) (s : Scanned) (n : ℕ) → with_words before s ≡ stopped n → s ≡ stopped n
-  stops-after before (stopped at) n e = e
-  stops-after before (words rest) n e = absurd (stopped-words (sym e))
+  stops_after : (before : List ℕ) (s : Scanned) (n : ℕ) → with_words before s ≡ stopped n → s ≡ stopped n
+  stops_after before (stopped at) n e = e
+  stops_after before (words rest) n e = absurd (stopped_words (sym e))
 
-  stopping-more : (byte : ℕ) (bytes : List ℕ) → Stopping bytes → Stopping (byte ∷ bytes)
-  stopping-more byte bytes on scan at n c e = by (stepped last scan byte).refused refl
+  stopping_more : (byte : ℕ) (bytes : List ℕ) → Stopping bytes → Stopping (byte ∷ bytes)
+  stopping_more byte bytes on scan at n c e = by (stepped last scan byte).refused refl
     where
       by : (y : Bool) → (stepped last scan byte).refused ≡ y → Stops (byte ∷ bytes) scan at n
       by true r =
-          let here : at ≡ n = stopped-at (sym (stops-here scan at byte bytes r) ∙ e) in
-          stops-now (byte ∷ bytes) scan at n c here (λ l rest. stops-here scan at byte rest r)
+          let here : at ≡ n = stopped_at (sym (stops_here scan at byte bytes r) ∙ e) in
+          stops_now (byte ∷ bytes) scan at n c here (λ l rest. stops_here scan at byte rest r)
       by false r =
           let next : Scan = stepped last scan byte in
           let after : scanned last next (suc at) bytes ≡ stopped n =
-          stops-after (endedWord next) (scanned last next (suc at) bytes) n (sym (onward-is scan at byte bytes r) ∙ e) in
-          let s : Stops bytes next (suc at) n = on next (suc at) n (column-low last scan byte c) after in
+          stops_after (ended_word next) (scanned last next (suc at) bytes) n (sym (onward_is scan at byte bytes r) ∙ e) in
+          let s : Stops bytes next (suc at) n = on next (suc at) n (column_low last scan byte c) after in
           let one : n - at ≡ suc (n - suc at) = omega (arith, s.least) in
           let two : suc n - at ≡ suc (suc n - suc at) = omega (arith, s.least) in
           record {
@@ -329,34 +329,34 @@ module _ (last : ℕ) where
             most = omega (arith, s.most);
             viable = (
               s.viable.0,
-              endedWord next ++ s.viable.1,
-              rw one (onward-is scan at byte (take (n - suc at) bytes ++ s.viable.0) r ∙ ap (with_words (endedWord next)) s.viable.2),
+              ended_word next ++ s.viable.1,
+              rw one (onward_is scan at byte (take (n - suc at) bytes ++ s.viable.0) r ∙ ap (with_words (ended_word next)) s.viable.2),
             );
-            further = λ l rest. rw two (onward-is scan at byte (take (suc n - suc at) bytes ++ rest) r ∙ ap (with_words (endedWord next)) (s.further (omega (arith, l)) rest));
+            further = λ l rest. rw two (onward_is scan at byte (take (suc n - suc at) bytes ++ rest) r ∙ ap (with_words (ended_word next)) (s.further (omega (arith, l)) rest));
           }
 
   stopping : (bytes : List ℕ) → Stopping bytes
-  stopping [] = stopping-none
-  stopping (byte ∷ bytes) = stopping-more byte bytes (stopping bytes)
+  stopping [] = stopping_none
+  stopping (byte ∷ bytes) = stopping_more byte bytes (stopping bytes)
 
 -- ---- the line of names
 
-alike-most : (names file : List ℕ) → (alike names file ≤ length names) × (alike names file ≤ length file)
+alike_most : (names file : List ℕ) → (alike names file ≤ length names) × (alike names file ≤ length file)
 unfolding alike
-alike-most [] file = (omega arith, omega arith)
-alike-most (name ∷ names) [] = (omega arith, omega arith)
-alike-most (name ∷ names) (byte ∷ file) = by (alike-most names file) (eqb byte name)
+alike_most [] file = (omega arith, omega arith)
+alike_most (name ∷ names) [] = (omega arith, omega arith)
+alike_most (name ∷ names) (byte ∷ file) = by (alike_most names file) (eqb byte name)
   where
     by : (alike names file ≤ length names) × (alike names file ≤ length file) → (y : Bool) → (cond y (suc (alike names file)) 0 ≤ suc (length names)) × (cond y (suc (alike names file)) 0 ≤ suc (length file))
     by m true = (omega (arith, m.0), omega (arith, m.1))
     by m false = (omega arith, omega arith)
 
 -- what is alike of the file, and then the rest of the names
-alike-taken : (names file : List ℕ) → take (alike names file) file ++ drop (alike names file) names ≡ names
+alike_taken : (names file : List ℕ) → take (alike names file) file ++ drop (alike names file) names ≡ names
 unfolding alike
-alike-taken [] file = refl
-alike-taken (name ∷ names) [] = refl
-alike-taken (name ∷ names) (byte ∷ file) = by (alike-taken names file) (eqb byte name) refl
+alike_taken [] file = refl
+alike_taken (name ∷ names) [] = refl
+alike_taken (name ∷ names) (byte ∷ file) = by (alike_taken names file) (eqb byte name) refl
   where
     by : take (alike names file) file ++ drop (alike names file) names ≡ names → (y : Bool) → eqb byte name ≡ y → take (cond y (suc (alike names file)) 0) (byte ∷ file) ++ drop (cond y (suc (alike names file)) 0) (name ∷ names) ≡ name ∷ names
     by on true e = rw (eqb-true byte name e) (ap (λ (z : List ℕ). name ∷ z) on)
@@ -374,11 +374,11 @@ alike_all (name ∷ names) (byte ∷ file) e = by (λ q. alike_all names file q)
     by on false p q = absurd (omega (arith, q))
 
 -- the byte at which they differ, whatever comes after it
-alike-stops : (names file rest : List ℕ) → alike names file < length names → alike names file < length file → alike names (take (suc (alike names file)) file ++ rest) ≡ alike names file
+alike_stops : (names file rest : List ℕ) → alike names file < length names → alike names file < length file → alike names (take (suc (alike names file)) file ++ rest) ≡ alike names file
 unfolding alike
-alike-stops [] file rest h l = absurd (omega (arith, h))
-alike-stops (name ∷ names) [] rest h l = absurd (omega (arith, l))
-alike-stops (name ∷ names) (byte ∷ file) rest h l = by (λ p q. alike-stops names file rest p q) (eqb byte name) refl h l
+alike_stops [] file rest h l = absurd (omega (arith, h))
+alike_stops (name ∷ names) [] rest h l = absurd (omega (arith, l))
+alike_stops (name ∷ names) (byte ∷ file) rest h l = by (λ p q. alike_stops names file rest p q) (eqb byte name) refl h l
   where
     by : (alike names file < length names → alike names file < length file → alike names (take (suc (alike names file)) file ++ rest) ≡ alike names file) → (y : Bool) → eqb byte name ≡ y → cond y (suc (alike names file)) 0 < suc (length names) → cond y (suc (alike names file)) 0 < suc (length file)
         → alike (name ∷ names) (take (suc (cond y (suc (alike names file)) 0)) (byte ∷ file) ++ rest) ≡ cond y (suc (alike names file)) 0
@@ -388,54 +388,54 @@ alike-stops (name ∷ names) (byte ∷ file) rest h l = by (λ p q. alike-stops 
 -- ---- the file
 
 module _ (names : List ℕ) (last : ℕ) where
-  names-stop : (file : List ℕ) → (alike names file ≡ length names → ⊥) → tableWords names last file ≡ stopped (alike names file)
-  unfolding tableWords
-  names-stop file f = rw (tableWords, ne_eqb (alike names file) (length names) f)
+  names_stop : (file : List ℕ) → (alike names file ≡ length names → ⊥) → table_words names last file ≡ stopped (alike names file)
+  unfolding table_words
+  names_stop file f = rw (table_words, ne_eqb (alike names file) (length names) f)
 
-  names-read : (file : List ℕ) → alike names file ≡ length names → tableWords names last file ≡ scanned last startScan (length names) (drop (length names) file)
-  unfolding tableWords
-  names-read file e = rw (tableWords, eq-eqb (alike names file) (length names) e)
+  names_read : (file : List ℕ) → alike names file ≡ length names → table_words names last file ≡ scanned last start_scan (length names) (drop (length names) file)
+  unfolding table_words
+  names_read file e = rw (table_words, eq-eqb (alike names file) (length names) e)
 
   -- a good file is read
-  pub good-read : {file : List ℕ} (t : TableFile names last file) → tableWords names last file ≡ words (flat t.rows)
-  good-read t = ap (tableWords names last) t.text ∙ table-back names last t.rows t.formed
+  pub good_read : {file : List ℕ} (t : TableFile names last file) → table_words names last file ≡ words (flat t.rows)
+  good_read t = ap (table_words names last) t.text ∙ table_back names last t.rows t.formed
 
-  not_good : {file : List ℕ} {n : ℕ} → tableWords names last file ≡ stopped n → TableFile names last file → ⊥
-  not_good e t = stopped-words (sym e ∙ good-read t)
+  not_good : {file : List ℕ} {n : ℕ} → table_words names last file ≡ stopped n → TableFile names last file → ⊥
+  not_good e t = stopped_words (sym e ∙ good_read t)
 
   -- what is read is a good file's words
-  pub read-good : (file list : List ℕ) → tableWords names last file ≡ words list → (t : TableFile names last file) × (flat t.rows ≡ list)
-  read-good file list e = by (eqb (alike names file) (length names)) refl
+  pub read_good : (file list : List ℕ) → table_words names last file ≡ words list → (t : TableFile names last file) × (flat t.rows ≡ list)
+  read_good file list e = by (eqb (alike names file) (length names)) refl
     where
       by : (y : Bool) → eqb (alike names file) (length names) ≡ y → (t : TableFile names last file) × (flat t.rows ≡ list)
       by true p =
           let all : alike names file ≡ length names = eqb-true (alike names file) (length names) p in
-          let w = (sound last (drop (length names) file) startScan (length names) list (omega arith) (omega arith) (sym (names-read file all) ∙ e)).first refl refl in
+          let w = (sound last (drop (length names) file) start_scan (length names) list (omega arith) (omega arith) (sym (names_read file all) ∙ e)).first refl refl in
           (record { rows = w.rows; formed = w.formed; text = alike_all names file all ∙ ap (λ (z : List ℕ). names ++ z) w.same }, sym w.all)
-      by false p = absurd (stopped-words (sym (names-stop file (eqb-false (alike names file) (length names) p)) ∙ e))
+      by false p = absurd (stopped_words (sym (names_stop file (eqb-false (alike names file) (length names) p)) ∙ e))
 
   -- refused in the line of names
-  names-refused : (file : List ℕ) → (alike names file ≡ length names → ⊥) → RefusedAt (TableFile names last) file (alike names file)
-  names-refused file f =
+  names_refused : (file : List ℕ) → (alike names file ≡ length names → ⊥) → RefusedAt (TableFile names last) file (alike names file)
+  names_refused file f =
       let n : ℕ = alike names file in
-      let m = alike-most names file in
+      let m = alike_most names file in
       record {
         within = m.1;
-        viable = (drop n names, record { rows = []; formed = tt; text = alike-taken names file ∙ sym (append-nil names) ∙ ap (λ (z : List ℕ). names ++ z) (unfold lines in refl) });
-        no-further = λ l rest.
-            let same : alike names (take (suc n) file ++ rest) ≡ n = alike-stops names file rest (omega (arith, m.0, f)) l in
-            not_good (names-stop (take (suc n) file ++ rest) (λ z. f (sym same ∙ z)));
-        not_good = not_good (names-stop file f);
+        viable = (drop n names, record { rows = []; formed = tt; text = alike_taken names file ∙ sym (append-nil names) ∙ ap (λ (z : List ℕ). names ++ z) (unfold lines in refl) });
+        no_further = λ l rest.
+            let same : alike names (take (suc n) file ++ rest) ≡ n = alike_stops names file rest (omega (arith, m.0, f)) l in
+            not_good (names_stop (take (suc n) file ++ rest) (λ z. f (sym same ∙ z)));
+        not_good = not_good (names_stop file f);
       }
 
   -- refused in a line of numbers
-  lines-refused : (file : List ℕ) (n : ℕ) → alike names file ≡ length names → tableWords names last file ≡ stopped n → RefusedAt (TableFile names last) file n
-  lines-refused file n all e = record {
+  lines_refused : (file : List ℕ) (n : ℕ) → alike names file ≡ length names → table_words names last file ≡ stopped n → RefusedAt (TableFile names last) file n
+  lines_refused file n all e = record {
     within = omega (arith, s.most, ap length (alike_all names file all) ∙ length-append names tail);
     viable = (s.viable.0, good s.viable.0 s.viable.1 s.viable.2);
-    no-further = λ l rest t.
-        let further : scanned last startScan k (take (suc n - k) tail ++ rest) ≡ stopped n = s.further (omega (arith, l, ap length (alike_all names file all) ∙ length-append names tail)) rest in
-        not_good (joined-read (take (suc n - k) tail ++ rest) ∙ further)
+    no_further = λ l rest t.
+        let further : scanned last start_scan k (take (suc n - k) tail ++ rest) ≡ stopped n = s.further (omega (arith, l, ap length (alike_all names file all) ∙ length-append names tail)) rest in
+        not_good (joined_read (take (suc n - k) tail ++ rest) ∙ further)
         (subst (TableFile names last) (ap (λ (z : List ℕ). z ++ rest) (split (suc n) (omega (arith, s.least))) ∙ append_assoc names (take (suc n - k) tail) rest) t);
     not_good = not_good e;
   }
@@ -446,8 +446,8 @@ module _ (names : List ℕ) (last : ℕ) where
       tail : List ℕ
       tail = drop (length names) file
 
-      s : Stops last tail startScan k n
-      s = stopping last tail startScan k n (omega arith) (sym (names-read file all) ∙ e)
+      s : Stops last tail start_scan k n
+      s = stopping last tail start_scan k n (omega arith) (sym (names_read file all) ∙ e)
 
       split : (m : ℕ) → k ≤ m → take m file ≡ names ++ take (m - k) tail
       split m h =
@@ -455,21 +455,21 @@ module _ (names : List ℕ) (last : ℕ) where
           let first : take k file ≡ names = ap (take k) (alike_all names file all) ∙ take_at names tail k refl in
           sym (ap (λ (z : ℕ). take z file) whole) ∙ (take-add k (m - k) file ∙ ap (λ (z : List ℕ). z ++ take (m - k) tail) first)
 
-      joined-read : (text : List ℕ) → tableWords names last (names ++ text) ≡ scanned last startScan k text
-      joined-read text =
-          names-read (names ++ text) (names-there names text) ∙ ap (scanned last startScan k) (drop_at names text k refl)
+      joined_read : (text : List ℕ) → table_words names last (names ++ text) ≡ scanned last start_scan k text
+      joined_read text =
+          names_read (names ++ text) (names_there names text) ∙ ap (scanned last start_scan k) (drop_at names text k refl)
 
-      good : (rest list : List ℕ) → scanned last startScan k (take (n - k) tail ++ rest) ≡ words list → TableFile names last (take n file ++ rest)
+      good : (rest list : List ℕ) → scanned last start_scan k (take (n - k) tail ++ rest) ≡ words list → TableFile names last (take n file ++ rest)
       good rest list q =
           subst (TableFile names last) (sym (ap (λ (z : List ℕ). z ++ rest) (split n s.least) ∙ append_assoc names (take (n - k) tail) rest))
-          (read-good (names ++ (take (n - k) tail ++ rest)) list (joined-read (take (n - k) tail ++ rest) ∙ q)).0
+          (read_good (names ++ (take (n - k) tail ++ rest)) list (joined_read (take (n - k) tail ++ rest) ∙ q)).0
 
   -- the place of 50
-  pub refused-first : (file : List ℕ) (n : ℕ) → tableWords names last file ≡ stopped n → RefusedAt (TableFile names last) file n
-  refused-first file n e = by (eqb (alike names file) (length names)) refl
+  pub refused_first : (file : List ℕ) (n : ℕ) → table_words names last file ≡ stopped n → RefusedAt (TableFile names last) file n
+  refused_first file n e = by (eqb (alike names file) (length names)) refl
     where
       by : (y : Bool) → eqb (alike names file) (length names) ≡ y → RefusedAt (TableFile names last) file n
-      by true p = lines-refused file n (eqb-true (alike names file) (length names) p) e
+      by true p = lines_refused file n (eqb-true (alike names file) (length names) p) e
       by false p =
           let f : alike names file ≡ length names → ⊥ = eqb-false (alike names file) (length names) p in
-          subst (RefusedAt (TableFile names last) file) (stopped-at (sym (names-stop file f) ∙ e)) (names-refused file f)
+          subst (RefusedAt (TableFile names last) file) (stopped_at (sym (names_stop file f) ∙ e)) (names_refused file f)

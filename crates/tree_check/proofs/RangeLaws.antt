@@ -8,12 +8,12 @@ use lib.ListN.{get_or}
 use lib.Dec.{eqb}
 use borrow.Author.Tests.{le-leb, lt-leb}
 use Rattle.table.specs.Check.{unused, fits}
-use Rattle.table.proofs.RuleLaws.{below-fits, not-below-fits}
+use Rattle.table.proofs.RuleLaws.{below_fits, not_below_fits}
 use Rattle.definition.specs.Tree.{row}
-use Rattle.tree_grammar.specs.Ranges.{rulesByOp, rowRules, fitsColumn, in_range}
+use Rattle.tree_grammar.specs.Ranges.{rules_by_op, row_rules, fits_column, in_range}
 use Rattle.tree_grammar.proofs.Upto.{upto, ends, ◌and◌}
 use Rattle.tree_check.specs.declared.ranges.Limits.{Limits}
-use Rattle.tree_check.specs.Takes.{limitOf, limitsOf}
+use Rattle.tree_check.specs.Takes.{limit_of, limits_of}
 
 -- tests one after the other
 passes : {x y z : Bool} → x ≡ true → z ≡ y → z ≡ x && y
@@ -23,63 +23,63 @@ fails : {x : Bool} (y : Bool) → x ≡ false → false ≡ x && y
 fails y h = rw h
 
 -- no op has a column e
-e-unused : (op : ℕ) → op < 26 → get_or (get_or rulesByOp op []) 4 unused ≡ unused
-e-unused = upto (λ op. get_or (get_or rulesByOp op []) 4 unused ≡ unused) 26
+e_unused : (op : ℕ) → op < 26 → get_or (get_or rules_by_op op []) 4 unused ≡ unused
+e_unused = upto (λ op. get_or (get_or rules_by_op op []) 4 unused ≡ unused) 26
     (refl and refl and refl and refl and refl and refl and refl and refl and refl and refl and refl and refl and refl
     and refl and refl and refl and refl and refl and refl and refl and refl and refl and refl and refl and refl and refl
     and ends)
 
 module _ (op a b c d e : ℕ) where
-  pub no-op : op ≡ 0 → false ≡ in_range (row op a b c d e)
+  pub no_op : op ≡ 0 → false ≡ in_range (row op a b c d e)
   unfolding in_range
-  no-op h = rw h
+  no_op h = rw h
 
-  pub large-op : (op ≡ 0 → ⊥) → 25 < op → false ≡ in_range (row op a b c d e)
+  pub large_op : (op ≡ 0 → ⊥) → 25 < op → false ≡ in_range (row op a b c d e)
   unfolding in_range
-  large-op f h = passes (le-leb 1 op (omega (arith, f))) (fails _ (lt-leb op 25 h))
+  large_op f h = passes (le-leb 1 op (omega (arith, f))) (fails _ (lt-leb op 25 h))
 
-  module _ (f : op ≡ 0 → ⊥) (known : op ≤ 25) {limits : Limits} (is : limits ≡ limitsOf op a b c d) where
-    fit : (column w : ℕ) {most : ℕ} → most ≡ limitOf op column w → w < most → fitsColumn op column w ≡ true
-    unfolding fitsColumn
-    fit column w e h = below-fits _ w (rw (← e) h)
+  module _ (f : op ≡ 0 → ⊥) (known : op ≤ 25) {limits : Limits} (is : limits ≡ limits_of op a b c d) where
+    fit : (column w : ℕ) {most : ℕ} → most ≡ limit_of op column w → w < most → fits_column op column w ≡ true
+    unfolding fits_column
+    fit column w e h = below_fits _ w (rw (← e) h)
 
-    unfit : (column w : ℕ) {most : ℕ} → most ≡ limitOf op column w → most ≤ w → fitsColumn op column w ≡ false
-    unfolding fitsColumn
-    unfit column w e h = not-below-fits _ w (rw (← e) h)
+    unfit : (column w : ℕ) {most : ℕ} → most ≡ limit_of op column w → most ≤ w → fits_column op column w ≡ false
+    unfolding fits_column
+    unfit column w e h = not_below_fits _ w (rw (← e) h)
 
-    columns : {x : Bool} → x ≡ (fitsColumn op 0 a && (fitsColumn op 1 b && (fitsColumn op 2 c && (fitsColumn op 3 d && fitsColumn op 4 e)))) → x ≡ in_range (row op a b c d e)
+    columns : {x : Bool} → x ≡ (fits_column op 0 a && (fits_column op 1 b && (fits_column op 2 c && (fits_column op 3 d && fits_column op 4 e)))) → x ≡ in_range (row op a b c d e)
     unfolding in_range
     columns h = passes (le-leb 1 op (omega (arith, f))) (passes (le-leb op 25 known) h)
 
-    a-is : limits.a ≡ limitOf op 0 a
-    a-is = ap (λ (z : Limits). z.a) is
+    a_is : limits.a ≡ limit_of op 0 a
+    a_is = ap (λ (z : Limits). z.a) is
 
-    b-is : limits.b ≡ limitOf op 1 b
-    b-is = ap (λ (z : Limits). z.b) is
+    b_is : limits.b ≡ limit_of op 1 b
+    b_is = ap (λ (z : Limits). z.b) is
 
-    c-is : limits.c ≡ limitOf op 2 c
-    c-is = ap (λ (z : Limits). z.c) is
+    c_is : limits.c ≡ limit_of op 2 c
+    c_is = ap (λ (z : Limits). z.c) is
 
-    d-is : limits.d ≡ limitOf op 3 d
-    d-is = ap (λ (z : Limits). z.d) is
+    d_is : limits.d ≡ limit_of op 3 d
+    d_is = ap (λ (z : Limits). z.d) is
 
-    pub a-out : limits.a ≤ a → false ≡ in_range (row op a b c d e)
-    a-out h = columns (fails _ (unfit 0 a a-is h))
+    pub a_out : limits.a ≤ a → false ≡ in_range (row op a b c d e)
+    a_out h = columns (fails _ (unfit 0 a a_is h))
 
-    module _ (fit-a : a < limits.a) where
-      pub b-out : limits.b ≤ b → false ≡ in_range (row op a b c d e)
-      b-out h = columns (passes (fit 0 a a-is fit-a) (fails _ (unfit 1 b b-is h)))
+    module _ (fit_a : a < limits.a) where
+      pub b_out : limits.b ≤ b → false ≡ in_range (row op a b c d e)
+      b_out h = columns (passes (fit 0 a a_is fit_a) (fails _ (unfit 1 b b_is h)))
 
-      module _ (fit-b : b < limits.b) where
+      module _ (fit_b : b < limits.b) where
         pub c_out : limits.c ≤ c → false ≡ in_range (row op a b c d e)
-        c_out h = columns (passes (fit 0 a a-is fit-a) (passes (fit 1 b b-is fit-b) (fails _ (unfit 2 c c-is h))))
+        c_out h = columns (passes (fit 0 a a_is fit_a) (passes (fit 1 b b_is fit_b) (fails _ (unfit 2 c c_is h))))
 
-        module _ (fit-c : c < limits.c) where
-          pub d-out : limits.d ≤ d → false ≡ in_range (row op a b c d e)
-          d-out h = columns (passes (fit 0 a a-is fit-a) (passes (fit 1 b b-is fit-b) (passes (fit 2 c c-is fit-c) (fails _ (unfit 3 d d-is h)))))
+        module _ (fit_c : c < limits.c) where
+          pub d_out : limits.d ≤ d → false ≡ in_range (row op a b c d e)
+          d_out h = columns (passes (fit 0 a a_is fit_a) (passes (fit 1 b b_is fit_b) (passes (fit 2 c c_is fit_c) (fails _ (unfit 3 d d_is h)))))
 
-          pub e-told : d < limits.d → eqb e 0 ≡ in_range (row op a b c d e)
-          e-told h = columns (passes (fit 0 a a-is fit-a) (passes (fit 1 b b-is fit-b) (passes (fit 2 c c-is fit-c) (passes (fit 3 d d-is h) last))))
+          pub e_told : d < limits.d → eqb e 0 ≡ in_range (row op a b c d e)
+          e_told h = columns (passes (fit 0 a a_is fit_a) (passes (fit 1 b b_is fit_b) (passes (fit 2 c c_is fit_c) (passes (fit 3 d d_is h) last))))
             where
-              last : eqb e 0 ≡ fitsColumn op 4 e
-              last = unfold fitsColumn rowRules fits in rw (e-unused op (omega (arith, known)))
+              last : eqb e 0 ≡ fits_column op 4 e
+              last = unfold fits_column row_rules fits in rw (e_unused op (omega (arith, known)))

@@ -13,42 +13,42 @@ use Rattle.text.specs.Form.{ending}
 use Rattle.text.specs.Decimal.{decimal}
 use Rattle.text.specs.Line.{after, line, lines, flat}
 use Rattle.text.specs.File.{Words, Rows}
-use Rattle.text.specs.Printed.{treeNames}
-use Rattle.text.proofs.DecimalLaws.{decimal-small, decimal-more}
+use Rattle.text.specs.Printed.{tree_names}
+use Rattle.text.proofs.DecimalLaws.{decimal_small, decimal_more}
 use Rattle.tree_check.specs.declared.scan.Scan.{Scan}
-use Rattle.tree_check.specs.Scan.{Scanned, stopped, words, digitOf, nextColumn, firstDigit, inNumber, stepped, with_words, endedWord, scanned, startScan, alike, tableWords, fileWords}
-use Rattle.tree_check.proofs.FileLaws.{with_none, with-more}
+use Rattle.tree_check.specs.Scan.{Scanned, stopped, words, digit_of, next_column, first_digit, in_number, stepped, with_words, ended_word, scanned, start_scan, alike, table_words, file_words}
+use Rattle.tree_check.proofs.FileLaws.{with_none, with_more}
 
 module _ (last : ℕ) where
   abbrev pub opened : (column value : ℕ) → Scan
   opened column value = record { refused = false; ended = false; begun = true; column = column; value = value }
 
   abbrev pub closed : (column value : ℕ) → Scan
-  closed column value = record { refused = false; ended = true; begun = false; column = nextColumn last column; value = value }
+  closed column value = record { refused = false; ended = true; begun = false; column = next_column last column; value = value }
 
   -- ---- one byte
 
-  digit-shown : (d : ℕ) → d < 10 → digitOf (48 + d) ≡ d
-  digit-shown d h = let z : 48 + d - 48 ≡ d = omega arith in rw (le-leb 48 (48 + d) (omega arith), le-leb (48 + d) 57 (omega arith), z)
+  digit_shown : (d : ℕ) → d < 10 → digit_of (48 + d) ≡ d
+  digit_shown d h = let z : 48 + d - 48 ≡ d = omega arith in rw (le-leb 48 (48 + d) (omega arith), le-leb (48 + d) 57 (omega arith), z)
 
-  first-digit : (scan : Scan) (d : ℕ) → scan.begun ≡ false → d < 10 → stepped last scan (48 + d) ≡ opened scan.column d
-  unfolding stepped firstDigit
-  first-digit scan d e h = rw (e, digit-shown d h, ne_eqb d 10 (λ z. omega arith))
+  first_digit_lem : (scan : Scan) (d : ℕ) → scan.begun ≡ false → d < 10 → stepped last scan (48 + d) ≡ opened scan.column d
+  unfolding stepped first_digit
+  first_digit_lem scan d e h = rw (e, digit_shown d h, ne_eqb d 10 (λ z. omega arith))
 
   -- a digit is no end
-  not-ending : (column d : ℕ) → eqb (48 + d) (ending (eqb column last)) ≡ false
-  not-ending column d = by (eqb column last)
+  not_ending : (column d : ℕ) → eqb (48 + d) (ending (eqb column last)) ≡ false
+  not_ending column d = by (eqb column last)
     where
       by : (y : Bool) → eqb (48 + d) (ending y) ≡ false
       by true = ne_eqb (48 + d) 10 (λ z. omega arith)
       by false = ne_eqb (48 + d) 32 (λ z. omega arith)
 
-  next-digit : (column value d : ℕ) → 0 < value → d < 10 → value * 10 + d < 2 ^ 32 → stepped last (opened column value) (48 + d) ≡ opened column (value * 10 + d)
-  unfolding stepped inNumber
-  next-digit column value d led h fits =
+  next_digit : (column value d : ℕ) → 0 < value → d < 10 → value * 10 + d < 2 ^ 32 → stepped last (opened column value) (48 + d) ≡ opened column (value * 10 + d)
+  unfolding stepped in_number
+  next_digit column value d led h fits =
       let z : 48 + d - 48 ≡ d = omega arith in
       rw (
-        not-ending column d,
+        not_ending column d,
         le-leb 48 (48 + d) (omega arith),
         le-leb (48 + d) 57 (omega arith),
         lt-ltb 0 value led,
@@ -56,18 +56,18 @@ module _ (last : ℕ) where
         lt-ltb (value * 10 + d) (2 ^ 32) fits,
       )
 
-  number-end : (column value : ℕ) → stepped last (opened column value) (ending (eqb column last)) ≡ closed column value
-  unfolding stepped inNumber
-  number-end column value = rw (eq-eqb (ending (eqb column last)) (ending (eqb column last)) refl)
+  number_end : (column value : ℕ) → stepped last (opened column value) (ending (eqb column last)) ≡ closed column value
+  unfolding stepped in_number
+  number_end column value = rw (eq-eqb (ending (eqb column last)) (ending (eqb column last)) refl)
 
   -- ---- a number
 
   -- the scan after a step: it stops, or goes on
   abbrev onward : (refused : Bool) → (next : Scan) → (at : ℕ) → List ℕ → Scanned
-  onward refused next at rest = elim refused [ true ↦ stopped at | false ↦ with_words (endedWord next) (scanned last next (suc at) rest) ]
+  onward refused next at rest = elim refused [ true ↦ stopped at | false ↦ with_words (ended_word next) (scanned last next (suc at) rest) ]
 
   pub goes_on : (scan next : Scan) (at byte : ℕ) (rest : List ℕ) → stepped last scan byte ≡ next → next.refused ≡ false
-      → scanned last scan at (byte ∷ rest) ≡ with_words (endedWord next) (scanned last next (suc at) rest)
+      → scanned last scan at (byte ∷ rest) ≡ with_words (ended_word next) (scanned last next (suc at) rest)
   unfolding scanned
   goes_on scan next at byte rest e f = ap (λ (n : Scan). onward n.refused n at rest) e ∙ ap (λ (y : Bool). onward y next at rest) f
 
@@ -76,37 +76,37 @@ module _ (last : ℕ) where
     abbrev DigitsRead : ℕ → Type 0
     DigitsRead n = (rest : List ℕ) → scanned last scan at (decimal n ++ rest) ≡ scanned last (opened scan.column n) (at + length (decimal n)) rest
 
-    one-digit-read : (n : ℕ) → n < 10 → DigitsRead n
-    one-digit-read n h rest =
-        rw (decimal-small n h, add-one at)
-        (goes_on scan (opened scan.column n) at (48 + n) rest (first-digit scan n outside h) refl ∙ with_none (scanned last (opened scan.column n) (suc at) rest))
+    one_digit_read : (n : ℕ) → n < 10 → DigitsRead n
+    one_digit_read n h rest =
+        rw (decimal_small n h, add-one at)
+        (goes_on scan (opened scan.column n) at (48 + n) rest (first_digit_lem scan n outside h) refl ∙ with_none (scanned last (opened scan.column n) (suc at) rest))
 
-    one-more-read : (n : ℕ) → 10 ≤ n → n < 2 ^ 32 → DigitsRead (n / 10) → DigitsRead n
-    one-more-read n h l before rest =
+    one_more_read : (n : ℕ) → 10 ≤ n → n < 2 ^ 32 → DigitsRead (n / 10) → DigitsRead n
+    one_more_read n h l before rest =
         let v : ℕ = n / 10 in
         let d : ℕ = n % 10 in
         let is : v * 10 + d ≡ n = omega arith in
         let place : at + (length (decimal v) + 1) ≡ suc (at + length (decimal v)) = omega arith in
-        let step : stepped last (opened scan.column v) (48 + d) ≡ opened scan.column (v * 10 + d) = next-digit scan.column v d (omega arith) (omega arith) (omega arith) in
-        rw (decimal-more n h, append_assoc (decimal v) ((48 + d) ∷ []) rest, length-append (decimal v) ((48 + d) ∷ []), place)
+        let step : stepped last (opened scan.column v) (48 + d) ≡ opened scan.column (v * 10 + d) = next_digit scan.column v d (omega arith) (omega arith) (omega arith) in
+        rw (decimal_more n h, append_assoc (decimal v) ((48 + d) ∷ []) rest, length-append (decimal v) ((48 + d) ∷ []), place)
         (before ((48 + d) ∷ rest)
         ∙ (goes_on (opened scan.column v) (opened scan.column (v * 10 + d)) (at + length (decimal v)) (48 + d) rest step refl
         ∙ (with_none (scanned last (opened scan.column (v * 10 + d)) (suc (at + length (decimal v))) rest)
         ∙ ap (λ (k : ℕ). scanned last (opened scan.column k) (suc (at + length (decimal v))) rest) is)))
 
-    digits-read : (steps n : ℕ) → n ≤ steps → n < 2 ^ 32 → DigitsRead n
-    digits-read zero n h l = one-digit-read n (omega arith)
-    digits-read (suc steps) n h l = by (ltb n 10) refl (λ q. digits-read steps (n / 10) q (omega arith))
+    digits_read : (steps n : ℕ) → n ≤ steps → n < 2 ^ 32 → DigitsRead n
+    digits_read zero n h l = one_digit_read n (omega arith)
+    digits_read (suc steps) n h l = by (ltb n 10) refl (λ q. digits_read steps (n / 10) q (omega arith))
       where
         by : (y : Bool) → ltb n 10 ≡ y → (n / 10 ≤ steps → DigitsRead (n / 10)) → DigitsRead n
-        by true e on = one-digit-read n (ltb-true n 10 e)
-        by false e on = let large : 10 ≤ n = ltb-false n 10 e in one-more-read n large l (on (omega arith))
+        by true e on = one_digit_read n (ltb-true n 10 e)
+        by false e on = let large : 10 ≤ n = ltb-false n 10 e in one_more_read n large l (on (omega arith))
 
     number_read : (n : ℕ) → n < 2 ^ 32 → (rest : List ℕ)
         → scanned last scan at (decimal n ++ (ending (eqb scan.column last) ∷ rest)) ≡ with_words (n ∷ []) (scanned last (closed scan.column n) (suc (at + length (decimal n))) rest)
     number_read n l rest =
-        digits-read n n (omega arith) l (ending (eqb scan.column last) ∷ rest)
-        ∙ goes_on (opened scan.column n) (closed scan.column n) (at + length (decimal n)) (ending (eqb scan.column last)) rest (number-end scan.column n) refl
+        digits_read n n (omega arith) l (ending (eqb scan.column last) ∷ rest)
+        ∙ goes_on (opened scan.column n) (closed scan.column n) (at + length (decimal n)) (ending (eqb scan.column last)) rest (number_end scan.column n) refl
 
   -- ---- a line, and lines
 
@@ -118,44 +118,44 @@ module _ (last : ℕ) where
     pub first : next.column ≡ 0
     pub same : scanned last scan at (line numbers ++ rest) ≡ with_words numbers (scanned last next place rest)
 
-  pub line-one : (n : ℕ) (rest : List ℕ) → line (n ∷ []) ++ rest ≡ decimal n ++ (10 ∷ rest)
+  pub line_one : (n : ℕ) (rest : List ℕ) → line (n ∷ []) ++ rest ≡ decimal n ++ (10 ∷ rest)
   unfolding line
-  line-one n rest = append_assoc (decimal n) (10 ∷ []) rest
+  line_one n rest = append_assoc (decimal n) (10 ∷ []) rest
 
-  pub line-more : (n m : ℕ) (numbers rest : List ℕ) → line (n ∷ m ∷ numbers) ++ rest ≡ decimal n ++ (32 ∷ (line (m ∷ numbers) ++ rest))
+  pub line_more : (n m : ℕ) (numbers rest : List ℕ) → line (n ∷ m ∷ numbers) ++ rest ≡ decimal n ++ (32 ∷ (line (m ∷ numbers) ++ rest))
   unfolding line
-  line-more n m numbers rest = append_assoc (decimal n) (32 ∷ line (m ∷ numbers)) rest
+  line_more n m numbers rest = append_assoc (decimal n) (32 ∷ line (m ∷ numbers)) rest
 
-  pub last-ending : (column : ℕ) → column ≡ last → 10 ≡ ending (eqb column last)
-  last-ending column e = rw (eq-eqb column last e)
+  pub last_ending : (column : ℕ) → column ≡ last → 10 ≡ ending (eqb column last)
+  last_ending column e = rw (eq-eqb column last e)
 
-  pub other-ending : (column : ℕ) → (column ≡ last → ⊥) → 32 ≡ ending (eqb column last)
-  other-ending column f = rw (ne_eqb column last f)
+  pub other_ending : (column : ℕ) → (column ≡ last → ⊥) → 32 ≡ ending (eqb column last)
+  other_ending column f = rw (ne_eqb column last f)
 
-  pub first-column : (column : ℕ) → column ≡ last → nextColumn last column ≡ 0
-  first-column column e = rw (eq-eqb column last e)
+  pub first_column : (column : ℕ) → column ≡ last → next_column last column ≡ 0
+  first_column column e = rw (eq-eqb column last e)
 
-  pub later-column : (column : ℕ) → (column ≡ last → ⊥) → nextColumn last column ≡ column + 1
-  later-column column f = rw (ne_eqb column last f)
+  pub later_column : (column : ℕ) → (column ≡ last → ⊥) → next_column last column ≡ column + 1
+  later_column column f = rw (ne_eqb column last f)
 
   pub line_read : (numbers : List ℕ) (n : ℕ) (scan : Scan) (at : ℕ) (rest : List ℕ) → Words (n ∷ numbers) → scan.begun ≡ false → scan.column + suc (length numbers) ≡ suc last
       → LineRead scan at (n ∷ numbers) rest
   line_read [] n scan at rest w outside e =
       let at_last : scan.column ≡ last = omega arith in
       let text : line (n ∷ []) ++ rest ≡ decimal n ++ (ending (eqb scan.column last) ∷ rest) =
-      line-one n rest ∙ ap (λ (b : ℕ). decimal n ++ (b ∷ rest)) (last-ending scan.column at_last) in
+      line_one n rest ∙ ap (λ (b : ℕ). decimal n ++ (b ∷ rest)) (last_ending scan.column at_last) in
       record {
         next = closed scan.column n;
         place = suc (at + length (decimal n));
         outside = refl;
-        first = first-column scan.column at_last;
+        first = first_column scan.column at_last;
         same = ap (scanned last scan at) text ∙ number_read scan outside at n w.0 rest;
       }
   line_read (m ∷ numbers) n scan at rest w outside e =
       let within : scan.column ≡ last → ⊥ = λ z. omega arith in
-      let column : nextColumn last scan.column ≡ scan.column + 1 = later-column scan.column within in
+      let column : next_column last scan.column ≡ scan.column + 1 = later_column scan.column within in
       let text : line (n ∷ m ∷ numbers) ++ rest ≡ decimal n ++ (ending (eqb scan.column last) ∷ (line (m ∷ numbers) ++ rest)) =
-      line-more n m numbers rest ∙ ap (λ (b : ℕ). decimal n ++ (b ∷ (line (m ∷ numbers) ++ rest))) (other-ending scan.column within) in
+      line_more n m numbers rest ∙ ap (λ (b : ℕ). decimal n ++ (b ∷ (line (m ∷ numbers) ++ rest))) (other_ending scan.column within) in
       let more : LineRead (closed scan.column n) (suc (at + length (decimal n))) (m ∷ numbers) rest =
       line_read numbers m (closed scan.column n) (suc (at + length (decimal n))) rest w.1 refl (omega (arith, column)) in
       record {
@@ -165,32 +165,32 @@ module _ (last : ℕ) where
         first = more.first;
         same = ap (scanned last scan at) text
             ∙ (number_read scan outside at n w.0 (line (m ∷ numbers) ++ rest)
-            ∙ (ap (with_words (n ∷ [])) more.same ∙ with-more (n ∷ []) (m ∷ numbers) (scanned last more.next more.place rest)));
+            ∙ (ap (with_words (n ∷ [])) more.same ∙ with_more (n ∷ []) (m ∷ numbers) (scanned last more.next more.place rest)));
       }
 
-  lines-read : (rows : List (List ℕ)) → Rows (suc last) rows → (scan : Scan) (at : ℕ) → scan.begun ≡ false → scan.column ≡ 0 → scanned last scan at (lines rows) ≡ words (flat rows)
+  lines_read : (rows : List (List ℕ)) → Rows (suc last) rows → (scan : Scan) (at : ℕ) → scan.begun ≡ false → scan.column ≡ 0 → scanned last scan at (lines rows) ≡ words (flat rows)
   unfolding lines flat
-  lines-read [] w scan at outside first = nothing_left
+  lines_read [] w scan at outside first = nothing_left
     where
       nothing_left : scanned last scan at [] ≡ words []
       nothing_left = unfold scanned in rw (outside, first)
-  lines-read ([] ∷ rows) w scan at outside first = absurd (omega (arith, w.0.long))
-  lines-read ((n ∷ numbers) ∷ rows) w scan at outside first =
+  lines_read ([] ∷ rows) w scan at outside first = absurd (omega (arith, w.0.long))
+  lines_read ((n ∷ numbers) ∷ rows) w scan at outside first =
       let l : LineRead scan at (n ∷ numbers) (lines rows) = line_read numbers n scan at (lines rows) w.0.words outside (omega (arith, first, w.0.long)) in
-      l.same ∙ ap (with_words (n ∷ numbers)) (lines-read rows w.1 l.next l.place l.outside l.first)
+      l.same ∙ ap (with_words (n ∷ numbers)) (lines_read rows w.1 l.next l.place l.outside l.first)
 
 -- a line of names is there, and the rest comes after it
-pub names-there : (names rest : List ℕ) → alike names (names ++ rest) ≡ length names
+pub names_there : (names rest : List ℕ) → alike names (names ++ rest) ≡ length names
 unfolding alike
-names-there [] rest = refl
-names-there (name ∷ names) rest = rw (eq-eqb name name refl, names-there names rest)
+names_there [] rest = refl
+names_there (name ∷ names) rest = rw (eq-eqb name name refl, names_there names rest)
 
 -- the file of a table with these names
-pub table-back : (names : List ℕ) (last : ℕ) (rows : List (List ℕ)) → Rows (suc last) rows → tableWords names last (names ++ lines rows) ≡ words (flat rows)
-unfolding tableWords
-table-back names last rows w =
-    rw (tableWords, names-there names (lines rows), eq-eqb (length names) (length names) refl, drop_at names (lines rows) (length names) refl)
-    (lines-read last rows w startScan (length names) refl refl)
+pub table_back : (names : List ℕ) (last : ℕ) (rows : List (List ℕ)) → Rows (suc last) rows → table_words names last (names ++ lines rows) ≡ words (flat rows)
+unfolding table_words
+table_back names last rows w =
+    rw (table_words, names_there names (lines rows), eq-eqb (length names) (length names) refl, drop_at names (lines rows) (length names) refl)
+    (lines_read last rows w start_scan (length names) refl refl)
 
-pub read_back : (rows : List (List ℕ)) → Rows 6 rows → fileWords (treeNames ++ lines rows) ≡ words (flat rows)
-read_back rows w = table-back treeNames 5 rows w
+pub read_back : (rows : List (List ℕ)) → Rows 6 rows → file_words (tree_names ++ lines rows) ≡ words (flat rows)
+read_back rows w = table_back tree_names 5 rows w

@@ -10,19 +10,19 @@ use lib.Seq.{get_or-set_same, get_or-set_other}
 use lib.Dec.{eqb, leb}
 use borrow.Author.Tests.{eq-eqb, ne_eqb, eqb-true, eqb-false, leb-true}
 use Rattle.definition.specs.Tree.{Row, row}
-use Rattle.definition.proofs.Steps.{none-some}
+use Rattle.definition.proofs.Steps.{none_some}
 use Rattle.tree_grammar.specs.Grammar.{Answer}
 use Rattle.tree_grammar.specs.Ranges.{in_range}
-use Rattle.tree_grammar.specs.Needs.{Sort, a-value, an-instr, a-statement, a_block, a_case, serves, parts_of, madeBy, Sorts, taken, sortStep, RowsVerdict}
-use Rattle.tree_grammar.specs.Needs.{refused, code_of, at_of, remainder, rowsVerdict, rowsOfWords, sizedVerdict, treeVerdict}
+use Rattle.tree_grammar.specs.Needs.{Sort, a_value, an_instr, a_statement, a_block, a_case, serves, parts_of, made_by, Sorts, taken, sort_step, RowsVerdict}
+use Rattle.tree_grammar.specs.Needs.{refused, code_of, at_of, remainder, rows_verdict, rows_of_words, sized_verdict, tree_verdict}
 use Rattle.tree_grammar.proofs.Upto.{and_both}
-use Rattle.tree_grammar.proofs.Words.{words-answered}
+use Rattle.tree_grammar.proofs.Words.{words_answered}
 use Rattle.tree_check.specs.declared.TreeChecked.{TreeChecked}
 use Rattle.tree_check.specs.declared.TreeRead.{TreeRead}
-use Rattle.tree_check.specs.Found.{word_at, row_at, partsBegin, Ready, remainderCode, readFrom, noBegins, noList, treeRead, treeChecked}
+use Rattle.tree_check.specs.Found.{word_at, row_at, parts_begin, Ready, remainder_code, read_from, no_begins, no_list, tree_read, tree_checked}
 use Rattle.tree_check.proofs.SortLaws.{served}
-use Rattle.tree_check.proofs.PartLaws.{found-low}
-use Rattle.tree_check.proofs.ReadLaws.{set-low, start-ready}
+use Rattle.tree_check.proofs.PartLaws.{found_low}
+use Rattle.tree_check.proofs.ReadLaws.{set_low, start_ready}
 
 abbrev Same : TreeRead → RowsVerdict → Type 0
 Same read verdict = (read.code ≡ code_of verdict) × (read.at ≡ at_of verdict)
@@ -33,48 +33,48 @@ abbrev rows_from : List ℕ → (i count : ℕ) → List Row
 rows_from words i zero = []
 rows_from words i (suc count) = row_at words i ∷ rows_from words (suc i) count
 
-rows-length : (words : List ℕ) (i count : ℕ) → length (rows_from words i count) ≡ count
-rows-length words i zero = refl
-rows-length words i (suc count) = ap suc (rows-length words (suc i) count)
+rows_length : (words : List ℕ) (i count : ℕ) → length (rows_from words i count) ≡ count
+rows_length words i zero = refl
+rows_length words i (suc count) = ap suc (rows_length words (suc i) count)
 
 module _ (op a b c d e : ℕ) (words : List ℕ) where
   word_after : (i column : ℕ) → word_at (op ∷ a ∷ b ∷ c ∷ d ∷ e ∷ words) (suc i) column ≡ word_at words i column
   unfolding word_at
   word_after i column = let z : suc i * 6 + column ≡ suc (suc (suc (suc (suc (suc (i * 6 + column)))))) = omega arith in rw z
 
-  rows-after : (i count : ℕ) → rows_from (op ∷ a ∷ b ∷ c ∷ d ∷ e ∷ words) (suc i) count ≡ rows_from words i count
-  rows-after i zero = refl
-  rows-after i (suc count) =
-      rw (word_after i 0, word_after i 1, word_after i 2, word_after i 3, word_after i 4, word_after i 5, rows-after (suc i) count)
+  rows_after : (i count : ℕ) → rows_from (op ∷ a ∷ b ∷ c ∷ d ∷ e ∷ words) (suc i) count ≡ rows_from words i count
+  rows_after i zero = refl
+  rows_after i (suc count) =
+      rw (word_after i 0, word_after i 1, word_after i 2, word_after i 3, word_after i 4, word_after i 5, rows_after (suc i) count)
 
-  first-row : row_at (op ∷ a ∷ b ∷ c ∷ d ∷ e ∷ words) 0 ≡ row op a b c d e
+  first_row : row_at (op ∷ a ∷ b ∷ c ∷ d ∷ e ∷ words) 0 ≡ row op a b c d e
   unfolding word_at
-  first-row = refl
+  first_row = refl
 
-whole-rows : (words : List ℕ) (n : ℕ) → length words ≡ n * 6 → rowsOfWords words ≡ some (rows_from words 0 n)
-whole-rows [] n h = let z : n ≡ 0 = omega arith in rw z
-whole-rows (op ∷ []) n h = absurd (omega arith)
-whole-rows (op ∷ a ∷ []) n h = absurd (omega arith)
-whole-rows (op ∷ a ∷ b ∷ []) n h = absurd (omega arith)
-whole-rows (op ∷ a ∷ b ∷ c ∷ []) n h = absurd (omega arith)
-whole-rows (op ∷ a ∷ b ∷ c ∷ d ∷ []) n h = absurd (omega arith)
-whole-rows (op ∷ a ∷ b ∷ c ∷ d ∷ e ∷ words) zero h = absurd (omega arith)
-whole-rows (op ∷ a ∷ b ∷ c ∷ d ∷ e ∷ words) (suc n) h =
-    rw (whole-rows words n (omega arith), first-row op a b c d e words, rows-after op a b c d e words 0 n)
+whole_rows : (words : List ℕ) (n : ℕ) → length words ≡ n * 6 → rows_of_words words ≡ some (rows_from words 0 n)
+whole_rows [] n h = let z : n ≡ 0 = omega arith in rw z
+whole_rows (op ∷ []) n h = absurd (omega arith)
+whole_rows (op ∷ a ∷ []) n h = absurd (omega arith)
+whole_rows (op ∷ a ∷ b ∷ []) n h = absurd (omega arith)
+whole_rows (op ∷ a ∷ b ∷ c ∷ []) n h = absurd (omega arith)
+whole_rows (op ∷ a ∷ b ∷ c ∷ d ∷ []) n h = absurd (omega arith)
+whole_rows (op ∷ a ∷ b ∷ c ∷ d ∷ e ∷ words) zero h = absurd (omega arith)
+whole_rows (op ∷ a ∷ b ∷ c ∷ d ∷ e ∷ words) (suc n) h =
+    rw (whole_rows words n (omega arith), first_row op a b c d e words, rows_after op a b c d e words 0 n)
 
-row_words : (words : List ℕ) (list : List Row) → rowsOfWords words ≡ some list → length words ≡ length list * 6
+row_words : (words : List ℕ) (list : List Row) → rows_of_words words ≡ some list → length words ≡ length list * 6
 row_words [] list e = let z : [] ≡ list = cc e in rw (← z)
-row_words (op ∷ []) list e = absurd (none-some e)
-row_words (op ∷ a ∷ []) list e = absurd (none-some e)
-row_words (op ∷ a ∷ b ∷ []) list e = absurd (none-some e)
-row_words (op ∷ a ∷ b ∷ c ∷ []) list e = absurd (none-some e)
-row_words (op ∷ a ∷ b ∷ c ∷ d ∷ []) list e = absurd (none-some e)
-row_words (op ∷ a ∷ b ∷ c ∷ d ∷ f ∷ words) list e = by (rowsOfWords words) e (λ l q. row_words words l q) refl
+row_words (op ∷ []) list e = absurd (none_some e)
+row_words (op ∷ a ∷ []) list e = absurd (none_some e)
+row_words (op ∷ a ∷ b ∷ []) list e = absurd (none_some e)
+row_words (op ∷ a ∷ b ∷ c ∷ []) list e = absurd (none_some e)
+row_words (op ∷ a ∷ b ∷ c ∷ d ∷ []) list e = absurd (none_some e)
+row_words (op ∷ a ∷ b ∷ c ∷ d ∷ f ∷ words) list e = by (rows_of_words words) e (λ l q. row_words words l q) refl
   where
     by : (o : Option (List Row)) → elim o [ none ↦ none | some l ↦ some (row op a b c d f ∷ l) ] ≡ some list
-        → ((l : List Row) → rowsOfWords words ≡ some l → length words ≡ length l * 6) → rowsOfWords words ≡ o
+        → ((l : List Row) → rows_of_words words ≡ some l → length words ≡ length l * 6) → rows_of_words words ≡ o
         → length (op ∷ a ∷ b ∷ c ∷ d ∷ f ∷ words) ≡ length list * 6
-    by none e on q = absurd (none-some e)
+    by none e on q = absurd (none_some e)
     by (some l) e on q = let z : row op a b c d f ∷ l ≡ list = cc e in rw (← z) (omega (arith, on l q))
 
 -- ---- the stack
@@ -83,7 +83,7 @@ module _ (words : List ℕ) where
   -- the sorts of the parts before row `cursor`, the latest first
   data Stands (begins : List ℕ) : (cursor : ℕ) → Sorts → Type 0 where
     nothing : Stands begins 0 []
-    a-part : {last : ℕ} {stack : Sorts} → Stands begins (get_or begins last 0) stack → Stands begins (suc last) (madeBy (word_at words last 0) ∷ stack)
+    a_part : {last : ℕ} {stack : Sorts} → Stands begins (get_or begins last 0) stack → Stands begins (suc last) (made_by (word_at words last 0) ∷ stack)
 
   abbrev Agree : List ℕ → Option ℕ → Option Sorts → Type 0
   Agree begins none none = Unit {0}
@@ -91,96 +91,96 @@ module _ (words : List ℕ) where
   Agree begins (some cursor) none = ⊥
   Agree begins (some cursor) (some left) = Stands begins cursor left
 
-  takes-alike : (begins : List ℕ) (wanted : List Sort) {cursor : ℕ} {stack : Sorts} → Stands begins cursor stack → Agree begins (partsBegin words begins wanted cursor) (taken wanted stack)
-  unfolding partsBegin
-  takes-alike begins [] s = s
-  takes-alike begins (sort ∷ wanted) nothing = tt
-  takes-alike begins (sort ∷ wanted) (a-part {last = last} {stack = stack} s) = by (serves sort (madeBy (word_at words last 0))) (takes-alike begins wanted s)
+  takes_alike : (begins : List ℕ) (wanted : List Sort) {cursor : ℕ} {stack : Sorts} → Stands begins cursor stack → Agree begins (parts_begin words begins wanted cursor) (taken wanted stack)
+  unfolding parts_begin
+  takes_alike begins [] s = s
+  takes_alike begins (sort ∷ wanted) nothing = tt
+  takes_alike begins (sort ∷ wanted) (a_part {last = last} {stack = stack} s) = by (serves sort (made_by (word_at words last 0))) (takes_alike begins wanted s)
     where
-      by : (y : Bool) → Agree begins (partsBegin words begins wanted (get_or begins last 0)) (taken wanted stack)
-          → Agree begins (elim y [ true ↦ partsBegin words begins wanted (get_or begins last 0) | false ↦ none ]) (elim y [ true ↦ taken wanted stack | false ↦ none ])
+      by : (y : Bool) → Agree begins (parts_begin words begins wanted (get_or begins last 0)) (taken wanted stack)
+          → Agree begins (elim y [ true ↦ parts_begin words begins wanted (get_or begins last 0) | false ↦ none ]) (elim y [ true ↦ taken wanted stack | false ↦ none ])
       by true h = h
       by false h = tt
 
   -- what is stored for a later row leaves the stack alone
   kept : (begins : List ℕ) → ((j : ℕ) → get_or begins j 0 ≤ j) → (k first : ℕ) {cursor : ℕ} {stack : Sorts} → cursor ≤ k → Stands begins cursor stack → Stands (set begins k first) cursor stack
   kept begins low k first h nothing = nothing
-  kept begins low k first h (a-part {last = last} {stack = stack} s) =
+  kept begins low k first h (a_part {last = last} {stack = stack} s) =
       let same : get_or (set begins k first) last 0 ≡ get_or begins last 0 = get_or-set_other begins k last first 0 (λ e. omega arith) in
-      a-part {last = last} {stack = stack} (rw same (kept begins low k first (omega (arith, low last)) s))
+      a_part {last = last} {stack = stack} (rw same (kept begins low k first (omega (arith, low last)) s))
 
-  next-stands : (begins : List ℕ) → ((j : ℕ) → get_or begins j 0 ≤ j) → (k first : ℕ) {left : Sorts} → k < length begins → first ≤ k → Stands begins first left
-      → Stands (set begins k first) (suc k) (madeBy (word_at words k 0) ∷ left)
-  next-stands begins low k first {left} h l s = a-part {last = k} {stack = left} (rw (get_or-set_same begins k first 0 h) (kept begins low k first l s))
+  next_stands : (begins : List ℕ) → ((j : ℕ) → get_or begins j 0 ≤ j) → (k first : ℕ) {left : Sorts} → k < length begins → first ≤ k → Stands begins first left
+      → Stands (set begins k first) (suc k) (made_by (word_at words k 0) ∷ left)
+  next_stands begins low k first {left} h l s = a_part {last = k} {stack = left} (rw (get_or-set_same begins k first 0 h) (kept begins low k first l s))
 
   -- ---- the remainder
 
   data Bottom (cursor : ℕ) (stack : Sorts) : Type 0 where
-    at-bottom : cursor ≡ 0 → stack ≡ [] → Bottom cursor stack
+    at_bottom : cursor ≡ 0 → stack ≡ [] → Bottom cursor stack
     above : (cursor ≡ 0 → ⊥) → (sort : Sort) (rest : Sorts) → stack ≡ sort ∷ rest → Bottom cursor stack
 
   bottom : {begins : List ℕ} {cursor : ℕ} {stack : Sorts} → Stands begins cursor stack → Bottom cursor stack
-  bottom nothing = at-bottom refl refl
-  bottom (a-part s) = above (λ e. omega arith) _ _ refl
+  bottom nothing = at_bottom refl refl
+  bottom (a_part s) = above (λ e. omega arith) _ _ refl
 
   abbrev Ends : Bool → Sort → Sorts → Type 0
   Ends y sort stack = (elim (y && serves a_block sort) [ true ↦ 0 | false ↦ 62 ] ≡ code_of (remainder (sort ∷ stack))) × (0 ≡ at_of (remainder (sort ∷ stack)))
 
   alone : (sort : Sort) → Ends true sort []
-  alone a-value = (refl, refl)
-  alone an-instr = (refl, refl)
-  alone a-statement = (refl, refl)
+  alone a_value = (refl, refl)
+  alone an_instr = (refl, refl)
+  alone a_statement = (refl, refl)
   alone a_block = (refl, refl)
   alone a_case = (refl, refl)
 
-  not-alone : (sort other : Sort) (stack : Sorts) → Ends false sort (other ∷ stack)
-  not-alone a-value other stack = (refl, refl)
-  not-alone an-instr other stack = (refl, refl)
-  not-alone a-statement other stack = (refl, refl)
-  not-alone a_block other stack = (refl, refl)
-  not-alone a_case other stack = (refl, refl)
+  not_alone : (sort other : Sort) (stack : Sorts) → Ends false sort (other ∷ stack)
+  not_alone a_value other stack = (refl, refl)
+  not_alone an_instr other stack = (refl, refl)
+  not_alone a_statement other stack = (refl, refl)
+  not_alone a_block other stack = (refl, refl)
+  not_alone a_case other stack = (refl, refl)
 
   ending : (begins : List ℕ) (last : ℕ)
-      → remainderCode words begins (suc last) ≡ elim (eqb (get_or begins last 0) 0 && serves a_block (madeBy (word_at words last 0))) [ true ↦ 0 | false ↦ 62 ]
-  unfolding remainderCode
+      → remainder_code words begins (suc last) ≡ elim (eqb (get_or begins last 0) 0 && serves a_block (made_by (word_at words last 0))) [ true ↦ 0 | false ↦ 62 ]
+  unfolding remainder_code
   ending begins last =
       let z : suc last - 1 ≡ last = omega arith in
       ap (λ (k : ℕ). elim (eqb (get_or begins k 0) 0 && eqb (word_at words k 0) 9) [ true ↦ 0 | false ↦ 62 ]) z
       ∙ ap (λ (y : Bool). elim (eqb (get_or begins last 0) 0 && y) [ true ↦ 0 | false ↦ 62 ]) (served (word_at words last 0)).block
 
-  remains : (begins : List ℕ) {cursor : ℕ} {stack : Sorts} → 1 ≤ cursor → Stands begins cursor stack → Same (readFrom words begins cursor 0) (remainder stack)
-  unfolding readFrom
+  remains : (begins : List ℕ) {cursor : ℕ} {stack : Sorts} → 1 ≤ cursor → Stands begins cursor stack → Same (read_from words begins cursor 0) (remainder stack)
+  unfolding read_from
   remains begins h nothing = absurd (omega arith)
-  remains begins h (a-part {last = last} {stack = stack} s) = let e : Ends (eqb (get_or begins last 0) 0) (madeBy (word_at words last 0)) stack = by (bottom s) in (ending begins last ∙ e.0, e.1)
+  remains begins h (a_part {last = last} {stack = stack} s) = let e : Ends (eqb (get_or begins last 0) 0) (made_by (word_at words last 0)) stack = by (bottom s) in (ending begins last ∙ e.0, e.1)
     where
-      by : Bottom (get_or begins last 0) stack → Ends (eqb (get_or begins last 0) 0) (madeBy (word_at words last 0)) stack
-      by (at-bottom e q) = rw (eq-eqb (get_or begins last 0) 0 e, q) (alone (madeBy (word_at words last 0)))
-      by (above f sort rest q) = rw (ne_eqb (get_or begins last 0) 0 f, q) (not-alone (madeBy (word_at words last 0)) sort rest)
+      by : Bottom (get_or begins last 0) stack → Ends (eqb (get_or begins last 0) 0) (made_by (word_at words last 0)) stack
+      by (at_bottom e q) = rw (eq-eqb (get_or begins last 0) 0 e, q) (alone (made_by (word_at words last 0)))
+      by (above f sort rest q) = rw (ne_eqb (get_or begins last 0) 0 f, q) (not_alone (made_by (word_at words last 0)) sort rest)
 
   -- ---- the rows
 
   alike : (count i : ℕ) (begins : List ℕ) (stack : Sorts) → ((k : ℕ) → get_or begins k 0 ≤ k) → i + count ≤ length begins → 1 ≤ i + count → Stands begins i stack
-      → Same (readFrom words begins i count) (rowsVerdict (rows_from words i count) i stack)
-  unfolding readFrom rowsVerdict sortStep
-  alike zero i begins stack low room some-row s = remains begins (omega arith) s
-  alike (suc count) i begins stack low room some-row s =
-      by (in_range (row_at words i)) (partsBegin words begins (parts_of (row_at words i)) i) (taken (parts_of (row_at words i)) stack) refl (takes-alike begins (parts_of (row_at words i)) s)
-      (λ first left l q. alike count (suc i) (set begins i first) (madeBy (word_at words i 0) ∷ left) (set-low begins i first low (omega arith) l)
-      (omega (arith, length-set begins i first)) (omega arith) (next-stands begins low i first (omega arith) l q))
+      → Same (read_from words begins i count) (rows_verdict (rows_from words i count) i stack)
+  unfolding read_from rows_verdict sort_step
+  alike zero i begins stack low room some_row s = remains begins (omega arith) s
+  alike (suc count) i begins stack low room some_row s =
+      by (in_range (row_at words i)) (parts_begin words begins (parts_of (row_at words i)) i) (taken (parts_of (row_at words i)) stack) refl (takes_alike begins (parts_of (row_at words i)) s)
+      (λ first left l q. alike count (suc i) (set begins i first) (made_by (word_at words i 0) ∷ left) (set_low begins i first low (omega arith) l)
+      (omega (arith, length-set begins i first)) (omega arith) (next_stands begins low i first (omega arith) l q))
     where
-      by : (y : Bool) (o : Option ℕ) (t : Option Sorts) → partsBegin words begins (parts_of (row_at words i)) i ≡ o → Agree begins o t
+      by : (y : Bool) (o : Option ℕ) (t : Option Sorts) → parts_begin words begins (parts_of (row_at words i)) i ≡ o → Agree begins o t
           → ((first : ℕ) (left : Sorts) → first ≤ i → Stands begins first left
-          → Same (readFrom words (set begins i first) (suc i) count) (rowsVerdict (rows_from words (suc i) count) (suc i) (madeBy (word_at words i 0) ∷ left)))
+          → Same (read_from words (set begins i first) (suc i) count) (rows_verdict (rows_from words (suc i) count) (suc i) (made_by (word_at words i 0) ∷ left)))
           → Same
           (elim y [
-            | true ↦ elim o [ none ↦ record { code = 61; at = i; begin = begins } | some first ↦ readFrom words (set begins i first) (suc i) count ]
+            | true ↦ elim o [ none ↦ record { code = 61; at = i; begin = begins } | some first ↦ read_from words (set begins i first) (suc i) count ]
             | false ↦ record { code = 60; at = i; begin = begins }
           ])
           (elim y [
             | true ↦
-                elim (elim t as (λ x. Option Sorts) [ none ↦ none | some left ↦ some (madeBy (word_at words i 0) ∷ left) ]) [
+                elim (elim t as (λ x. Option Sorts) [ none ↦ none | some left ↦ some (made_by (word_at words i 0) ∷ left) ]) [
                   | none ↦ refused 61 i
-                  | some next ↦ rowsVerdict (rows_from words (suc i) count) (suc i) next
+                  | some next ↦ rows_verdict (rows_from words (suc i) count) (suc i) next
                 ]
             | false ↦ refused 60 i
           ])
@@ -188,45 +188,45 @@ module _ (words : List ℕ) where
       by true none none q a on = (refl, refl)
       by true none (some left) q a on = absurd a
       by true (some first) none q a on = absurd a
-      by true (some first) (some left) q a on = on first left (found-low words begins low (parts_of (row_at words i)) i first q) a
+      by true (some first) (some left) q a on = on first left (found_low words begins low (parts_of (row_at words i)) i first q) a
 
   -- ---- the whole
 
   abbrev SizedSame : Bool → Type 0
-  SizedSame y = Same (elim y [ true ↦ readFrom words noBegins 0 (length words / 6) | false ↦ noList ])
-      (elim y [ true ↦ rowsVerdict (rows_from words 0 (length words / 6)) 0 [] | false ↦ refused 62 0 ])
+  SizedSame y = Same (elim y [ true ↦ read_from words no_begins 0 (length words / 6) | false ↦ no_list ])
+      (elim y [ true ↦ rows_verdict (rows_from words 0 (length words / 6)) 0 [] | false ↦ refused 62 0 ])
 
   sized_same : (y : Bool) → leb 1 (length words / 6) && leb (length words / 6) 2048 ≡ y → SizedSame y
   sized_same false e = (refl, refl)
   sized_same true e =
       let h : (leb 1 (length words / 6) ≡ true) × (leb (length words / 6) 2048 ≡ true) = and_both _ _ e in
-      let start : Ready words noBegins 0 = start-ready words in
-      alike (length words / 6) 0 noBegins [] start.low (omega (arith, start.size, leb-true (length words / 6) 2048 h.1)) (omega (arith, leb-true 1 (length words / 6) h.0)) nothing
+      let start : Ready words no_begins 0 = start_ready words in
+      alike (length words / 6) 0 no_begins [] start.low (omega (arith, start.size, leb-true (length words / 6) 2048 h.1)) (omega (arith, leb-true 1 (length words / 6) h.0)) nothing
 
-  sized-verdict : sizedVerdict (rows_from words 0 (length words / 6))
-      ≡ elim (leb 1 (length words / 6) && leb (length words / 6) 2048) [ true ↦ rowsVerdict (rows_from words 0 (length words / 6)) 0 [] | false ↦ refused 62 0 ]
-  sized-verdict =
-      ap (λ (n : ℕ). elim (leb 1 n && leb n 2048) [ true ↦ rowsVerdict (rows_from words 0 (length words / 6)) 0 [] | false ↦ refused 62 0 ]) (rows-length words 0 (length words / 6))
+  sized_verdict_lem : sized_verdict (rows_from words 0 (length words / 6))
+      ≡ elim (leb 1 (length words / 6) && leb (length words / 6) 2048) [ true ↦ rows_verdict (rows_from words 0 (length words / 6)) 0 [] | false ↦ refused 62 0 ]
+  sized_verdict_lem =
+      ap (λ (n : ℕ). elim (leb 1 n && leb n 2048) [ true ↦ rows_verdict (rows_from words 0 (length words / 6)) 0 [] | false ↦ refused 62 0 ]) (rows_length words 0 (length words / 6))
 
-  pub read-answers : Same (treeRead words) (treeVerdict words)
-  unfolding treeRead treeVerdict
-  read-answers = by (eqb (length words) (length words / 6 * 6)) refl
+  pub read_answers : Same (tree_read words) (tree_verdict words)
+  unfolding tree_read tree_verdict
+  read_answers = by (eqb (length words) (length words / 6 * 6)) refl
     where
       by : (y : Bool) → eqb (length words) (length words / 6 * 6) ≡ y
-          → Same (elim (y && (leb 1 (length words / 6) && leb (length words / 6) 2048)) [ true ↦ readFrom words noBegins 0 (length words / 6) | false ↦ noList ]) (treeVerdict words)
-      by true e = rw (whole-rows words (length words / 6) (eqb-true _ _ e), treeVerdict, sized-verdict) (sized_same _ refl)
-      by false e = rw (no_rows (rowsOfWords words) refl, treeVerdict) (refl, refl)
+          → Same (elim (y && (leb 1 (length words / 6) && leb (length words / 6) 2048)) [ true ↦ read_from words no_begins 0 (length words / 6) | false ↦ no_list ]) (tree_verdict words)
+      by true e = rw (whole_rows words (length words / 6) (eqb-true _ _ e), tree_verdict, sized_verdict_lem) (sized_same _ refl)
+      by false e = rw (no_rows (rows_of_words words) refl, tree_verdict) (refl, refl)
         where
-          no_rows : (o : Option (List Row)) → rowsOfWords words ≡ o → rowsOfWords words ≡ none
+          no_rows : (o : Option (List Row)) → rows_of_words words ≡ o → rows_of_words words ≡ none
           no_rows none q = q
           no_rows (some list) q = absurd (eqb-false (length words) (length words / 6 * 6) e (omega (arith, row_words words list q)))
 
-  pub tree-checked : {read : TreeRead} → read ≡ treeRead words → record { code = read.code; at = read.at } ≡ treeChecked words
-  tree-checked e =
-      let code : _ ≡ code_of (treeVerdict words) = ap (λ (r : TreeRead). r.code) e ∙ read-answers.0 in
-      let at : _ ≡ at_of (treeVerdict words) = ap (λ (r : TreeRead). r.at) e ∙ read-answers.1 in
+  pub tree_checked_lem : {read : TreeRead} → read ≡ tree_read words → record { code = read.code; at = read.at } ≡ tree_checked words
+  tree_checked_lem e =
+      let code : _ ≡ code_of (tree_verdict words) = ap (λ (r : TreeRead). r.code) e ∙ read_answers.0 in
+      let at : _ ≡ at_of (tree_verdict words) = ap (λ (r : TreeRead). r.at) e ∙ read_answers.1 in
       ap₂ (λ (c a : ℕ). record { code = c; at = a }) code at
 
   -- which is the grammar's answer
-  pub tree-answer : {read : TreeRead} → read ≡ treeRead words → Answer words read.code read.at
-  tree-answer e = subst (λ (c : TreeChecked). Answer words c.code c.at) (sym (tree-checked e)) (words-answered words)
+  pub tree_answer : {read : TreeRead} → read ≡ tree_read words → Answer words read.code read.at
+  tree_answer e = subst (λ (c : TreeChecked). Answer words c.code c.at) (sym (tree_checked_lem e)) (words_answered words)

@@ -6,20 +6,20 @@ use mathlib.Core.Bool.{Bool, true, false}
 use lib.ListN.{get_or-eq_default}
 use lib.Dec.{eqb, leb, ltb}
 use borrow.Author.Tests.{ne_eqb, le-ltb, le-leb, leb-true, leb-false}
-use Rattle.tree_grammar.specs.Needs.{a-value, an-instr, a-statement, a_block, a_case, serves, makesByOp, madeBy}
-use Rattle.tree_check.specs.Takes.{sortOf}
+use Rattle.tree_grammar.specs.Needs.{a_value, an_instr, a_statement, a_block, a_case, serves, makes_by_op, made_by}
+use Rattle.tree_check.specs.Takes.{sort_of}
 use Rattle.tree_grammar.proofs.Upto.{upto, ends, ◌and◌}
 
 -- "values ops 1 to 3 and 5 to 8, statements 4, 10 and 12 to 25"
 pub record Served (op : ℕ) : Type 0 where
-  pub value : (op ≡ 4 → ⊥) → ltb op 9 ≡ serves a-value (madeBy op)
-  pub instr : eqb op 4 ≡ serves an-instr (madeBy op)
-  pub statement : (op ≡ 4 → ⊥) → (op ≡ 10 → ⊥) → leb 12 op ≡ serves a-statement (madeBy op)
-  pub block : eqb op 9 ≡ serves a_block (madeBy op)
-  pub case : eqb op 11 ≡ serves a_case (madeBy op)
+  pub value : (op ≡ 4 → ⊥) → ltb op 9 ≡ serves a_value (made_by op)
+  pub instr : eqb op 4 ≡ serves an_instr (made_by op)
+  pub statement : (op ≡ 4 → ⊥) → (op ≡ 10 → ⊥) → leb 12 op ≡ serves a_statement (made_by op)
+  pub block : eqb op 9 ≡ serves a_block (made_by op)
+  pub case : eqb op 11 ≡ serves a_case (made_by op)
 
 known : (op : ℕ) → op < 12 → Served op
-unfolding madeBy
+unfolding made_by
 known = upto Served 12
     (record { value = λ f. refl; instr = refl; statement = λ f g. refl; block = refl; case = refl }
     and record { value = λ f. refl; instr = refl; statement = λ f g. refl; block = refl; case = refl }
@@ -37,7 +37,7 @@ known = upto Served 12
 
 others : (op : ℕ) → 12 ≤ op → Served op
 others op h =
-    let e : madeBy op ≡ a-statement = statement-made op h in
+    let e : made_by op ≡ a_statement = statement_made op h in
     record {
       value = λ f. le-ltb op 9 (omega arith) ∙ rw e;
       instr = ne_eqb op 4 (λ e. omega arith) ∙ rw e;
@@ -46,8 +46,8 @@ others op h =
       case = ne_eqb op 11 (λ e. omega arith) ∙ rw e;
     }
   where
-    statement-made : (op : ℕ) → 12 ≤ op → madeBy op ≡ a-statement
-    statement-made op h = unfold madeBy in get_or-eq_default makesByOp a-statement h
+    statement_made : (op : ℕ) → 12 ≤ op → made_by op ≡ a_statement
+    statement_made op h = unfold made_by in get_or-eq_default makes_by_op a_statement h
 
 pub served : (op : ℕ) → Served op
 served op = by (leb 12 op) refl
@@ -57,9 +57,9 @@ served op = by (leb 12 op) refl
     by false e = known op (omega (arith, leb-false 12 op e))
 
 -- the last of the code's numbers for sorts
-pub case-sort : (n : ℕ) → 4 ≤ n → sortOf n ≡ a_case
-case-sort zero h = absurd (omega arith)
-case-sort (suc zero) h = absurd (omega arith)
-case-sort (suc (suc zero)) h = absurd (omega arith)
-case-sort (suc (suc (suc zero))) h = absurd (omega arith)
-case-sort (suc (suc (suc (suc n)))) h = refl
+pub case_sort : (n : ℕ) → 4 ≤ n → sort_of n ≡ a_case
+case_sort zero h = absurd (omega arith)
+case_sort (suc zero) h = absurd (omega arith)
+case_sort (suc (suc zero)) h = absurd (omega arith)
+case_sort (suc (suc (suc zero))) h = absurd (omega arith)
+case_sort (suc (suc (suc (suc n)))) h = refl

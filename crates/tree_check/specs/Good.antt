@@ -1,4 +1,4 @@
--- What a good file of one table is, with no reader in it, and the place that a file is refused at. `proofs/FirstByte` shows that `Scan.tableWords` tells both.
+-- What a good file of one table is, with no reader in it, and the place that a file is refused at. `proofs/FirstByte` shows that `Scan.table_words` tells both.
 use Rattle.std.specs.Prelude.{◌≡◌, ℕ, suc, ◌<◌, ◌≤◌, List, ◌++◌, length, take}
 use Rattle.text.specs.Line.{lines}
 use Rattle.text.specs.File.{Rows}
@@ -13,5 +13,5 @@ pub record TableFile (names : List ℕ) (last : ℕ) (file : List ℕ) : Type 0 
 pub record RefusedAt (good : List ℕ → Type 0) (file : List ℕ) (at : ℕ) : Type 0 where
   pub within : at ≤ length file
   pub viable : (rest : List ℕ) × good (take at file ++ rest)
-  pub no-further : at < length file → (rest : List ℕ) → good (take (suc at) file ++ rest) → ⊥
+  pub no_further : at < length file → (rest : List ℕ) → good (take (suc at) file ++ rest) → ⊥
   pub not_good : good file → ⊥

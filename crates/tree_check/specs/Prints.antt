@@ -3,26 +3,26 @@ use Rattle.std.specs.Prelude.{ℕ, List, [], ◌∷◌, ◌++◌, true, false, l
 use Rattle.text.specs.Ascii.{ascii}
 use Rattle.text.specs.Line.{line}
 use Rattle.tree_check.specs.declared.TreeChecked.{TreeChecked}
-use Rattle.tree_check.specs.Found.{treeChecked}
-use Rattle.tree_check.specs.Scan.{Scanned, stopped, words, fileWords}
+use Rattle.tree_check.specs.Found.{tree_checked}
+use Rattle.tree_check.specs.Scan.{Scanned, stopped, words, file_words}
 
-abbrev pub mostBytes : ℕ
-mostBytes = 262144
+abbrev pub most_bytes : ℕ
+most_bytes = 262144
 
-abbrev pub scanChecked : Scanned → TreeChecked
-scanChecked (stopped at) = record { code = 50; at = at }
-scanChecked (words list) = treeChecked list
+abbrev pub scan_checked : Scanned → TreeChecked
+scan_checked (stopped at) = record { code = 50; at = at }
+scan_checked (words list) = tree_checked list
 
 -- "51 over .. bytes, at 0; then 50 not in the form"; then the check of the rows
-unfoldable pub fileChecked : List ℕ → TreeChecked
-fileChecked file = elim (leb (length file) mostBytes) [ true ↦ scanChecked (fileWords file) | false ↦ record { code = 51; at = 0 } ]
+unfoldable pub file_checked : List ℕ → TreeChecked
+file_checked file = elim (leb (length file) most_bytes) [ true ↦ scan_checked (file_words file) | false ↦ record { code = 51; at = 0 } ]
 
-abbrev pub checkNames : List ℕ
-checkNames = ascii "code at\n"
+abbrev pub check_names : List ℕ
+check_names = ascii "code at\n"
 
-unfoldable pub printedCheck : TreeChecked → List ℕ
-printedCheck checked = checkNames ++ line (checked.code ∷ checked.at ∷ [])
+unfoldable pub printed_check : TreeChecked → List ℕ
+printed_check checked = check_names ++ line (checked.code ∷ checked.at ∷ [])
 
 -- what a file prints
-abbrev pub checkText : (file : List ℕ) → List ℕ
-checkText file = printedCheck (fileChecked file)
+abbrev pub check_text : (file : List ℕ) → List ℕ
+check_text file = printed_check (file_checked file)

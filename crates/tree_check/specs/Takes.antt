@@ -2,26 +2,26 @@
 use Rattle.std.specs.Prelude.{ℕ, zero, suc, List, [], get_or}
 use Rattle.table.specs.Check.{unused}
 use Rattle.table.specs.Answer.{limit}
-use Rattle.tree_grammar.specs.Ranges.{rowRules}
-use Rattle.tree_grammar.specs.Needs.{Sort, a-value, an-instr, a-statement, a_block, a_case, many}
+use Rattle.tree_grammar.specs.Ranges.{row_rules}
+use Rattle.tree_grammar.specs.Needs.{Sort, a_value, an_instr, a_statement, a_block, a_case, many}
 use Rattle.tree_check.specs.declared.parts.Takes.{Takes}
 use Rattle.tree_check.specs.declared.ranges.Limits.{Limits}
 
 -- the code's numbers for sorts
-abbrev pub sortOf : ℕ → Sort
-sortOf zero = a-value
-sortOf (suc zero) = an-instr
-sortOf (suc (suc zero)) = a-statement
-sortOf (suc (suc (suc zero))) = a_block
-sortOf (suc (suc (suc (suc n)))) = a_case
+abbrev pub sort_of : ℕ → Sort
+sort_of zero = a_value
+sort_of (suc zero) = an_instr
+sort_of (suc (suc zero)) = a_statement
+sort_of (suc (suc (suc zero))) = a_block
+sort_of (suc (suc (suc (suc n)))) = a_case
 
 -- a number of parts of a first sort, the latest first, and then a number of a second sort
-abbrev pub partsTaken : Takes → List Sort
-partsTaken takes = many takes.count (sortOf takes.first) (many takes.more (sortOf takes.then) [])
+abbrev pub parts_taken : Takes → List Sort
+parts_taken takes = many takes.count (sort_of takes.first) (many takes.more (sort_of takes.then) [])
 
 -- the limit of each column a to d: a word fits if it is below
-abbrev pub limitOf : (op column word : ℕ) → ℕ
-limitOf op column word = limit (get_or (rowRules op) column unused) word
+abbrev pub limit_of : (op column word : ℕ) → ℕ
+limit_of op column word = limit (get_or (row_rules op) column unused) word
 
-abbrev pub limitsOf : (op a b c d : ℕ) → Limits
-limitsOf op a b c d = record { a = limitOf op 0 a; b = limitOf op 1 b; c = limitOf op 2 c; d = limitOf op 3 d }
+abbrev pub limits_of : (op a b c d : ℕ) → Limits
+limits_of op a b c d = record { a = limit_of op 0 a; b = limit_of op 1 b; c = limit_of op 2 c; d = limit_of op 3 d }

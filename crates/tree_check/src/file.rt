@@ -3,8 +3,8 @@ ghost use Rattle.std.specs.Prelude.{◌≡◌, List, ℕ, ◌+◌, ◌≤◌, �
 ghost use Rattle.text.specs.Lent.{Holds};
 ghost use Rattle.text.specs.Prints.{printing, WrittenText};
 ghost use Rattle.text.specs.declared.write.Written.TheVariants.{Bytes};
-ghost use Rattle.tree_check.specs.Prints.{fileChecked, printedCheck, checkText};
-ghost use Rattle.tree_check.specs.Read.{NamesEnd, Kept, rowsRefused, scanEnd, RowsRead, checkedAs};
+ghost use Rattle.tree_check.specs.Prints.{file_checked, printed_check, check_text};
+ghost use Rattle.tree_check.specs.Read.{NamesEnd, Kept, rows_refused, scan_end, RowsRead, checked_as};
 
 use crate::scan::{Scan, start_scan, step};
 use crate::{TreeChecked, check_tree};
@@ -49,7 +49,7 @@ fn keep(words: &mut [u32], count: usize, ended: bool, value: u32) -> usize
 }
 
 fn rows_refused(at: usize) -> Rows
-    ensures { result ≡ rowsRefused at }
+    ensures { result ≡ rows_refused at }
 {
     Rows {
         refused: true,
@@ -60,7 +60,7 @@ fn rows_refused(at: usize) -> Rows
 
 // The file's end, which must be that of a line.
 fn scan_end(scan: Scan, at: usize, count: usize) -> Rows
-    ensures { result ≡ scanEnd scan at count }
+    ensures { result ≡ scan_end scan at count }
 {
     if scan.begun {
         return rows_refused(at);
@@ -102,7 +102,7 @@ pub fn read_table(file: &[u8], names: &[u8], last: u32, words: &mut [u32]) -> Ro
 // The check of `count` words. Words past the places lent make the list too long.
 fn check_words(words: &[u32], count: usize) -> TreeChecked
     requires { length words.now ≡ 12288 }
-    ensures { (list : List ℕ) → Holds words.now count list → checkedAs list result }
+    ensures { (list : List ℕ) → Holds words.now count list → checked_as list result }
 {
     if count > words.len() {
         return TreeChecked { code: 62, at: 0 };
@@ -112,7 +112,7 @@ fn check_words(words: &[u32], count: usize) -> TreeChecked
 
 // Code and place of a file: 51, 50, or those of its rows.
 fn check_rows(file: &[u8]) -> TreeChecked
-    ensures { result ≡ fileChecked file.now }
+    ensures { result ≡ file_checked file.now }
 {
     if file.len() > 262144 {
         return TreeChecked { code: 51, at: 0 };
@@ -127,7 +127,7 @@ fn check_rows(file: &[u8]) -> TreeChecked
 }
 
 fn write_check(out: &mut [u8], code: u32, at: u32) -> Written
-    ensures { WrittenText 30 (printedCheck (record { code = code; at = at })) (length out.old) result out.new }
+    ensures { WrittenText 30 (printed_check (record { code = code; at = at })) (length out.old) result out.new }
 {
     let names = write_names(out, 0, b"code at\n");
     let numbers = [code, at];
@@ -137,8 +137,8 @@ fn write_check(out: &mut [u8], code: u32, at: u32) -> Written
 
 // Reads a file of rows, checks them and writes the answer; 30 bytes are enough.
 pub fn check_file(file: &[u8], out: &mut [u8]) -> Written
-    ensures out_after { record { answer = result; bytes = out.new } ≡ printing (length out.old) (checkText file.now) }
-    ensures value { 30 ≤ length out.old → result ≡ Bytes (length (checkText file.now)) }
+    ensures out_after { record { answer = result; bytes = out.new } ≡ printing (length out.old) (check_text file.now) }
+    ensures value { 30 ≤ length out.old → result ≡ Bytes (length (check_text file.now)) }
 {
     let checked = check_rows(file);
     write_check(out, checked.code, checked.at)

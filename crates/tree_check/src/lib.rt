@@ -6,7 +6,7 @@ mod scan;
 mod words;
 
 ghost use Rattle.std.specs.Prelude.{◌≡◌, ◌*◌, ◌≤◌, length};
-ghost use Rattle.tree_check.specs.Found.{noBegins, noList, remainderCode, readFrom, treeRead, Ready, treeChecked};
+ghost use Rattle.tree_check.specs.Found.{no_begins, no_list, remainder_code, read_from, tree_read, Ready, tree_checked};
 
 use crate::parts::{NOWHERE, row_begin};
 use crate::ranges::in_range;
@@ -31,7 +31,7 @@ pub struct TreeRead {
 fn remainder(tree: &[u32], begin: &[u32], rows: u32) -> u32
     requires ready { Ready tree.now begin.now rows }
     requires le_rows { 1 ≤ rows }
-    ensures { result ≡ remainderCode tree.now begin.now rows }
+    ensures { result ≡ remainder_code tree.now begin.now rows }
 {
     let last = rows - 1;
     if begin[last as usize] != 0 {
@@ -48,7 +48,7 @@ fn read_rows(tree: &[u32], rows: u32) -> TreeRead
     requires tree_len { length tree.now ≡ rows * 6 }
     requires le_rows { 1 ≤ rows }
     requires rows_bound { rows ≤ 2048 }
-    ensures { result ≡ readFrom tree.now noBegins 0 rows }
+    ensures { result ≡ read_from tree.now no_begins 0 rows }
 {
     let mut begin = [0u32; 2048];
     let mut row = 0;
@@ -76,7 +76,7 @@ fn read_rows(tree: &[u32], rows: u32) -> TreeRead
 }
 
 fn no_list() -> TreeRead
-    ensures { result ≡ noList }
+    ensures { result ≡ no_list }
 {
     TreeRead {
         code: 62,
@@ -87,7 +87,7 @@ fn no_list() -> TreeRead
 
 // The check, with what it finds.
 pub fn read_tree(tree: &[u32]) -> TreeRead
-    ensures { result ≡ treeRead tree.now }
+    ensures { result ≡ tree_read tree.now }
 {
     let rows = tree.len() / 6;
     if tree.len() != rows * 6 {
@@ -104,7 +104,7 @@ pub fn read_tree(tree: &[u32]) -> TreeRead
 
 // Whether any words are the rows of one tree.
 pub fn check_tree(tree: &[u32]) -> TreeChecked
-    ensures { result ≡ treeChecked tree.now }
+    ensures { result ≡ tree_checked tree.now }
 {
     let read = read_tree(tree);
     TreeChecked {
@@ -115,7 +115,7 @@ pub fn check_tree(tree: &[u32]) -> TreeChecked
 
 // The same for callers in C or Rust: the code, and its row in `at`.
 pub fn tree_check(tree: &[u32], at: &mut u32) -> u32
-    ensures { record { code = result; at = at.new } ≡ treeChecked tree.now }
+    ensures { record { code = result; at = at.new } ≡ tree_checked tree.now }
 {
     let checked = check_tree(tree);
     *at = checked.at;

@@ -1,15 +1,15 @@
 // The parts that a row takes, and where they begin.
 ghost use Rattle.std.specs.Prelude.{◌≡◌, [], ◌∷◌, ◌+◌, ◌*◌, ◌≤◌, length, get_or};
-ghost use Rattle.tree_grammar.specs.Needs.{a-value, a-statement, a_block, serves, madeBy, many, ifPresent, parts_of, needsByOp};
-ghost use Rattle.tree_check.specs.Takes.{sortOf, partsTaken};
-ghost use Rattle.tree_check.specs.Found.{row_at, partsBegin, orNowhere, Ready};
+ghost use Rattle.tree_grammar.specs.Needs.{a_value, a_statement, a_block, serves, made_by, many, if_present, parts_of, needs_by_op};
+ghost use Rattle.tree_check.specs.Takes.{sort_of, parts_taken};
+ghost use Rattle.tree_check.specs.Found.{row_at, parts_begin, or_nowhere, Ready};
 
 use crate::words::word;
 
 // The beginning of parts that are not there: no row.
 pub const NOWHERE: u32 = 65535;
 
-// Sorts of parts: what a row leaves for a later one to take (`sortOf` in specs/Takes.antt). An INSTR is a statement too.
+// Sorts of parts: what a row leaves for a later one to take (`sort_of` in specs/Takes.antt). An INSTR is a statement too.
 const VALUE: u32 = 0;
 
 const INSTR: u32 = 1;
@@ -31,7 +31,7 @@ pub struct Takes {
 
 // Paper 01: "values ops 1 to 3 and 5 to 8, statements 4, 10 and 12 to 25".
 fn is_value(op: u32) -> bool
-    ensures { result ≡ serves a-value (madeBy op) }
+    ensures { result ≡ serves a_value (made_by op) }
 {
     if op == 4 {
         return false;
@@ -40,7 +40,7 @@ fn is_value(op: u32) -> bool
 }
 
 fn is_statement(op: u32) -> bool
-    ensures { result ≡ serves a-statement (madeBy op) }
+    ensures { result ≡ serves a_statement (made_by op) }
 {
     if op == 4 {
         return true;
@@ -53,7 +53,7 @@ fn is_statement(op: u32) -> bool
 
 // Whether a part that was closed by a row with this op serves.
 fn serves(wanted: u32, op: u32) -> bool
-    ensures { result ≡ serves (sortOf wanted) (madeBy op) }
+    ensures { result ≡ serves (sort_of wanted) (made_by op) }
 {
     match wanted {
         0 => is_value(op),
@@ -77,21 +77,21 @@ fn taking(count: u32, first: u32, more: u32, then: u32) -> Takes
 
 // An IF has one BLOCK, and one more where its alternate is present.
 fn if_blocks(alternate: u32) -> u32
-    ensures { many result a_block [] ≡ ifPresent alternate a_block (a_block ∷ []) }
+    ensures { many result a_block [] ≡ if_present alternate a_block (a_block ∷ []) }
 {
     if alternate == 0 { 1 } else { 2 }
 }
 
 // A FOR has two values, and one more where its update is present.
 fn for_values(update: u32) -> u32
-    ensures { many result a-value [] ≡ ifPresent update a-value (a-value ∷ a-value ∷ []) }
+    ensures { many result a_value [] ≡ if_present update a_value (a_value ∷ a_value ∷ []) }
 {
     if update == 0 { 2 } else { 3 }
 }
 
 // The parts of a row, by its op: paper 01, "Parts come first (..), then the closing row."
 fn row_takes(op: u32, a: u32, b: u32, c: u32) -> Takes
-    ensures { partsTaken result ≡ get_or (needsByOp a b c) op [] }
+    ensures { parts_taken result ≡ get_or (needs_by_op a b c) op [] }
 {
     match op {
         0 => taking(0, VALUE, 0, VALUE),
@@ -123,7 +123,7 @@ fn row_takes(op: u32, a: u32, b: u32, c: u32) -> Takes
 // Where the part begins that closes before row `at`, if it is of this sort.
 fn part_begin(tree: &[u32], begin: &[u32], at: u32, wanted: u32) -> u32
     requires { Ready tree.now begin.now at }
-    ensures { result ≡ orNowhere (partsBegin tree.now begin.now (sortOf wanted ∷ []) at) }
+    ensures { result ≡ or_nowhere (parts_begin tree.now begin.now (sort_of wanted ∷ []) at) }
 {
     if at == 0 {
         return NOWHERE;
@@ -139,7 +139,7 @@ fn part_begin(tree: &[u32], begin: &[u32], at: u32, wanted: u32) -> u32
 pub fn row_begin(tree: &[u32], begin: &[u32], row: u32) -> u32
     requires ready { Ready tree.now begin.now row }
     requires row_in_bounds { row * 6 + 6 ≤ length tree.now }
-    ensures { result ≡ orNowhere (partsBegin tree.now begin.now (parts_of (row_at tree.now row)) row) }
+    ensures { result ≡ or_nowhere (parts_begin tree.now begin.now (parts_of (row_at tree.now row)) row) }
 {
     let op = word(tree, row, 0);
     let a = word(tree, row, 1);

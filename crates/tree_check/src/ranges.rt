@@ -1,9 +1,9 @@
 // The ranges of a row's columns. A column fits where it is below its limit: `limit` of table/specs/Answer.antt says which limit a rule is.
 ghost use Rattle.std.specs.Prelude.{◌≡◌, ◌+◌, ◌*◌, ◌≤◌, length};
-ghost use Rattle.table.specs.Check.{row-or-none};
+ghost use Rattle.table.specs.Check.{row_or_none};
 ghost use Rattle.table.specs.Answer.{limit};
 ghost use Rattle.tree_grammar.specs.Ranges.{in_range};
-ghost use Rattle.tree_check.specs.Takes.{limitsOf};
+ghost use Rattle.tree_check.specs.Takes.{limits_of};
 ghost use Rattle.tree_check.specs.Found.{row_at};
 
 use crate::words::word;
@@ -42,14 +42,14 @@ fn below(a: u32, b: u32, c: u32, d: u32) -> Limits
 
 // The limit of a word that is below `rows`, or none.
 fn or_none(rows: u32, word: u32) -> u32
-    ensures { result ≡ limit (row-or-none rows) word }
+    ensures { result ≡ limit (row_or_none rows) word }
 {
     if word == 65535 { FREE } else { rows }
 }
 
 // The limits by op: M-100, "blocks are below 1,024 (a label may be none), ..".
 fn row_limits(op: u32, a: u32, b: u32, c: u32, d: u32) -> Limits
-    ensures { result ≡ limitsOf op a b c d }
+    ensures { result ≡ limits_of op a b c d }
 {
     let test = or_none(PLACE, a);
     let label = or_none(BLOCK, b);

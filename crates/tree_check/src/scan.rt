@@ -1,6 +1,6 @@
 // The bytes of a table's lines, one by one; `last` is the last column.
 ghost use Rattle.std.specs.Prelude.{◌≡◌, true, false, ◌≤◌};
-ghost use Rattle.tree_check.specs.Scan.{startScan, refusedScan, nextColumn, firstDigit, inNumber, stepped};
+ghost use Rattle.tree_check.specs.Scan.{start_scan, refused_scan, next_column, first_digit, in_number, stepped};
 
 use text::number::{digit_value, ending_byte, extended};
 
@@ -15,7 +15,7 @@ pub struct Scan {
 }
 
 pub fn start_scan() -> Scan
-    ensures { result ≡ startScan }
+    ensures { result ≡ start_scan }
 {
     Scan {
         refused: false,
@@ -27,7 +27,7 @@ pub fn start_scan() -> Scan
 }
 
 fn refused_scan() -> Scan
-    ensures { result ≡ refusedScan }
+    ensures { result ≡ refused_scan }
 {
     Scan {
         refused: true,
@@ -40,7 +40,7 @@ fn refused_scan() -> Scan
 
 fn next_column(last: u32, column: u32) -> u32
     requires { column ≤ last }
-    ensures { result ≡ nextColumn last column }
+    ensures { result ≡ next_column last column }
 {
     if column == last { 0 } else { column + 1 }
 }
@@ -58,7 +58,7 @@ fn open_scan(column: u32, value: u32) -> Scan
 }
 
 fn first_digit(column: u32, byte: u8) -> Scan
-    ensures { result ≡ firstDigit column byte }
+    ensures { result ≡ first_digit column byte }
 {
     let digit = digit_value(byte);
     if digit == 10 {
@@ -69,7 +69,7 @@ fn first_digit(column: u32, byte: u8) -> Scan
 
 fn in_number(last: u32, column: u32, value: u32, byte: u8) -> Scan
     requires { column ≤ last }
-    ensures { result ≡ inNumber last column value byte }
+    ensures { result ≡ in_number last column value byte }
 {
     if byte == ending_byte(column == last) {
         return Scan {

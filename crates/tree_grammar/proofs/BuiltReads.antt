@@ -8,124 +8,124 @@ use mathlib.Core.Logic.{◌⊎◌, inl, inr, ⊎_elim}
 use lib.ListN.{length, get_or, take, get_or-eq_default}
 use lib.Dec.{eqb, leb, ltb}
 use borrow.Author.Tests.{leb-true, eqb-true, eqb-false, ltb-true, ltb-false}
-use Rattle.table.specs.Words.{blockCount, instructionCount, caseCount, placeCount, blockWord, instructionWord, largest}
-use Rattle.table.specs.Check.{unused, number, end_of, fits, blockRules, instructionRules}
+use Rattle.table.specs.Words.{block_count, instruction_count, case_count, place_count, block_word, instruction_word, largest}
+use Rattle.table.specs.Check.{unused, number, end_of, fits, block_rules, instruction_rules}
 use Rattle.table.specs.Check as check
-use Rattle.table.specs.Table.{Block, no_block, Case, instructionOf, case_of, tabulate, table_of, block_at}
+use Rattle.table.specs.Table.{Block, no_block, Case, instruction_of, case_of, tabulate, table_of, block_at}
 use Rattle.table.specs.Promise.{Promise, InRange}
 use Rattle.table.proofs.RuleLaws.{present}
-use Rattle.table.proofs.PromiseLaws.{promised, number-most}
-use Rattle.table.proofs.RangeLaws.{in-range, absent-zero, run-in-range, lvalue-below, operands-in-range, case-test, case-block}
-use Rattle.table.proofs.TableLaws.{length-blocks, instruction-at}
-use Rattle.table.proofs.BlockLaws.{id-at, span-at}
+use Rattle.table.proofs.PromiseLaws.{promised, number_most}
+use Rattle.table.proofs.RangeLaws.{in_range_lem, absent_zero, run_in_range, lvalue_below, operands_in_range, case_test, case_block}
+use Rattle.table.proofs.TableLaws.{length_blocks, instruction_at_lem}
+use Rattle.table.proofs.BlockLaws.{id_at, span_at}
 use Rattle.definition.specs.Around.{Rule}
 use Rattle.definition.specs.Tree.{Row, rows, Statements}
 use Rattle.definition.specs.Reading.{WellFormed}
 use Rattle.definition.specs.Build.{words_of, built}
-use Rattle.definition.proofs.Accepted.{Accepted, accepted-of, rows-of-buffer, words-rows}
+use Rattle.definition.proofs.Accepted.{Accepted, accepted_of, rows_of_buffer, words_rows}
 use Rattle.definition.proofs.Checked.{ranged}
-use Rattle.definition.proofs.Formed.{tree-formed}
-use Rattle.tree_grammar.specs.Grammar.{ReadsAsTree, one-tree, Answer, of-rows}
-use Rattle.tree_grammar.specs.Needs.{accepted, refused, code_of, rowsVerdict}
+use Rattle.definition.proofs.Formed.{tree_formed}
+use Rattle.tree_grammar.specs.Grammar.{ReadsAsTree, one_tree, Answer, of_rows}
+use Rattle.tree_grammar.specs.Needs.{accepted, refused, code_of, rows_verdict}
 use Rattle.tree_grammar.proofs.Upto.{and_both}
-use Rattle.tree_grammar.proofs.Trees.{Spanned, tree-in}
-use Rattle.tree_grammar.proofs.Built.{Cased, Bounded, tree-ranged}
+use Rattle.tree_grammar.proofs.Trees.{Spanned, tree_in}
+use Rattle.tree_grammar.proofs.Built.{Cased, Bounded, tree_ranged}
 use Rattle.tree_grammar.proofs.Answers.{accepts}
 
 module _ (ws : List ℕ) (p : Promise ws) where
   -- what holds of every block of the table, and of a row of zeros, holds of every number
-  everywhere : (P : Block → Type 0) → P no_block → ((b : ℕ) → b < blockCount ws → P (block_at (table_of ws) b)) → (b : ℕ) → P (block_at (table_of ws) b)
-  everywhere P o h b = by (ltb b (blockCount ws)) refl
+  everywhere : (P : Block → Type 0) → P no_block → ((b : ℕ) → b < block_count ws → P (block_at (table_of ws) b)) → (b : ℕ) → P (block_at (table_of ws) b)
+  everywhere P o h b = by (ltb b (block_count ws)) refl
     where
-      by : (y : Bool) → ltb b (blockCount ws) ≡ y → P (block_at (table_of ws) b)
+      by : (y : Bool) → ltb b (block_count ws) ≡ y → P (block_at (table_of ws) b)
       by true e = h b (ltb-true _ _ e)
-      by false e = subst P (sym (get_or-eq_default (table_of ws).blocks no_block (omega (arith, ltb-false b (blockCount ws) e, length-blocks ws)))) o
+      by false e = subst P (sym (get_or-eq_default (table_of ws).blocks no_block (omega (arith, ltb-false b (block_count ws) e, length_blocks ws)))) o
 
   -- the second end of a span
-  end-most : (from w : ℕ) → fits (end_of from) w ≡ true → w ≤ 65535
+  end_most : (from w : ℕ) → fits (end_of from) w ≡ true → w ≤ 65535
   unfolding fits
-  end-most from w e = leb-true w 65535 (and_both (leb from w) (leb w 65535) e).1
+  end_most from w e = leb-true w 65535 (and_both (leb from w) (leb w 65535) e).1
 
   -- a column that is at most 65,535 in every row that is there
-  free-column : (b : ℕ) → b < blockCount ws → (column : ℕ) → column < 11
-      → ((blockWord ws b 2 ≡ 0 → ⊥) → fits (get_or (blockRules ws b) column unused) (blockWord ws b column) ≡ true → blockWord ws b column ≤ 65535) → blockWord ws b column ≤ 65535
-  free-column b h column l f = by (eqb (blockWord ws b 2) 0) refl
+  free_column : (b : ℕ) → b < block_count ws → (column : ℕ) → column < 11
+      → ((block_word ws b 2 ≡ 0 → ⊥) → fits (get_or (block_rules ws b) column unused) (block_word ws b column) ≡ true → block_word ws b column ≤ 65535) → block_word ws b column ≤ 65535
+  free_column b h column l f = by (eqb (block_word ws b 2) 0) refl
     where
-      by : (y : Bool) → eqb (blockWord ws b 2) 0 ≡ y → blockWord ws b column ≤ 65535
-      by true e = omega (arith, absent-zero ws p b h (eqb-true (blockWord ws b 2) 0 e) column l)
-      by false e = f (eqb-false (blockWord ws b 2) 0 e) (p.block b h column l)
+      by : (y : Bool) → eqb (block_word ws b 2) 0 ≡ y → block_word ws b column ≤ 65535
+      by true e = omega (arith, absent_zero ws p b h (eqb-true (block_word ws b 2) 0 e) column l)
+      by false e = f (eqb-false (block_word ws b 2) 0 e) (p.block b h column l)
 
-  id-most : (b : ℕ) → b < blockCount ws → blockWord ws b 8 ≤ 65535
-  id-most b h = free-column b h 8 (omega arith) (λ f q. number-most 65535 _ (rw (present ws b f) at q))
+  id_most : (b : ℕ) → b < block_count ws → block_word ws b 8 ≤ 65535
+  id_most b h = free_column b h 8 (omega arith) (λ f q. number_most 65535 _ (rw (present ws b f) at q))
 
-  from-most : (b : ℕ) → b < blockCount ws → blockWord ws b 9 ≤ 65535
-  from-most b h = free-column b h 9 (omega arith) (λ f q. number-most 65535 _ (rw (present ws b f) at q))
+  from_most : (b : ℕ) → b < block_count ws → block_word ws b 9 ≤ 65535
+  from_most b h = free_column b h 9 (omega arith) (λ f q. number_most 65535 _ (rw (present ws b f) at q))
 
-  to-most : (b : ℕ) → b < blockCount ws → blockWord ws b 10 ≤ 65535
-  to-most b h = free-column b h 10 (omega arith) (λ f q. end-most (blockWord ws b 9) _ (rw (present ws b f) at q))
+  to_most : (b : ℕ) → b < block_count ws → block_word ws b 10 ≤ 65535
+  to_most b h = free_column b h 10 (omega arith) (λ f q. end_most (block_word ws b 9) _ (rw (present ws b f) at q))
 
-  cases-in : (n : ℕ) (f : ℕ → Case) (k : ℕ) → ((i : ℕ) → i < k → (((f i).test ≡ 65535) ⊎ ((f i).test < 4096)) × ((f i).block < n)) → Cased n (tabulate f k)
+  cases_in : (n : ℕ) (f : ℕ → Case) (k : ℕ) → ((i : ℕ) → i < k → (((f i).test ≡ 65535) ⊎ ((f i).test < 4096)) × ((f i).block < n)) → Cased n (tabulate f k)
   unfolding tabulate
-  cases-in n f zero h = tt
-  cases-in n f (suc k) h = ((h 0 (omega arith)).0, (h 0 (omega arith)).1, cases-in n (λ i. f (suc i)) k (λ i l. h (suc i) (omega arith)))
+  cases_in n f zero h = tt
+  cases_in n f (suc k) h = ((h 0 (omega arith)).0, (h 0 (omega arith)).1, cases_in n (λ i. f (suc i)) k (λ i l. h (suc i) (omega arith)))
 
-  cased : Cased (blockCount ws) (table_of ws).cases
+  cased : Cased (block_count ws) (table_of ws).cases
   unfolding table_of case_of
-  cased = cases-in (blockCount ws) (case_of ws) (caseCount ws) (λ i h. (⊎_elim (λ e. inl e) (λ l. inr (omega (arith, p.sized.limited.places))) (case-test ws p i h), case-block ws p i h))
+  cased = cases_in (block_count ws) (case_of ws) (case_count ws) (λ i h. (⊎_elim (λ e. inl e) (λ l. inr (omega (arith, p.sized.limited.places))) (case_test ws p i h), case_block ws p i h))
 
-  instruction-id-most : (i : ℕ) → i < instructionCount ws → instructionWord ws i 0 ≤ 65535
-  unfolding instructionRules
-  instruction-id-most i h = number-most 65535 _ (p.instruction i h 0 (omega arith))
+  instruction_id_most : (i : ℕ) → i < instruction_count ws → instruction_word ws i 0 ≤ 65535
+  unfolding instruction_rules
+  instruction_id_most i h = number_most 65535 _ (p.instruction i h 0 (omega arith))
 
-  instruction-spanned : (i : ℕ) → i < instructionCount ws → (instructionWord ws i 5 ≤ 65535) × (instructionWord ws i 6 ≤ 65535)
-  unfolding instructionRules
-  instruction-spanned i h = (number-most 65535 _ (p.instruction i h 5 (omega arith)), end-most (instructionWord ws i 5) _ (p.instruction i h 6 (omega arith)))
+  instruction_spanned : (i : ℕ) → i < instruction_count ws → (instruction_word ws i 5 ≤ 65535) × (instruction_word ws i 6 ≤ 65535)
+  unfolding instruction_rules
+  instruction_spanned i h = (number_most 65535 _ (p.instruction i h 5 (omega arith)), end_most (instruction_word ws i 5) _ (p.instruction i h 6 (omega arith)))
 
-  bounded : Bounded (table_of ws) (blockCount ws) (placeCount ws) (instructionCount ws) (caseCount ws)
-  unfolding instructionOf
+  bounded : Bounded (table_of ws) (block_count ws) (place_count ws) (instruction_count ws) (case_count ws)
+  unfolding instruction_of
   bounded = record {
-    few-blocks = p.sized.limited.blocks;
-    few-places = p.sized.limited.places;
-    few-instructions = p.sized.limited.instructions;
-    ends = everywhere (λ x. InRange (blockCount ws) (placeCount ws) (caseCount ws) x.terminal) tt (λ b h. in-range ws p b h);
-    id = everywhere (λ x. x.id ≤ 65535) (omega arith) (λ b h. rw (id-at ws b h) (id-most b h));
-    span = everywhere (λ x. Spanned x.span) (omega arith, omega arith) (λ b h. rw (span-at ws b h) (from-most b h, to-most b h));
-    run = everywhere (λ x. x.first + x.count ≤ instructionCount ws) (omega arith) (λ b h. run-in-range ws p b h);
-    instruction-id = λ i h. rw (instruction-at ws i h) (instruction-id-most i h);
-    lvalue = λ i h. rw (instruction-at ws i h) (lvalue-below ws p i h);
-    instruction-span = λ i h. rw (instruction-at ws i h) (instruction-spanned i h);
-    operands = λ i h. operands-in-range ws p i h;
+    few_blocks = p.sized.limited.blocks;
+    few_places = p.sized.limited.places;
+    few_instructions = p.sized.limited.instructions;
+    ends = everywhere (λ x. InRange (block_count ws) (place_count ws) (case_count ws) x.terminal) tt (λ b h. in_range_lem ws p b h);
+    id = everywhere (λ x. x.id ≤ 65535) (omega arith) (λ b h. rw (id_at ws b h) (id_most b h));
+    span = everywhere (λ x. Spanned x.span) (omega arith, omega arith) (λ b h. rw (span_at ws b h) (from_most b h, to_most b h));
+    run = everywhere (λ x. x.first + x.count ≤ instruction_count ws) (omega arith) (λ b h. run_in_range ws p b h);
+    instruction_id = λ i h. rw (instruction_at_lem ws i h) (instruction_id_most i h);
+    lvalue = λ i h. rw (instruction_at_lem ws i h) (lvalue_below ws p i h);
+    instruction_span = λ i h. rw (instruction_at_lem ws i h) (instruction_spanned i h);
+    operands = λ i h. operands_in_range ws p i h;
     cased = cased;
   }
 
-module _ (rule : Rule) (words : List ℕ) (lent lentIndex : ℕ) (h : (built rule words lent lentIndex).code ≡ 0) (few : (built rule words lent lentIndex).rows ≤ 2048) (list : List Row)
-    (held : words_of list ≡ take ((built rule words lent lentIndex).rows * 6) (built rule words lent lentIndex).buffer) where
-  pub built-reads : ReadsAsTree list
-  built-reads =
-      let a : Accepted rule words lent lentIndex = accepted-of rule words lent lentIndex h in
+module _ (rule : Rule) (words : List ℕ) (lent lent_index : ℕ) (h : (built rule words lent lent_index).code ≡ 0) (few : (built rule words lent lent_index).rows ≤ 2048) (list : List Row)
+    (held : words_of list ≡ take ((built rule words lent lent_index).rows * 6) (built rule words lent lent_index).buffer) where
+  pub built_reads : ReadsAsTree list
+  built_reads =
+      let a : Accepted rule words lent lent_index = accepted_of rule words lent lent_index h in
       let root : Statements = a.root.statements in
-      let e : rows root ≡ list = sym (words-rows list (rows root) (held ∙ rows-of-buffer rule words lent lentIndex a)) in
+      let e : rows root ≡ list = sym (words_rows list (rows root) (held ∙ rows_of_buffer rule words lent lent_index a)) in
       let k : Bounded (table_of words) _ _ _ _ = bounded words (promised words a.checks) in
-      let formed : WellFormed root = tree-formed (table_of words) (ranged words a.checks) rule a.root a.builds in
+      let formed : WellFormed root = tree_formed (table_of words) (ranged words a.checks) rule a.root a.builds in
       subst ReadsAsTree e (record {
-        ranged = tree-in root formed (tree-ranged (table_of words) _ _ _ _ k rule a.root a.builds) (omega (arith, few, a.number));
+        ranged = tree_in root formed (tree_ranged (table_of words) _ _ _ _ k rule a.root a.builds) (omega (arith, few, a.number));
         root = root;
-        reading = record { well-formed = formed; same_rows = refl };
+        reading = record { well_formed = formed; same_rows = refl };
       })
 
-  pub built-accepted : rowsVerdict list 0 [] ≡ accepted
-  built-accepted = accepts list built-reads
+  pub built_accepted : rows_verdict list 0 [] ≡ accepted
+  built_accepted = accepts list built_reads
 
 -- the same of the words: the check of the rows that an accepted build leaves is 0 at 0
-module _ (rule : Rule) (words : List ℕ) (lent lentIndex : ℕ) (h : (built rule words lent lentIndex).code ≡ 0) (few : (built rule words lent lentIndex).rows ≤ 2048) where
-  pub built-answered : Answer (take ((built rule words lent lentIndex).rows * 6) (built rule words lent lentIndex).buffer) 0 0
-  built-answered =
-      let a : Accepted rule words lent lentIndex = accepted-of rule words lent lentIndex h in
+module _ (rule : Rule) (words : List ℕ) (lent lent_index : ℕ) (h : (built rule words lent lent_index).code ≡ 0) (few : (built rule words lent lent_index).rows ≤ 2048) where
+  pub built_answered : Answer (take ((built rule words lent lent_index).rows * 6) (built rule words lent lent_index).buffer) 0 0
+  built_answered =
+      let a : Accepted rule words lent lent_index = accepted_of rule words lent lent_index h in
       let list : List Row = rows a.root.statements in
-      let held : words_of list ≡ take ((built rule words lent lentIndex).rows * 6) (built rule words lent lentIndex).buffer = sym (rows-of-buffer rule words lent lentIndex a) in
-      let reads : ReadsAsTree list = built-reads rule words lent lentIndex h few list held in
-      of-rows list held (some-row list (accepts list reads)) (omega (arith, few, a.number)) 0 0 (one-tree reads)
+      let held : words_of list ≡ take ((built rule words lent lent_index).rows * 6) (built rule words lent lent_index).buffer = sym (rows_of_buffer rule words lent lent_index a) in
+      let reads : ReadsAsTree list = built_reads rule words lent lent_index h few list held in
+      of_rows list held (some_row list (accepts list reads)) (omega (arith, few, a.number)) 0 0 (one_tree reads)
     where
-      some-row : (list : List Row) → rowsVerdict list 0 [] ≡ accepted → 1 ≤ length list
-      some-row [] e = absurd (let y : rowsVerdict [] 0 [] ≡ refused 62 0 = unfold rowsVerdict in refl in let z : ◌≡◌ {A = ℕ} 0 62 = ap code_of (sym e ∙ y) in omega arith)
-      some-row (r ∷ list) e = omega arith
+      some_row : (list : List Row) → rows_verdict list 0 [] ≡ accepted → 1 ≤ length list
+      some_row [] e = absurd (let y : rows_verdict [] 0 [] ≡ refused 62 0 = unfold rows_verdict in refl in let z : ◌≡◌ {A = ℕ} 0 62 = ap code_of (sym e ∙ y) in omega arith)
+      some_row (r ∷ list) e = omega arith

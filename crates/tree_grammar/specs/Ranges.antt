@@ -1,7 +1,7 @@
 -- M-100: the ranges of a row's columns.
 use Rattle.std.specs.Prelude.{ℕ, List, [], ◌∷◌, Bool, true, ◌&&◌, get_or, leb}
 use Rattle.table.specs.Words.{largest}
-use Rattle.table.specs.Check.{Rule, unused, number, row-or-none, fits}
+use Rattle.table.specs.Check.{Rule, unused, number, row_or_none, fits}
 use Rattle.table.specs.Check as check
 use Rattle.definition.specs.Tree.{Row, row}
 
@@ -11,7 +11,7 @@ abbrev pub block : Rule
 block = check.row 1024
 
 abbrev pub label : Rule
-label = row-or-none 1024
+label = row_or_none 1024
 
 abbrev pub instruction : Rule
 instruction = check.row 4096
@@ -19,8 +19,8 @@ instruction = check.row 4096
 abbrev pub place : Rule
 place = check.row 4096
 
-abbrev pub place-or-none : Rule
-place-or-none = row-or-none 4096
+abbrev pub place_or_none : Rule
+place_or_none = row_or_none 4096
 
 abbrev pub count : Rule
 count = check.row 2048
@@ -40,8 +40,8 @@ abbrev pub free : Rule
 free = number largest
 
 -- the columns a to e of each op, in the order of the ops; those not listed are unused. There is no op 0
-abbrev pub rulesByOp : List (List Rule)
-rulesByOp =
+abbrev pub rules_by_op : List (List Rule)
+rules_by_op =
     []
     ∷ (instruction ∷ [])
     ∷ (place ∷ [])
@@ -53,7 +53,7 @@ rulesByOp =
     ∷ (flag ∷ [])
     ∷ (count ∷ [])
     ∷ (place ∷ flag ∷ free ∷ label ∷ [])
-    ∷ (place-or-none ∷ [])
+    ∷ (place_or_none ∷ [])
     ∷ (place ∷ count ∷ free ∷ label ∷ [])
     ∷ (free ∷ label ∷ [])
     ∷ (free ∷ label ∷ [])
@@ -61,7 +61,7 @@ rulesByOp =
     ∷ (free ∷ label ∷ free ∷ free ∷ [])
     ∷ (free ∷ label ∷ free ∷ free ∷ [])
     ∷ (free ∷ label ∷ [])
-    ∷ (free ∷ label ∷ place-or-none ∷ [])
+    ∷ (free ∷ label ∷ place_or_none ∷ [])
     ∷ (free ∷ [])
     ∷ (free ∷ [])
     ∷ (place ∷ free ∷ [])
@@ -70,16 +70,16 @@ rulesByOp =
     ∷ (block ∷ free ∷ choice ∷ crossed ∷ [])
     ∷ []
 
-unfoldable pub rowRules : (op : ℕ) → List Rule
-rowRules op = get_or rulesByOp op []
+unfoldable pub row_rules : (op : ℕ) → List Rule
+row_rules op = get_or rules_by_op op []
 
-unfoldable pub fitsColumn : (op column w : ℕ) → Bool
-fitsColumn op column w = fits (get_or (rowRules op) column unused) w
+unfoldable pub fits_column : (op column w : ℕ) → Bool
+fits_column op column w = fits (get_or (row_rules op) column unused) w
 
 unfoldable pub in_range : Row → Bool
 in_range (row op a b c d e) =
-    leb 1 op && (leb op 25 && (fitsColumn op 0 a && (fitsColumn op 1 b && (fitsColumn op 2 c && (fitsColumn op 3 d && fitsColumn op 4 e)))))
+    leb 1 op && (leb op 25 && (fits_column op 0 a && (fits_column op 1 b && (fits_column op 2 c && (fits_column op 3 d && fits_column op 4 e)))))
 
-abbrev pub allInRange : List Row → Bool
-allInRange [] = true
-allInRange (r ∷ list) = in_range r && allInRange list
+abbrev pub all_in_range : List Row → Bool
+all_in_range [] = true
+all_in_range (r ∷ list) = in_range r && all_in_range list

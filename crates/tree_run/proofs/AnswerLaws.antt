@@ -7,13 +7,13 @@ use mathlib.Core.Option.{Option, none, some}
 use lib.ListN.{length, get_or, drop, drop_of_length-le}
 use lib.Seq.{drop-cons}
 use native.Mathlib.Numerals.{add-one}
-use Rattle.definition.specs.Run.{Answers, no-answer-left}
+use Rattle.definition.specs.Run.{Answers, no_answer_left}
 use Rattle.definition.specs.Completion.{normal, stop}
-use Rattle.tree_runs.specs.Links.{Links, before, casesBack}
+use Rattle.tree_runs.specs.Links.{Links, before, cases_back}
 use Rattle.tree_runs.specs.Machine as machine
-use Rattle.tree_runs.specs.Machine.{enter, leave, State, state, orLeave, case_at}
-use Rattle.tree_runs.specs.Acts.{Then, go, ask, pick, doThen}
-use Rattle.tree_run.specs.Abstraction.{linksOf, thenBy, chosenBy}
+use Rattle.tree_runs.specs.Machine.{enter, leave, State, state, or_leave, case_at}
+use Rattle.tree_runs.specs.Acts.{Then, go, ask, pick, do_then}
+use Rattle.tree_run.specs.Abstraction.{links_of, then_by, chosen_by}
 use Rattle.tree_run.specs.Holds.{back_by}
 
 -- ---- the case at a place
@@ -27,85 +27,85 @@ back_none begin zero row h = refl
 back_none begin (suc left) row h = absurd (omega arith)
 
 module _ (begin parent next child : List ℕ) where
-  case-there : (count m place : ℕ) (later : List ℕ) → place < count → case_at (casesBack (linksOf begin parent next child) count m later) place ≡ some (back_by begin place m)
-  case-there zero m place later h = absurd (omega arith)
-  case-there (suc count) m zero later h = refl
-  case-there (suc count) m (suc place) later h = case-there count (before (get_or begin m 0)) place later (omega arith)
+  case_there : (count m place : ℕ) (later : List ℕ) → place < count → case_at (cases_back (links_of begin parent next child) count m later) place ≡ some (back_by begin place m)
+  case_there zero m place later h = absurd (omega arith)
+  case_there (suc count) m zero later h = refl
+  case_there (suc count) m (suc place) later h = case_there count (before (get_or begin m 0)) place later (omega arith)
 
-  case-beyond : (count m place : ℕ) → count ≤ place → case_at (casesBack (linksOf begin parent next child) count m []) place ≡ none
-  case-beyond zero m place h = refl
-  case-beyond (suc count) m zero h = absurd (omega arith)
-  case-beyond (suc count) m (suc place) h = case-beyond count (before (get_or begin m 0)) place (omega arith)
+  case_beyond : (count m place : ℕ) → count ≤ place → case_at (cases_back (links_of begin parent next child) count m []) place ≡ none
+  case_beyond zero m place h = refl
+  case_beyond (suc count) m zero h = absurd (omega arith)
+  case_beyond (suc count) m (suc place) h = case_beyond count (before (get_or begin m 0)) place (omega arith)
 
-  then-pick : (asks row y n : ℕ) (place : machine.Place) → 2 < asks → thenBy asks (linksOf begin parent next child) row y n place ≡ pick row (casesBack (linksOf begin parent next child) n y [])
-  then-pick zero row y n place h = absurd (omega arith)
-  then-pick (suc zero) row y n place h = absurd (omega arith)
-  then-pick (suc (suc zero)) row y n place h = absurd (omega arith)
-  then-pick (suc (suc (suc asks))) row y n place h = refl
+  then_pick : (asks row y n : ℕ) (place : machine.Place) → 2 < asks → then_by asks (links_of begin parent next child) row y n place ≡ pick row (cases_back (links_of begin parent next child) n y [])
+  then_pick zero row y n place h = absurd (omega arith)
+  then_pick (suc zero) row y n place h = absurd (omega arith)
+  then_pick (suc (suc zero)) row y n place h = absurd (omega arith)
+  then_pick (suc (suc (suc asks))) row y n place h = refl
 
   module _ (asks row y n given : ℕ) (place : machine.Place) where
     abbrev Chosen : machine.Place → Type 0
-    Chosen p = p ≡ chosenBy (thenBy asks (linksOf begin parent next child) row y n place) given
+    Chosen p = p ≡ chosen_by (then_by asks (links_of begin parent next child) row y n place) given
 
-    pub chosen-case : 2 < asks → given < n → Chosen (enter (back_by begin given y))
-    unfolding chosenBy
-    chosen-case h l = rw (then-pick asks row y n place h, case-there n y given [] l) refl
+    pub chosen_case : 2 < asks → given < n → Chosen (enter (back_by begin given y))
+    unfolding chosen_by
+    chosen_case h l = rw (then_pick asks row y n place h, case_there n y given [] l) refl
 
     pub chosen_none : 2 < asks → n ≤ given → Chosen (leave row normal)
-    unfolding chosenBy
-    chosen_none h l = rw (then-pick asks row y n place h, case-beyond n y given l) refl
+    unfolding chosen_by
+    chosen_none h l = rw (then_pick asks row y n place h, case_beyond n y given l) refl
 
   module _ (row y n : ℕ) (place : machine.Place) where
-    pub chosen-yes : (asks given : ℕ) → (asks ≡ 0 → ⊥) → asks ≤ 2 → (given ≡ 0 → ⊥) → Chosen asks row y n given place (enter y)
-    unfolding chosenBy
-    chosen-yes zero given z h f = absurd (z refl)
-    chosen-yes (suc zero) zero z h f = absurd (f refl)
-    chosen-yes (suc zero) (suc g) z h f = refl
-    chosen-yes (suc (suc zero)) zero z h f = absurd (f refl)
-    chosen-yes (suc (suc zero)) (suc g) z h f = refl
-    chosen-yes (suc (suc (suc asks))) given z h f = absurd (omega arith)
+    pub chosen_yes : (asks given : ℕ) → (asks ≡ 0 → ⊥) → asks ≤ 2 → (given ≡ 0 → ⊥) → Chosen asks row y n given place (enter y)
+    unfolding chosen_by
+    chosen_yes zero given z h f = absurd (z refl)
+    chosen_yes (suc zero) zero z h f = absurd (f refl)
+    chosen_yes (suc zero) (suc g) z h f = refl
+    chosen_yes (suc (suc zero)) zero z h f = absurd (f refl)
+    chosen_yes (suc (suc zero)) (suc g) z h f = refl
+    chosen_yes (suc (suc (suc asks))) given z h f = absurd (omega arith)
 
-    pub chosen-out : (asks given : ℕ) → asks ≡ 1 → given ≡ 0 → Chosen asks row y n given place (leave row normal)
-    unfolding chosenBy
-    chosen-out asks given e z = rw (e, z) refl
+    pub chosen_out : (asks given : ℕ) → asks ≡ 1 → given ≡ 0 → Chosen asks row y n given place (leave row normal)
+    unfolding chosen_by
+    chosen_out asks given e z = rw (e, z) refl
 
-    pub chosen-no : (asks given : ℕ) → (asks ≡ 0 → ⊥) → asks ≤ 2 → (asks ≡ 1 → ⊥) → given ≡ 0 → Chosen asks row y n given place (enter n)
-    unfolding chosenBy
-    chosen-no zero given z h f e = absurd (z refl)
-    chosen-no (suc zero) given z h f e = absurd (f refl)
-    chosen-no (suc (suc zero)) given z h f e = rw e refl
-    chosen-no (suc (suc (suc asks))) given z h f e = absurd (omega arith)
+    pub chosen_no : (asks given : ℕ) → (asks ≡ 0 → ⊥) → asks ≤ 2 → (asks ≡ 1 → ⊥) → given ≡ 0 → Chosen asks row y n given place (enter n)
+    unfolding chosen_by
+    chosen_no zero given z h f e = absurd (z refl)
+    chosen_no (suc zero) given z h f e = absurd (f refl)
+    chosen_no (suc (suc zero)) given z h f e = rw e refl
+    chosen_no (suc (suc (suc asks))) given z h f e = absurd (omega arith)
 
   -- ---- the answers
 
   module _ (row y n : ℕ) (place : machine.Place) (P : List ℕ) where
     abbrev then : ℕ → Then
-    then asks = thenBy asks (linksOf begin parent next child) row y n place
+    then asks = then_by asks (links_of begin parent next child) row y n place
 
-    asked-none : (asks : ℕ) → (asks ≡ 0 → ⊥) → state (leave row (stop no-answer-left)) P [] ≡ doThen (then asks) P []
-    unfolding doThen
-    asked-none zero f = absurd (f refl)
-    asked-none (suc zero) f = refl
-    asked-none (suc (suc zero)) f = refl
-    asked-none (suc (suc (suc asks))) f = refl
+    asked_none : (asks : ℕ) → (asks ≡ 0 → ⊥) → state (leave row (stop no_answer_left)) P [] ≡ do_then (then asks) P []
+    unfolding do_then
+    asked_none zero f = absurd (f refl)
+    asked_none (suc zero) f = refl
+    asked_none (suc (suc zero)) f = refl
+    asked_none (suc (suc (suc asks))) f = refl
 
-    asked-one : (asks x : ℕ) (left : Answers) → (asks ≡ 0 → ⊥) → state (chosenBy (then asks) x) P left ≡ doThen (then asks) P (x ∷ left)
-    unfolding doThen chosenBy
-    asked-one zero x left f = absurd (f refl)
-    asked-one (suc zero) zero left f = refl
-    asked-one (suc zero) (suc x) left f = refl
-    asked-one (suc (suc zero)) zero left f = refl
-    asked-one (suc (suc zero)) (suc x) left f = refl
-    asked-one (suc (suc (suc asks))) x left f = refl
+    asked_one : (asks x : ℕ) (left : Answers) → (asks ≡ 0 → ⊥) → state (chosen_by (then asks) x) P left ≡ do_then (then asks) P (x ∷ left)
+    unfolding do_then chosen_by
+    asked_one zero x left f = absurd (f refl)
+    asked_one (suc zero) zero left f = refl
+    asked_one (suc zero) (suc x) left f = refl
+    asked_one (suc (suc zero)) zero left f = refl
+    asked_one (suc (suc zero)) (suc x) left f = refl
+    asked_one (suc (suc (suc asks))) x left f = refl
 
-    pub goes_on : (asks : ℕ) (left : Answers) → asks ≡ 0 → state place P left ≡ doThen (then asks) P left
-    unfolding doThen
+    pub goes_on : (asks : ℕ) (left : Answers) → asks ≡ 0 → state place P left ≡ do_then (then asks) P left
+    unfolding do_then
     goes_on asks left e = rw e refl
 
     pub unanswered : (asks asked : ℕ) (answers : Answers) → (asks ≡ 0 → ⊥) → length answers ≤ asked
-        → state (leave row (stop no-answer-left)) P (drop asked answers) ≡ doThen (then asks) P (drop asked answers)
-    unanswered asks asked answers f l = rw (drop_of_length-le answers l) (asked-none asks f)
+        → state (leave row (stop no_answer_left)) P (drop asked answers) ≡ do_then (then asks) P (drop asked answers)
+    unanswered asks asked answers f l = rw (drop_of_length-le answers l) (asked_none asks f)
 
     pub answered : (asks asked : ℕ) (answers : Answers) → (asks ≡ 0 → ⊥) → asked < length answers
-        → state (chosenBy (then asks) (get_or answers asked 0)) P (drop (asked + 1) answers) ≡ doThen (then asks) P (drop asked answers)
-    answered asks asked answers f l = rw (drop-cons answers asked 0 l, add-one asked) (asked-one asks (get_or answers asked 0) (drop (suc asked) answers) f)
+        → state (chosen_by (then asks) (get_or answers asked 0)) P (drop (asked + 1) answers) ≡ do_then (then asks) P (drop asked answers)
+    answered asks asked answers f l = rw (drop-cons answers asked 0 l, add-one asked) (asked_one asks (get_or answers asked 0) (drop (suc asked) answers) f)

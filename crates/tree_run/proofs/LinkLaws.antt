@@ -10,62 +10,62 @@ use lib.ListN.{length, get_or, set, length-set, get_or-eq_default}
 use lib.Seq.{get_or-set_same, get_or-set_other}
 use lib.Dec.{eqb, leb}
 use borrow.Author.Tests.{eqb-true, eqb-false, eq-eqb, ne_eqb, leb-true, leb-false}
-use Rattle.tree_grammar.specs.Needs.{Sort, serves, madeBy, many, needsByOp}
+use Rattle.tree_grammar.specs.Needs.{Sort, serves, made_by, many, needs_by_op}
 use Rattle.tree_grammar.specs.Needs as goal
 use Rattle.tree_grammar.proofs.Upto.{upto, ends, ◌and◌}
-use Rattle.tree_check.specs.Found.{word_at, row_at, partsBegin, Begun}
-use Rattle.tree_runs.specs.Links.{Links, partsByOp, parts_of, Linked, put, withPart, with_row}
-use Rattle.tree_runs.proofs.Linking.{Linking, Taking, linking-start, taking-start, taking-part, taking-end}
-use Rattle.tree_run.specs.Abstraction.{linksOf, RowsLinked}
+use Rattle.tree_check.specs.Found.{word_at, row_at, parts_begin, Begun}
+use Rattle.tree_runs.specs.Links.{Links, parts_by_op, parts_of, Linked, put, with_part, with_row}
+use Rattle.tree_runs.proofs.Linking.{Linking, Taking, linking_start, taking_start, taking_part, taking_end}
+use Rattle.tree_run.specs.Abstraction.{links_of, RowsLinked}
 
 -- ---- a store is `put`
 
-set-put : (l : List ℕ) (i v : ℕ) → i < length l → (λ j. get_or (set l i v) j 0) ≡ put (λ j. get_or l j 0) i v
+set_put : (l : List ℕ) (i v : ℕ) → i < length l → (λ j. get_or (set l i v) j 0) ≡ put (λ j. get_or l j 0) i v
 unfolding put
-set-put l i v h = fun_ext (λ j. by j (eqb j i) refl)
+set_put l i v h = fun_ext (λ j. by j (eqb j i) refl)
   where
     by : (j : ℕ) (y : Bool) → eqb j i ≡ y → get_or (set l i v) j 0 ≡ elim (eqb j i) [ true ↦ v | false ↦ get_or l j 0 ]
     by j true e = let z : j ≡ i = eqb-true j i e in rw (e, z) (get_or-set_same l i v 0 h)
     by j false e = rw e (get_or-set_other l i j v 0 (eqb-false j i e))
 
-part-stored : (begin parent next child : List ℕ) (k m later : ℕ) → m < length parent → m < length next
-    → withPart (linksOf begin parent next child) k m later ≡ linksOf begin (set parent m k) (set next m later) child
-part-stored begin parent next child k m later p n =
-    ap (λ (f : ℕ → ℕ). record { begin = λ j. get_or begin j 0; parent = f; next = put (λ j. get_or next j 0) m later; child = λ j. get_or child j 0 }) (sym (set-put parent m k p))
-    ∙ ap (λ (f : ℕ → ℕ). record { begin = λ j. get_or begin j 0; parent = λ j. get_or (set parent m k) j 0; next = f; child = λ j. get_or child j 0 }) (sym (set-put next m later n))
+part_stored : (begin parent next child : List ℕ) (k m later : ℕ) → m < length parent → m < length next
+    → with_part (links_of begin parent next child) k m later ≡ links_of begin (set parent m k) (set next m later) child
+part_stored begin parent next child k m later p n =
+    ap (λ (f : ℕ → ℕ). record { begin = λ j. get_or begin j 0; parent = f; next = put (λ j. get_or next j 0) m later; child = λ j. get_or child j 0 }) (sym (set_put parent m k p))
+    ∙ ap (λ (f : ℕ → ℕ). record { begin = λ j. get_or begin j 0; parent = λ j. get_or (set parent m k) j 0; next = f; child = λ j. get_or child j 0 }) (sym (set_put next m later n))
 
-row-stored : (begin parent next child : List ℕ) (k later : ℕ) → k < length child → with_row (linksOf begin parent next child) k later ≡ linksOf begin parent next (set child k later)
-row-stored begin parent next child k later c =
-    ap (λ (f : ℕ → ℕ). record { begin = λ j. get_or begin j 0; parent = λ j. get_or parent j 0; next = λ j. get_or next j 0; child = f }) (sym (set-put child k later c))
+row_stored : (begin parent next child : List ℕ) (k later : ℕ) → k < length child → with_row (links_of begin parent next child) k later ≡ links_of begin parent next (set child k later)
+row_stored begin parent next child k later c =
+    ap (λ (f : ℕ → ℕ). record { begin = λ j. get_or begin j 0; parent = λ j. get_or parent j 0; next = λ j. get_or next j 0; child = f }) (sym (set_put child k later c))
 
 -- ---- so many parts as the check wants
 
-length-many : (n : ℕ) (s : Sort) → length (many n s []) ≡ n
-length-many zero s = refl
-length-many (suc n) s = ap (λ (z : ℕ). suc z) (length-many n s)
+length_many : (n : ℕ) (s : Sort) → length (many n s []) ≡ n
+length_many zero s = refl
+length_many (suc n) s = ap (λ (z : ℕ). suc z) (length_many n s)
 
 module _ (a b c : ℕ) where
-  flag-b : length (goal.ifPresent b goal.a_block (goal.a_block ∷ [])) ≡ get_or (partsByOp a b c) 10 0
-  flag-b = by b
+  flag_b : length (goal.if_present b goal.a_block (goal.a_block ∷ [])) ≡ get_or (parts_by_op a b c) 10 0
+  flag_b = by b
     where
-      by : (b : ℕ) → length (goal.ifPresent b goal.a_block (goal.a_block ∷ [])) ≡ get_or (partsByOp a b c) 10 0
+      by : (b : ℕ) → length (goal.if_present b goal.a_block (goal.a_block ∷ [])) ≡ get_or (parts_by_op a b c) 10 0
       by zero = refl
       by (suc n) = refl
 
-  flag-c : length (goal.a_block ∷ goal.ifPresent c goal.a-value (goal.a-value ∷ goal.a-value ∷ [])) ≡ get_or (partsByOp a b c) 15 0
-  flag-c = by c
+  flag_c : length (goal.a_block ∷ goal.if_present c goal.a_value (goal.a_value ∷ goal.a_value ∷ [])) ≡ get_or (parts_by_op a b c) 15 0
+  flag_c = by c
     where
-      by : (c : ℕ) → length (goal.a_block ∷ goal.ifPresent c goal.a-value (goal.a-value ∷ goal.a-value ∷ [])) ≡ get_or (partsByOp a b c) 15 0
+      by : (c : ℕ) → length (goal.a_block ∷ goal.if_present c goal.a_value (goal.a_value ∷ goal.a_value ∷ [])) ≡ get_or (parts_by_op a b c) 15 0
       by zero = refl
       by (suc n) = refl
 
   abbrev AsMany : ℕ → Type 0
-  AsMany op = length (get_or (needsByOp a b c) op []) ≡ get_or (partsByOp a b c) op 0
+  AsMany op = length (get_or (needs_by_op a b c) op []) ≡ get_or (parts_by_op a b c) op 0
 
   known : (op : ℕ) → op < 26 → AsMany op
   known = upto AsMany 26
-      (refl and refl and refl and refl and refl and ap (λ (z : ℕ). suc z) (length-many a goal.an-instr) and refl and refl and refl and length-many a goal.a-statement
-      and flag-b and refl and length-many b goal.a_case and refl and refl and flag-c and refl and refl and refl and refl and refl and refl and refl and refl and refl and refl and ends)
+      (refl and refl and refl and refl and refl and ap (λ (z : ℕ). suc z) (length_many a goal.an_instr) and refl and refl and refl and length_many a goal.a_statement
+      and flag_b and refl and length_many b goal.a_case and refl and refl and flag_c and refl and refl and refl and refl and refl and refl and refl and refl and refl and refl and ends)
 
   as_many : (op : ℕ) → AsMany op
   as_many op = by (leb 26 op) refl
@@ -74,12 +74,12 @@ module _ (a b c : ℕ) where
       by true e = beyond (leb-true 26 op e)
         where
           beyond : 26 ≤ op → AsMany op
-          beyond h = ap length (get_or-eq_default (needsByOp a b c) [] {n = op} (omega (arith, h))) ∙ sym (get_or-eq_default (partsByOp a b c) 0 h)
+          beyond h = ap length (get_or-eq_default (needs_by_op a b c) [] {n = op} (omega (arith, h))) ∙ sym (get_or-eq_default (parts_by_op a b c) 0 h)
       by false e = known op (omega (arith, leb-false 26 op e))
 
-parts-many : (words : List ℕ) (k : ℕ) → length (goal.parts_of (row_at words k)) ≡ parts_of (row_at words k)
+parts_many : (words : List ℕ) (k : ℕ) → length (goal.parts_of (row_at words k)) ≡ parts_of (row_at words k)
 unfolding parts_of
-parts-many words k = as_many (word_at words k 1) (word_at words k 2) (word_at words k 3) (word_at words k 0)
+parts_many words k = as_many (word_at words k 1) (word_at words k 2) (word_at words k 3) (word_at words k 0)
 
 -- ---- the parts of row k, back to the cursor
 
@@ -88,74 +88,74 @@ module _ (words begin : List ℕ) where
     taken : ℕ
     wanted : List Sort
     taking : Taking (row_at words) t k taken cursor later
-    found : partsBegin words begin wanted cursor ≡ some (get_or begin k 0)
+    found : parts_begin words begin wanted cursor ≡ some (get_or begin k 0)
     all : taken + length wanted ≡ parts_of (row_at words k)
 
-  none-some : {n : ℕ} → none ≡ some n → ⊥
-  none-some e = let z : ◌≡◌ {A = ℕ} 0 1 = cc in omega arith
+  none_some : {n : ℕ} → none ≡ some n → ⊥
+  none_some e = let z : ◌≡◌ {A = ℕ} 0 1 = cc in omega arith
 
   some_is : {m n : ℕ} → some m ≡ some n → m ≡ n
   some_is e = cc
 
   -- parts that are there begin before the row after them
-  parts_below : ((k : ℕ) → get_or begin k 0 ≤ k) → (wanted : List Sort) (cursor first : ℕ) → partsBegin words begin wanted cursor ≡ some first → first ≤ cursor
-  unfolding partsBegin
+  parts_below : ((k : ℕ) → get_or begin k 0 ≤ k) → (wanted : List Sort) (cursor first : ℕ) → parts_begin words begin wanted cursor ≡ some first → first ≤ cursor
+  unfolding parts_begin
   parts_below low [] cursor first e = omega (arith, some_is e)
-  parts_below low (sort ∷ wanted) zero first e = absurd (none-some e)
-  parts_below low (sort ∷ wanted) (suc last) first e = by (serves sort (madeBy (word_at words last 0))) e (λ q. parts_below low wanted (get_or begin last 0) first q)
+  parts_below low (sort ∷ wanted) zero first e = absurd (none_some e)
+  parts_below low (sort ∷ wanted) (suc last) first e = by (serves sort (made_by (word_at words last 0))) e (λ q. parts_below low wanted (get_or begin last 0) first q)
     where
-      by : (y : Bool) → elim y [ true ↦ partsBegin words begin wanted (get_or begin last 0) | false ↦ none ] ≡ some first
-          → (partsBegin words begin wanted (get_or begin last 0) ≡ some first → first ≤ get_or begin last 0) → first ≤ suc last
+      by : (y : Bool) → elim y [ true ↦ parts_begin words begin wanted (get_or begin last 0) | false ↦ none ] ≡ some first
+          → (parts_begin words begin wanted (get_or begin last 0) ≡ some first → first ≤ get_or begin last 0) → first ≤ suc last
       by true q on = omega (arith, on q, low last)
-      by false q on = absurd (none-some q)
+      by false q on = absurd (none_some q)
 
-  part-served : (sort : Sort) (wanted : List Sort) (last first : ℕ) → partsBegin words begin (sort ∷ wanted) (suc last) ≡ some first → partsBegin words begin wanted (get_or begin last 0) ≡ some first
-  unfolding partsBegin
-  part-served sort wanted last first e = by (serves sort (madeBy (word_at words last 0))) e
+  part_served : (sort : Sort) (wanted : List Sort) (last first : ℕ) → parts_begin words begin (sort ∷ wanted) (suc last) ≡ some first → parts_begin words begin wanted (get_or begin last 0) ≡ some first
+  unfolding parts_begin
+  part_served sort wanted last first e = by (serves sort (made_by (word_at words last 0))) e
     where
-      by : (y : Bool) → elim y [ true ↦ partsBegin words begin wanted (get_or begin last 0) | false ↦ none ] ≡ some first → partsBegin words begin wanted (get_or begin last 0) ≡ some first
+      by : (y : Bool) → elim y [ true ↦ parts_begin words begin wanted (get_or begin last 0) | false ↦ none ] ≡ some first → parts_begin words begin wanted (get_or begin last 0) ≡ some first
       by true q = q
-      by false q = absurd (none-some q)
+      by false q = absurd (none_some q)
 
-  none-wanted : (cursor first : ℕ) → partsBegin words begin [] cursor ≡ some first → cursor ≡ first
-  unfolding partsBegin
-  none-wanted cursor first e = some_is e
+  none_wanted : (cursor first : ℕ) → parts_begin words begin [] cursor ≡ some first → cursor ≡ first
+  unfolding parts_begin
+  none_wanted cursor first e = some_is e
 
-  none-there : (sort : Sort) (wanted : List Sort) (first : ℕ) → partsBegin words begin (sort ∷ wanted) 0 ≡ some first → ⊥
-  unfolding partsBegin
-  none-there sort wanted first e = none-some e
+  none_there : (sort : Sort) (wanted : List Sort) (first : ℕ) → parts_begin words begin (sort ∷ wanted) 0 ≡ some first → ⊥
+  unfolding parts_begin
+  none_there sort wanted first e = none_some e
 
-  join-start : (t : Links) (k rows : ℕ) → k < rows → Begun words begin rows → Linking (row_at words) t k → Joining t k k 0
-  join-start t k rows h b l = record { taken = 0; wanted = goal.parts_of (row_at words k); taking = taking-start (row_at words) t k l; found = b.begun k h; all = omega (arith, parts-many words k) }
+  join_start : (t : Links) (k rows : ℕ) → k < rows → Begun words begin rows → Linking (row_at words) t k → Joining t k k 0
+  join_start t k rows h b l = record { taken = 0; wanted = goal.parts_of (row_at words k); taking = taking_start (row_at words) t k l; found = b.begun k h; all = omega (arith, parts_many words k) }
 
   module _ (low : (k : ℕ) → get_or begin k 0 ≤ k) (t : Links) (same : (j : ℕ) → t.begin j ≡ get_or begin j 0) (k m later : ℕ) where
-    join-part : get_or begin k 0 < suc m → Joining t k (suc m) later → Joining (withPart t k m later) k (get_or begin m 0) m
-    join-part h j = by j.wanted j.found j.all
+    join_part : get_or begin k 0 < suc m → Joining t k (suc m) later → Joining (with_part t k m later) k (get_or begin m 0) m
+    join_part h j = by j.wanted j.found j.all
       where
-        by : (wanted : List Sort) → partsBegin words begin wanted (suc m) ≡ some (get_or begin k 0) → j.taken + length wanted ≡ parts_of (row_at words k)
-            → Joining (withPart t k m later) k (get_or begin m 0) m
-        by [] q all = absurd (omega (arith, none-wanted (suc m) (get_or begin k 0) q, h))
+        by : (wanted : List Sort) → parts_begin words begin wanted (suc m) ≡ some (get_or begin k 0) → j.taken + length wanted ≡ parts_of (row_at words k)
+            → Joining (with_part t k m later) k (get_or begin m 0) m
+        by [] q all = absurd (omega (arith, none_wanted (suc m) (get_or begin k 0) q, h))
         by (sort ∷ wanted) q all = record {
           taken = suc j.taken;
           wanted = wanted;
-          taking = subst (λ (z : ℕ). Taking (row_at words) (withPart t k m later) k (suc j.taken) z m) (same m) (taking-part (row_at words) t k j.taken m later j.taking);
-          found = part-served sort wanted m (get_or begin k 0) q;
+          taking = subst (λ (z : ℕ). Taking (row_at words) (with_part t k m later) k (suc j.taken) z m) (same m) (taking_part (row_at words) t k j.taken m later j.taking);
+          found = part_served sort wanted m (get_or begin k 0) q;
           all = omega (arith, all);
         }
 
   module _ (low : (k : ℕ) → get_or begin k 0 ≤ k) (t : Links) (same : (j : ℕ) → t.begin j ≡ get_or begin j 0) (k cursor later : ℕ) where
-    join-end : cursor ≤ get_or begin k 0 → Joining t k cursor later → Linking (row_at words) (with_row t k later) (suc k)
-    join-end h j = by j.wanted j.found j.all
+    join_end : cursor ≤ get_or begin k 0 → Joining t k cursor later → Linking (row_at words) (with_row t k later) (suc k)
+    join_end h j = by j.wanted j.found j.all
       where
-        by : (wanted : List Sort) → partsBegin words begin wanted cursor ≡ some (get_or begin k 0) → j.taken + length wanted ≡ parts_of (row_at words k)
+        by : (wanted : List Sort) → parts_begin words begin wanted cursor ≡ some (get_or begin k 0) → j.taken + length wanted ≡ parts_of (row_at words k)
             → Linking (row_at words) (with_row t k later) (suc k)
-        by [] q all = taking-end (row_at words) t k j.taken cursor later j.taking (omega (arith, all)) (same k ∙ sym (none-wanted cursor (get_or begin k 0) q))
+        by [] q all = taking_end (row_at words) t k j.taken cursor later j.taking (omega (arith, all)) (same k ∙ sym (none_wanted cursor (get_or begin k 0) q))
         by (sort ∷ wanted) q all = strict cursor q h
           where
-            strict : (cursor : ℕ) → partsBegin words begin (sort ∷ wanted) cursor ≡ some (get_or begin k 0) → cursor ≤ get_or begin k 0 → Linking (row_at words) (with_row t k later) (suc k)
-            strict zero q h = absurd (none-there sort wanted (get_or begin k 0) q)
+            strict : (cursor : ℕ) → parts_begin words begin (sort ∷ wanted) cursor ≡ some (get_or begin k 0) → cursor ≤ get_or begin k 0 → Linking (row_at words) (with_row t k later) (suc k)
+            strict zero q h = absurd (none_there sort wanted (get_or begin k 0) q)
             strict (suc last) q h =
-                let l : get_or begin k 0 ≤ get_or begin last 0 = parts_below low wanted (get_or begin last 0) (get_or begin k 0) (part-served sort wanted last (get_or begin k 0) q) in
+                let l : get_or begin k 0 ≤ get_or begin last 0 = parts_below low wanted (get_or begin last 0) (get_or begin k 0) (part_served sort wanted last (get_or begin k 0) q) in
                 absurd (omega (arith, l, low last, h))
 
 -- ---- the loops
@@ -167,25 +167,25 @@ module _ (begin : List ℕ) (rows : ℕ) where
     pub parents : length parent ≡ 2048
     pub nexts : length next ≡ 2048
     pub children : length child ≡ 2048
-    pub linking : (words : List ℕ) → Begun words begin rows → Linking (row_at words) (linksOf begin parent next child) row
+    pub linking : (words : List ℕ) → Begun words begin rows → Linking (row_at words) (links_of begin parent next child) row
 
   -- and the parts of this row from the cursor on
   pub record PartsDone (parent next child : List ℕ) (row cursor later : ℕ) : Type 0 where
     pub under : cursor ≤ row
     pub parents : length parent ≡ 2048
     pub nexts : length next ≡ 2048
-    pub joining : (words : List ℕ) → Begun words begin rows → Joining words begin (linksOf begin parent next child) row cursor later
+    pub joining : (words : List ℕ) → Begun words begin rows → Joining words begin (links_of begin parent next child) row cursor later
 
-  pub cursor-falls : ((k : ℕ) → get_or begin k 0 ≤ k) → (first cursor : ℕ) → first < cursor → get_or begin (cursor - 1) 0 < cursor
-  cursor-falls low first cursor h = omega (arith, low (cursor - 1), h)
+  pub cursor_falls : ((k : ℕ) → get_or begin k 0 ≤ k) → (first cursor : ℕ) → first < cursor → get_or begin (cursor - 1) 0 < cursor
+  cursor_falls low first cursor h = omega (arith, low (cursor - 1), h)
 
   pub rows_start : {parent next child : List ℕ} → length parent ≡ 2048 → length next ≡ 2048 → length child ≡ 2048 → ((k : ℕ) → get_or begin k 0 ≤ k) → RowsDone parent next child 0
   rows_start {parent} {next} {child} p n c low =
-      record { most = omega arith; parents = p; nexts = n; children = c; linking = λ words b. linking-start (row_at words) (linksOf begin parent next child) low }
+      record { most = omega arith; parents = p; nexts = n; children = c; linking = λ words b. linking_start (row_at words) (links_of begin parent next child) low }
 
-  pub parts-start : {parent next child : List ℕ} {row : ℕ} → RowsDone parent next child row → row < rows → PartsDone parent next child row row 0
-  parts-start {parent} {next} {child} {row} d h =
-      record { under = omega arith; parents = d.parents; nexts = d.nexts; joining = λ words b. join-start words begin (linksOf begin parent next child) row rows h b (d.linking words b) }
+  pub parts_start : {parent next child : List ℕ} {row : ℕ} → RowsDone parent next child row → row < rows → PartsDone parent next child row row 0
+  parts_start {parent} {next} {child} {row} d h =
+      record { under = omega arith; parents = d.parents; nexts = d.nexts; joining = λ words b. join_start words begin (links_of begin parent next child) row rows h b (d.linking words b) }
 
   pub parts_more : {parent next child : List ℕ} {row cursor later : ℕ} → ((k : ℕ) → get_or begin k 0 ≤ k) → row < 2048 → PartsDone parent next child row cursor later → get_or begin row 0 < cursor
       → PartsDone (set parent (cursor - 1) row) (set next (cursor - 1) later) child row (get_or begin (cursor - 1) 0) (cursor - 1)
@@ -201,8 +201,8 @@ module _ (begin : List ℕ) (rows : ℕ) where
             parents = length-set parent m row ∙ d.parents;
             nexts = length-set next m later ∙ d.nexts;
             joining = λ words b. subst (λ (t : Links). Joining words begin t row (get_or begin m 0) m)
-                (part-stored begin parent next child row m later (omega (arith, d.under, d.parents, few)) (omega (arith, d.under, d.nexts, few)))
-                (join-part words begin low (linksOf begin parent next child) (λ j. refl) row m later h (d.joining words b));
+                (part_stored begin parent next child row m later (omega (arith, d.under, d.parents, few)) (omega (arith, d.under, d.nexts, few)))
+                (join_part words begin low (links_of begin parent next child) (λ j. refl) row m later h (d.joining words b));
           })
 
   pub row_done : {parent₀ next₀ parent next child : List ℕ} {row cursor later : ℕ} → ((k : ℕ) → get_or begin k 0 ≤ k) → RowsDone parent₀ next₀ child row → row < rows → rows ≤ 2048
@@ -213,10 +213,10 @@ module _ (begin : List ℕ) (rows : ℕ) where
     nexts = p.nexts;
     children = length-set child row later ∙ d.children;
     linking = λ words b. rw (add-one row) (subst (λ (t : Links). Linking (row_at words) t (suc row))
-        (row-stored begin parent next child row later (omega (arith, d.children, h, few)))
-        (join-end words begin low (linksOf begin parent next child) (λ j. refl) row cursor later e (p.joining words b)));
+        (row_stored begin parent next child row later (omega (arith, d.children, h, few)))
+        (join_end words begin low (links_of begin parent next child) (λ j. refl) row cursor later e (p.joining words b)));
   }
 
-  pub rows-linked : {parent next child : List ℕ} {row : ℕ} → RowsDone parent next child row → rows ≤ row → (words : List ℕ) → Begun words begin rows
-      → RowsLinked words (linksOf begin parent next child) rows
-  rows-linked d h words b k l = (d.linking words b).linked k (omega (arith, l, h))
+  pub rows_linked : {parent next child : List ℕ} {row : ℕ} → RowsDone parent next child row → rows ≤ row → (words : List ℕ) → Begun words begin rows
+      → RowsLinked words (links_of begin parent next child) rows
+  rows_linked d h words b k l = (d.linking words b).linked k (omega (arith, l, h))

@@ -10,39 +10,39 @@ use lib.Seq.{get_or-set_same, get_or-set_other, get_or_at}
 use lib.Dec.{eqb}
 use borrow.Author.Tests.{eq-eqb, ne_eqb, eqb-true, eqb-false}
 use Rattle.tree_check.specs.Found.{word_at, row_at}
-use Rattle.tree_runs.specs.Links.{plainsFrom, plains}
+use Rattle.tree_runs.specs.Links.{plains_from, plains}
 use Rattle.tree_run.specs.declared.row_walk.Performed.{Performed}
 use Rattle.tree_run.specs.Holds.{Held, Took, took, filled}
 
 module _ (words : List ℕ) where
-  one : (row : ℕ) (y : Bool) → eqb (word_at words row 0) 1 ≡ y → plainsFrom (row_at words) row 1 ≡ elim y [ true ↦ row ∷ [] | false ↦ [] ]
-  unfolding plainsFrom
+  one : (row : ℕ) (y : Bool) → eqb (word_at words row 0) 1 ≡ y → plains_from (row_at words) row 1 ≡ elim y [ true ↦ row ∷ [] | false ↦ [] ]
+  unfolding plains_from
   one row y e = ap (λ (z : Bool). elim z [ true ↦ row ∷ [] | false ↦ [] ]) e
 
   module _ {buffer : List ℕ} {number : ℕ} {reached : List ℕ} (h : Held words buffer number reached) {op : ℕ} (row : ℕ) (is : op ≡ word_at words row 0) where
-    other : (op ≡ 1 → ⊥) → reached ++ plainsFrom (row_at words) row 1 ≡ reached
+    other : (op ≡ 1 → ⊥) → reached ++ plains_from (row_at words) row 1 ≡ reached
     other f = ap (λ (z : List ℕ). reached ++ z) (one row false (ne_eqb (word_at words row 0) 1 (λ e. f (is ∙ e)))) ∙ append-nil reached
 
-    this : op ≡ 1 → reached ++ plainsFrom (row_at words) row 1 ≡ reached ++ (row ∷ [])
+    this : op ≡ 1 → reached ++ plains_from (row_at words) row 1 ≡ reached ++ (row ∷ [])
     this e = ap (λ (z : List ℕ). reached ++ z) (one row true (eq-eqb (word_at words row 0) 1 (sym is ∙ e)))
 
-    more-length : length (reached ++ (row ∷ [])) ≡ number + 1
-    more-length = length-append reached (row ∷ []) ∙ ap (λ (n : ℕ). n + 1) h.count
+    more_length : length (reached ++ (row ∷ [])) ≡ number + 1
+    more_length = length-append reached (row ∷ []) ∙ ap (λ (n : ℕ). n + 1) h.count
 
-    pub row_other : (op ≡ 1 → ⊥) → Took words buffer (record { full = false; at = 0; number = number }) (reached ++ plainsFrom (row_at words) row 1)
+    pub row_other : (op ≡ 1 → ⊥) → Took words buffer (record { full = false; at = 0; number = number }) (reached ++ plains_from (row_at words) row 1)
     row_other f = took refl (subst (λ (z : List ℕ). Held words buffer number z) (sym (other f)) h)
 
-    pub row-full : op ≡ 1 → length buffer ≤ number → Took words buffer (record { full = true; at = row; number = number }) (reached ++ plainsFrom (row_at words) row 1)
-    row-full e l =
+    pub row_full : op ≡ 1 → length buffer ≤ number → Took words buffer (record { full = true; at = row; number = number }) (reached ++ plains_from (row_at words) row 1)
+    row_full e l =
         let z : number ≡ length buffer = omega (arith, h.fits, l) in
         subst (λ (r : List ℕ). Took words buffer (record { full = true; at = row; number = number }) r) (sym (this e))
-        (filled refl (omega (arith, more-length, z)) (sym (get_or_at reached row [] 0 (length buffer) (h.count ∙ z))))
+        (filled refl (omega (arith, more_length, z)) (sym (get_or_at reached row [] 0 (length buffer) (h.count ∙ z))))
 
     pub row_one : {v : ℕ} → op ≡ 1 → number < length buffer → v ≡ word_at words row 1
-        → Took words (set buffer number v) (record { full = false; at = 0; number = number + 1 }) (reached ++ plainsFrom (row_at words) row 1)
+        → Took words (set buffer number v) (record { full = false; at = 0; number = number + 1 }) (reached ++ plains_from (row_at words) row 1)
     row_one {v} e l q =
         subst (λ (r : List ℕ). Took words (set buffer number v) (record { full = false; at = 0; number = number + 1 }) r) (sym (this e))
-        (took refl (record { count = more-length; fits = omega (arith, length-set buffer number v, l); same = λ i g. by i g (eqb i number) refl }))
+        (took refl (record { count = more_length; fits = omega (arith, length-set buffer number v, l); same = λ i g. by i g (eqb i number) refl }))
       where
         by : (i : ℕ) → i < number + 1 → (y : Bool) → eqb i number ≡ y → get_or (set buffer number v) i 0 ≡ word_at words (get_or (reached ++ (row ∷ [])) i 0) 1
         by i g true z =
@@ -56,21 +56,21 @@ module _ (words : List ℕ) where
 
   -- a buffer that can't take some rows can't take those and more
   took_more : {buffer reached : List ℕ} {p : Performed} (more : List ℕ) → p.full ≡ true → Took words buffer p reached → Took words buffer p (reached ++ more)
-  took_more more e (took f h) = absurd (true-false (sym e ∙ f))
+  took_more more e (took f h) = absurd (true_false (sym e ∙ f))
     where
-      true-false : true ≡ false → ⊥
-      true-false e = let z : ◌≡◌ {A = ℕ} 0 1 = cc in omega arith
+      true_false : true ≡ false → ⊥
+      true_false e = let z : ◌≡◌ {A = ℕ} 0 1 = cc in omega arith
   took_more {buffer} {reached} more e (filled f l g) = filled f (omega (arith, length-append reached more, l)) (g ∙ sym (get_or-append reached more 0 (length buffer) l))
 
   pub taken : {buffer reached : List ℕ} {p : Performed} → p.full ≡ false → Took words buffer p reached → Held words buffer p.number reached
   taken e (took f h) = h
-  taken e (filled f l g) = absurd (true-false (sym f ∙ e))
+  taken e (filled f l g) = absurd (true_false (sym f ∙ e))
     where
-      true-false : true ≡ false → ⊥
-      true-false e = let z : ◌≡◌ {A = ℕ} 0 1 = cc in omega arith
+      true_false : true ≡ false → ⊥
+      true_false e = let z : ◌≡◌ {A = ℕ} 0 1 = cc in omega arith
 
-  pub full-more : {buffer reached : List ℕ} {p : Performed} (more all : List ℕ) → p.full ≡ true → Took words buffer p reached → reached ++ more ≡ all → Took words buffer p all
-  full-more {buffer} {reached} {p} more all e t q = subst (λ (z : List ℕ). Took words buffer p z) q (took_more more e t)
+  pub full_more : {buffer reached : List ℕ} {p : Performed} (more all : List ℕ) → p.full ≡ true → Took words buffer p reached → reached ++ more ≡ all → Took words buffer p all
+  full_more {buffer} {reached} {p} more all e t q = subst (λ (z : List ℕ). Took words buffer p z) q (took_more more e t)
 
   -- ---- row by row
 
@@ -80,52 +80,52 @@ module _ (words : List ℕ) where
     pub held : (reached : List ℕ) → Held words before number reached
         → (so_far : List ℕ) × (Held words now count so_far) × (reached ++ plains (row_at words) from to ≡ so_far ++ plains (row_at words) row to)
 
-  pub performing-start : (buffer : List ℕ) (from to number : ℕ) → Performing buffer buffer from to number from number
-  performing-start buffer from to number = record { long = refl; held = λ reached h. (reached, h, refl) }
+  pub performing_start : (buffer : List ℕ) (from to number : ℕ) → Performing buffer buffer from to number from number
+  performing_start buffer from to number = record { long = refl; held = λ reached h. (reached, h, refl) }
 
-  plains-next : (row to : ℕ) → row < to → plains (row_at words) row to ≡ plainsFrom (row_at words) row 1 ++ plains (row_at words) (row + 1) to
-  unfolding plainsFrom
-  plains-next row to h =
+  plains_next : (row to : ℕ) → row < to → plains (row_at words) row to ≡ plains_from (row_at words) row 1 ++ plains (row_at words) (row + 1) to
+  unfolding plains_from
+  plains_next row to h =
       let n : to - row ≡ suc (to - (row + 1)) = omega arith in
-      ap (λ (z : ℕ). plainsFrom (row_at words) row z) n ∙
-      (by (eqb (word_at words row 0) 1) ∙ ap (λ (r : ℕ). plainsFrom (row_at words) row 1 ++ plainsFrom (row_at words) r (to - (row + 1))) (sym (add-one row)))
+      ap (λ (z : ℕ). plains_from (row_at words) row z) n ∙
+      (by (eqb (word_at words row 0) 1) ∙ ap (λ (r : ℕ). plains_from (row_at words) row 1 ++ plains_from (row_at words) r (to - (row + 1))) (sym (add-one row)))
     where
-      by : (y : Bool) → elim y [ true ↦ row ∷ plainsFrom (row_at words) (suc row) (to - (row + 1)) | false ↦ plainsFrom (row_at words) (suc row) (to - (row + 1)) ]
-          ≡ elim y [ true ↦ row ∷ [] | false ↦ [] ] ++ plainsFrom (row_at words) (suc row) (to - (row + 1))
+      by : (y : Bool) → elim y [ true ↦ row ∷ plains_from (row_at words) (suc row) (to - (row + 1)) | false ↦ plains_from (row_at words) (suc row) (to - (row + 1)) ]
+          ≡ elim y [ true ↦ row ∷ [] | false ↦ [] ] ++ plains_from (row_at words) (suc row) (to - (row + 1))
       by true = refl
       by false = refl
 
-  plains-end : (row to : ℕ) → to ≤ row → plains (row_at words) row to ≡ []
-  unfolding plainsFrom
-  plains-end row to h = let n : to - row ≡ 0 = omega arith in ap (λ (z : ℕ). plainsFrom (row_at words) row z) n
+  plains_end : (row to : ℕ) → to ≤ row → plains (row_at words) row to ≡ []
+  unfolding plains_from
+  plains_end row to h = let n : to - row ≡ 0 = omega arith in ap (λ (z : ℕ). plains_from (row_at words) row z) n
 
   module _ {before now : List ℕ} {from to number row count : ℕ} (I : Performing before now from to number row count) where
-    module _ (h : row < to) {now' : List ℕ} {p : Performed} (each : (reached : List ℕ) → Held words now count reached → Took words now' p (reached ++ plainsFrom (row_at words) row 1)) where
+    module _ (h : row < to) {now' : List ℕ} {p : Performed} (each : (reached : List ℕ) → Held words now count reached → Took words now' p (reached ++ plains_from (row_at words) row 1)) where
       on : (reached so_far : List ℕ) → reached ++ plains (row_at words) from to ≡ so_far ++ plains (row_at words) row to
-          → (so_far ++ plainsFrom (row_at words) row 1) ++ plains (row_at words) (row + 1) to ≡ reached ++ plains (row_at words) from to
+          → (so_far ++ plains_from (row_at words) row 1) ++ plains (row_at words) (row + 1) to ≡ reached ++ plains (row_at words) from to
       on reached so_far q =
-          append_assoc so_far (plainsFrom (row_at words) row 1) (plains (row_at words) (row + 1) to) ∙ (ap (λ (z : List ℕ). so_far ++ z) (sym (plains-next row to h)) ∙ sym q)
+          append_assoc so_far (plains_from (row_at words) row 1) (plains (row_at words) (row + 1) to) ∙ (ap (λ (z : List ℕ). so_far ++ z) (sym (plains_next row to h)) ∙ sym q)
 
-      pub performing-full : p.full ≡ true → (reached : List ℕ) → Held words before number reached → Took words now' p (reached ++ plains (row_at words) from to)
-      performing-full e reached g =
+      pub performing_full : p.full ≡ true → (reached : List ℕ) → Held words before number reached → Took words now' p (reached ++ plains (row_at words) from to)
+      performing_full e reached g =
           let k = I.held reached g in
-          full-more (plains (row_at words) (row + 1) to) (reached ++ plains (row_at words) from to) e (each k.0 k.1) (on reached k.0 k.2)
+          full_more (plains (row_at words) (row + 1) to) (reached ++ plains (row_at words) from to) e (each k.0 k.1) (on reached k.0 k.2)
 
-      pub performing-next : p.full ≡ false → length now' ≡ length now → Performing before now' from to number (row + 1) p.number
-      performing-next e l = record {
+      pub performing_next : p.full ≡ false → length now' ≡ length now → Performing before now' from to number (row + 1) p.number
+      performing_next e l = record {
         long = l ∙ I.long;
-        held = λ reached g. let k = I.held reached g in (k.0 ++ plainsFrom (row_at words) row 1, taken e (each k.0 k.1), sym (on reached k.0 k.2));
+        held = λ reached g. let k = I.held reached g in (k.0 ++ plains_from (row_at words) row 1, taken e (each k.0 k.1), sym (on reached k.0 k.2));
       }
 
-    pub performing-end : to ≤ row → (reached : List ℕ) → Held words before number reached → Took words now (record { full = false; at = 0; number = count }) (reached ++ plains (row_at words) from to)
-    performing-end h reached g =
+    pub performing_end : to ≤ row → (reached : List ℕ) → Held words before number reached → Took words now (record { full = false; at = 0; number = count }) (reached ++ plains (row_at words) from to)
+    performing_end h reached g =
         let k = I.held reached g in
-        took refl (subst (λ (z : List ℕ). Held words now count z) (sym (k.2 ∙ (ap (λ (z : List ℕ). k.0 ++ z) (plains-end row to h) ∙ append-nil k.0))) k.1)
+        took refl (subst (λ (z : List ℕ). Held words now count z) (sym (k.2 ∙ (ap (λ (z : List ℕ). k.0 ++ z) (plains_end row to h) ∙ append-nil k.0))) k.1)
 
   -- both stretches of a turn
-  pub both-full : {buffer : List ℕ} {p : Performed} (reached rows more : List ℕ) → p.full ≡ true → Took words buffer p (reached ++ rows) → Took words buffer p (reached ++ (rows ++ more))
-  both-full reached rows more e t = full-more more (reached ++ (rows ++ more)) e t (append_assoc reached rows more)
+  pub both_full : {buffer : List ℕ} {p : Performed} (reached rows more : List ℕ) → p.full ≡ true → Took words buffer p (reached ++ rows) → Took words buffer p (reached ++ (rows ++ more))
+  both_full reached rows more e t = full_more more (reached ++ (rows ++ more)) e t (append_assoc reached rows more)
 
-  pub both-on : {b b' : List ℕ} {p q : Performed} (reached rows more : List ℕ) → p.full ≡ false → Took words b p (reached ++ rows)
+  pub both_on : {b b' : List ℕ} {p q : Performed} (reached rows more : List ℕ) → p.full ≡ false → Took words b p (reached ++ rows)
       → ((all : List ℕ) → Held words b p.number all → Took words b' q (all ++ more)) → Took words b' q (reached ++ (rows ++ more))
-  both-on {b} {b'} {p} {q} reached rows more e t each = subst (λ (z : List ℕ). Took words b' q z) (append_assoc reached rows more) (each (reached ++ rows) (taken e t))
+  both_on {b} {b'} {p} {q} reached rows more e t each = subst (λ (z : List ℕ). Took words b' q z) (append_assoc reached rows more) (each (reached ++ rows) (taken e t))

@@ -1,13 +1,13 @@
 -- What the lent buffer holds while the walk goes on: the instructions of the rows reached.
 use Rattle.std.specs.Prelude.{◌≡◌, ℕ, zero, suc, ◌*◌, ◌-◌, ◌<◌, ◌≤◌, List, [], Bool, true, false, length, get_or}
 use Rattle.tree_check.specs.Found.{word_at}
-use Rattle.definition.specs.Run.{Answers, Reason, returned, threw, no-answer-left, not_plain, no_target, end-of-tree, no-such-case}
+use Rattle.definition.specs.Run.{Answers, Reason, returned, threw, no_answer_left, not_plain, no_target, end_of_tree, no_such_case}
 use Rattle.definition.specs.Completion.{normal}
-use Rattle.definition.specs.TreeRun.{Completed, reasonOf}
+use Rattle.definition.specs.TreeRun.{Completed, reason_of}
 use Rattle.tree_runs.specs.Links.{before}
 use Rattle.tree_runs.specs.Layout.{Layout}
 use Rattle.tree_runs.specs.Machine.{Completes, enter, leave, state, going, step}
-use Rattle.tree_runs.specs.Ran.{Outcome, notRun}
+use Rattle.tree_runs.specs.Ran.{Outcome, not_run}
 use Rattle.tree_run.specs.declared.Ran.{Ran}
 use Rattle.tree_run.specs.declared.row_walk.Performed.{Performed}
 use Rattle.tree_run.specs.declared.turns.Place.{Place}
@@ -49,23 +49,23 @@ pub record Walks (L : Layout) (rows : ℕ) (answers : Answers) : Type 0 where
 abbrev pub told : (number : ℕ) → Reason → Ran
 told number (returned value id) = record { code = 0; at = 0; number = number; reason = 1 }
 told number (threw value id) = record { code = 0; at = 0; number = number; reason = 2 }
-told number end-of-tree = record { code = 0; at = 0; number = number; reason = 3 }
-told number no-answer-left = record { code = 0; at = 0; number = number; reason = 4 }
+told number end_of_tree = record { code = 0; at = 0; number = number; reason = 3 }
+told number no_answer_left = record { code = 0; at = 0; number = number; reason = 4 }
 told number (no_target at) = record { code = 63; at = at; number = 0; reason = 0 }
 told number not_plain = record { code = 64; at = 0; number = 0; reason = 0 }
-told number no-such-case = record { code = 64; at = 0; number = 0; reason = 0 }
+told number no_such_case = record { code = 64; at = 0; number = 0; reason = 0 }
 
 -- what the walk leaves and tells where it came to this end
 pub data Ends (words buffer : List ℕ) (ran : Ran) (end : Completed) : Type 0 where
   filled : length buffer < length end.rows → ran ≡ record { code = 65; at = get_or end.rows (length buffer) 0; number = 0; reason = 0 } → Ends words buffer ran end
-  ended : (number : ℕ) → Held words buffer number end.rows → ran ≡ told number (reasonOf end.completion) → Ends words buffer ran end
+  ended : (number : ℕ) → Held words buffer number end.rows → ran ≡ told number (reason_of end.completion) → Ends words buffer ran end
 
 -- ---- the whole
 
 -- the first of the `count` rows from row i on that is not run, or the row after them
-unfoldable pub notRunFrom : (words : List ℕ) → (i count : ℕ) → ℕ
-notRunFrom words i zero = i
-notRunFrom words i (suc count) = elim (notRun (word_at words i 0)) [ true ↦ i | false ↦ notRunFrom words (suc i) count ]
+unfoldable pub not_run_from : (words : List ℕ) → (i count : ℕ) → ℕ
+not_run_from words i zero = i
+not_run_from words i (suc count) = elim (not_run (word_at words i 0)) [ true ↦ i | false ↦ not_run_from words (suc i) count ]
 
-abbrev pub outcomeOf : Ran → (buffer : List ℕ) → Outcome
-outcomeOf ran buffer = record { code = ran.code; at = ran.at; number = ran.number; reason = ran.reason; buffer = buffer }
+abbrev pub outcome_of : Ran → (buffer : List ℕ) → Outcome
+outcome_of ran buffer = record { code = ran.code; at = ran.at; number = ran.number; reason = ran.reason; buffer = buffer }

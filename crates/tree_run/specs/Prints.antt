@@ -7,42 +7,42 @@ use Rattle.convert.specs.Cut.{cut}
 use Rattle.tree_runs.specs.Ran.{Outcome}
 use Rattle.tree_runs.specs.Given.{run_of}
 use Rattle.tree_run.specs.declared.Ran.{Ran}
-use Rattle.tree_run.specs.Holds.{outcomeOf}
-use Rattle.tree_run.specs.Given.{answersFrom, fileRun}
+use Rattle.tree_run.specs.Holds.{outcome_of}
+use Rattle.tree_run.specs.Given.{answers_from, file_run}
 
-abbrev pub runNames : List ℕ
-runNames = ascii "code at number reason\n"
+abbrev pub run_names : List ℕ
+run_names = ascii "code at number reason\n"
 
-abbrev pub instructionNames : List ℕ
-instructionNames = ascii "instruction\n"
+abbrev pub instruction_names : List ℕ
+instruction_names = ascii "instruction\n"
 
 -- the rows performed, if the code says that the tree was run
-unfoldable pub performedLines : (code number : ℕ) → (buffer : List ℕ) → List ℕ
-performedLines zero number buffer = instructionNames ++ lines (cut 1 1 number buffer)
-performedLines (suc code) number buffer = []
+unfoldable pub performed_lines : (code number : ℕ) → (buffer : List ℕ) → List ℕ
+performed_lines zero number buffer = instruction_names ++ lines (cut 1 1 number buffer)
+performed_lines (suc code) number buffer = []
 
-unfoldable pub printedRun : Outcome → List ℕ
-printedRun o = runNames ++ (line (o.code ∷ o.at ∷ o.number ∷ o.reason ∷ []) ++ performedLines o.code o.number o.buffer)
+unfoldable pub printed_run : Outcome → List ℕ
+printed_run o = run_names ++ (line (o.code ∷ o.at ∷ o.number ∷ o.reason ∷ []) ++ performed_lines o.code o.number o.buffer)
 
 -- the program lends so many words: a run that performs more rows is refused 65
-abbrev pub lentRows : ℕ
-lentRows = 65536
+abbrev pub lent_rows : ℕ
+lent_rows = 65536
 
 -- two lines of names, four numbers, 65,536 lines of one
-abbrev pub mostPrinted : ℕ
-mostPrinted = 720974
+abbrev pub most_printed : ℕ
+most_printed = 720974
 
 -- what a file prints
-abbrev pub runText : (file : List ℕ) → List ℕ
-runText file = printedRun (fileRun file lentRows)
+abbrev pub run_text : (file : List ℕ) → List ℕ
+run_text file = printed_run (file_run file lent_rows)
 
 -- ---- the contracts of the functions below `run_file`
 
 -- where the answers begin
 pub record AnswersAt (file : List ℕ) (r : ℕ) : Type 0 where
-  pub is : r ≡ answersFrom 0 file
+  pub is : r ≡ answers_from 0 file
   pub within : r ≤ length file
 
 -- the run of a number of words; words past the places lent make the list too long
 abbrev pub RunsWords : (words : List ℕ) → (count : ℕ) → (answers : List ℕ) → (lent : ℕ) → Ran → (performed : List ℕ) → Type 0
-RunsWords words count answers lent r performed = (list : List ℕ) → Holds words count list → outcomeOf r performed ≡ run_of list answers lent
+RunsWords words count answers lent r performed = (list : List ℕ) → Holds words count list → outcome_of r performed ≡ run_of list answers lent

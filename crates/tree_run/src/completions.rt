@@ -1,8 +1,8 @@
 // ECMA-262's operations on completions, as the runner has them.
 ghost use Rattle.std.specs.Prelude.{◌≡◌};
-ghost use Rattle.table.specs.Table.{unlessNone};
-ghost use Rattle.definition.specs.Completion.{normal, labelSet, loopContinues, breakable, labelled};
-ghost use Rattle.tree_run.specs.Abstraction.{completionOf};
+ghost use Rattle.table.specs.Table.{unless_none};
+ghost use Rattle.definition.specs.Completion.{normal, label_set, loop_continues, breakable, labelled};
+ghost use Rattle.tree_run.specs.Abstraction.{completion_of};
 
 pub const NONE: u32 = 65535;
 
@@ -37,7 +37,7 @@ pub fn complete(kind: u32, target: u32, jump: u32) -> Completion
 
 // Whether a loop with this label goes on after its body completed so: ECMA-262, LoopContinues(completion, labelSet), step by step.
 pub fn loop_continues(completion: Completion, label: u32) -> bool
-    ensures { result ≡ loopContinues (completionOf completion) (labelSet (unlessNone label)) }
+    ensures { result ≡ loop_continues (completion_of completion) (label_set (unless_none label)) }
 {
     // 1. If completion is a normal completion, return true.
     if completion.kind == NORMAL {
@@ -57,7 +57,7 @@ pub fn loop_continues(completion: Completion, label: u32) -> bool
 
 // A loop or a SWITCH takes a break without label.
 pub fn breakable(c: Completion) -> Completion
-    ensures { completionOf result ≡ breakable (completionOf c) }
+    ensures { completion_of result ≡ breakable (completion_of c) }
 {
     if c.kind != BREAK {
         return c;
@@ -70,7 +70,7 @@ pub fn breakable(c: Completion) -> Completion
 
 // A statement takes a break with its label.
 pub fn labelled(label: u32, c: Completion) -> Completion
-    ensures { completionOf result ≡ labelled (unlessNone label) (completionOf c) }
+    ensures { completion_of result ≡ labelled (unless_none label) (completion_of c) }
 {
     if c.kind != BREAK {
         return c;

@@ -3,9 +3,9 @@ ghost use Rattle.std.specs.Prelude.{◌≡◌, ◌≤◌, length};
 ghost use Rattle.text.specs.Printed.{Wrote};
 ghost use Rattle.text.specs.Prints.{printing, WrittenText};
 ghost use Rattle.text.specs.declared.write.Written.TheVariants.{Bytes};
-ghost use Rattle.tree_run.specs.Holds.{outcomeOf};
-ghost use Rattle.tree_run.specs.Given.{opensAnswers, fileRun};
-ghost use Rattle.tree_run.specs.Prints.{printedRun, mostPrinted, runText, AnswersAt, RunsWords};
+ghost use Rattle.tree_run.specs.Holds.{outcome_of};
+ghost use Rattle.tree_run.specs.Given.{opens_answers, file_run};
+ghost use Rattle.tree_run.specs.Prints.{printed_run, most_printed, run_text, AnswersAt, RunsWords};
 
 use crate::{Ran, refuse, run_tree};
 use convert::written_tables::write_part;
@@ -37,7 +37,7 @@ fn lent_rows() -> [u32; 65536]
 
 // Whether the answers begin at this byte.
 fn opens_answers(at: usize, byte: u8) -> bool
-    ensures { result ≡ opensAnswers at byte }
+    ensures { result ≡ opens_answers at byte }
 {
     if at < 13 {
         return false;
@@ -72,7 +72,7 @@ fn run_words(words: &[u32], count: usize, answers: &[u32], performed: &mut [u32]
 
 // The run of a file: 51, 50, or what its rows and answers give.
 fn run_bytes(file: &[u8], performed: &mut [u32]) -> Ran
-    ensures { outcomeOf result performed.new ≡ fileRun file.now (length performed.old) }
+    ensures { outcome_of result performed.new ≡ file_run file.now (length performed.old) }
 {
     if file.len() > 262144 {
         return refuse(51, 0, performed);
@@ -106,7 +106,7 @@ fn write_lines(
 ) -> usize
     requires number_in_bounds { number ≤ length performed.now }
     requires number_bound { number ≤ 65536 }
-    ensures { Wrote out.old 0 (printedRun (record { code = code; at = at; number = number; reason = reason; buffer = performed.now })) out.new result }
+    ensures { Wrote out.old 0 (printed_run (record { code = code; at = at; number = number; reason = reason; buffer = performed.now })) out.new result }
 {
     let names = write_names(out, 0, b"code at number reason\n");
     let numbers = [code, at, number, reason];
@@ -127,7 +127,7 @@ fn write_run(
 ) -> Written
     requires number_in_bounds { number ≤ length performed.now }
     requires number_bound { number ≤ 65536 }
-    ensures { WrittenText mostPrinted (printedRun (record { code = code; at = at; number = number; reason = reason; buffer = performed.now }))
+    ensures { WrittenText most_printed (printed_run (record { code = code; at = at; number = number; reason = reason; buffer = performed.now }))
         (length out.old) result out.new }
 {
     let end = write_lines(out, code, at, number, reason, performed);
@@ -136,8 +136,8 @@ fn write_run(
 
 // Reads a file of rows and answers, runs the tree, with 65,536 rows lent, and writes what it gives. 720,974 bytes are enough.
 pub fn run_file(file: &[u8], out: &mut [u8]) -> Written
-    ensures out_after { record { answer = result; bytes = out.new } ≡ printing (length out.old) (runText file.now) }
-    ensures value { mostPrinted ≤ length out.old → result ≡ Bytes (length (runText file.now)) }
+    ensures out_after { record { answer = result; bytes = out.new } ≡ printing (length out.old) (run_text file.now) }
+    ensures value { most_printed ≤ length out.old → result ≡ Bytes (length (run_text file.now)) }
 {
     let mut performed = lent_rows();
     let ran = run_bytes(file, &mut performed);

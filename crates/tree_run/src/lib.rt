@@ -7,9 +7,9 @@ mod row_walk;
 mod turns;
 
 ghost use Rattle.std.specs.Prelude.{◌≡◌, length};
-ghost use Rattle.tree_runs.specs.Ran.{notRun, refusal};
+ghost use Rattle.tree_runs.specs.Ran.{not_run, refusal};
 ghost use Rattle.tree_runs.specs.Given.{run_of};
-ghost use Rattle.tree_run.specs.Holds.{notRunFrom, outcomeOf};
+ghost use Rattle.tree_run.specs.Holds.{not_run_from, outcome_of};
 
 use crate::cells::word;
 use crate::links::link_rows;
@@ -51,7 +51,7 @@ pub(crate) fn refused(code: u32, at: u32) -> Ran
 
 // LOGICAL, COND, OPTIONAL, FOROF, FORIN and TRY are not run.
 fn not_run(op: u32) -> bool
-    ensures { result ≡ notRun op }
+    ensures { result ≡ not_run op }
 {
     match op {
         6 => true,
@@ -66,7 +66,7 @@ fn not_run(op: u32) -> bool
 
 // The first row that is not run, or the number of rows.
 fn first_not_run(tree: &[u32], rows: u32) -> u32
-    ensures { result ≡ notRunFrom tree.now 0 rows }
+    ensures { result ≡ not_run_from tree.now 0 rows }
 {
     let mut row = 0;
     while row < rows {
@@ -80,7 +80,7 @@ fn first_not_run(tree: &[u32], rows: u32) -> u32
 
 // "A refused run leaves zeros and gives the number 0."
 pub fn refuse(code: u32, at: u32, performed: &mut [u32]) -> Ran
-    ensures { outcomeOf result performed.new ≡ refusal code at (length performed.old) }
+    ensures { outcome_of result performed.new ≡ refusal code at (length performed.old) }
 {
     clear(performed, 0);
     refused(code, at)
@@ -88,7 +88,7 @@ pub fn refuse(code: u32, at: u32, performed: &mut [u32]) -> Ran
 
 // Runs the tree whose rows are in the words, which may be any words. Writes the rows performed, then zeros. The tree and the answers stay as they are.
 pub fn run_tree(tree: &[u32], answers: &[u32], performed: &mut [u32]) -> Ran
-    ensures { outcomeOf result performed.new ≡ run_of tree.now answers.now (length performed.old) }
+    ensures { outcome_of result performed.new ≡ run_of tree.now answers.now (length performed.old) }
 {
     let read = read_tree(tree);
     if read.code != 0 {

@@ -1,7 +1,7 @@
 // What lies ahead of a row in the list: where it belongs, and what comes after it.
 ghost use Rattle.std.specs.Prelude.{◌≡◌, List, ℕ, ◌≤◌, length, get_or};
 ghost use Rattle.tree_check.specs.Found.{Begun};
-ghost use Rattle.tree_run.specs.Abstraction.{linksOf, RowsLinked};
+ghost use Rattle.tree_run.specs.Abstraction.{links_of, RowsLinked};
 
 // For each row three closing rows: of what it is a part of; of the part after it, or 0; and of its first part, or 0.
 #[derive(Drop)]
@@ -17,7 +17,7 @@ pub fn link_rows(begin: &[u32], rows: u32) -> Links
     requires begin_len { length begin.now ≡ 2048 }
     requires rows_bound { rows ≤ 2048 }
     requires by_index { (k : ℕ) → get_or begin.now k 0 ≤ k }
-    ensures { (words : List ℕ) → Begun words begin.now rows → RowsLinked words (linksOf begin.now result.parent result.next result.child) rows }
+    ensures { (words : List ℕ) → Begun words begin.now rows → RowsLinked words (links_of begin.now result.parent result.next result.child) rows }
 {
     let mut parent = [0u32; 2048];
     let mut next = [0u32; 2048];

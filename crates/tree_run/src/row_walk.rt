@@ -1,12 +1,12 @@
 // The walk: turn after turn until it halts. No stack and no recursion: where a row stands is in the links.
 ghost use Rattle.std.specs.Prelude.{◌≡◌, List, [], ◌++◌, true, false, ℕ, ◌-◌, ◌≤◌, drop};
-ghost use Rattle.definition.specs.TreeRun.{Completed, reasonOf};
+ghost use Rattle.definition.specs.TreeRun.{Completed, reason_of};
 ghost use Rattle.tree_check.specs.Found.{word_at, row_at};
-ghost use Rattle.tree_runs.specs.Links.{Links, plains, plainsFrom};
+ghost use Rattle.tree_runs.specs.Links.{Links, plains, plains_from};
 ghost use Rattle.tree_runs.specs.Machine as machine;
 ghost use Rattle.tree_runs.specs.Machine.{Completes, step, going, enter, state};
-ghost use Rattle.tree_runs.specs.Acts.{doThen, doAct};
-ghost use Rattle.tree_run.specs.Abstraction.{completionBy, place_of, linksOf, layoutAt, thenBy, chosenBy, actOf, haltedAt};
+ghost use Rattle.tree_runs.specs.Acts.{do_then, do_act};
+ghost use Rattle.tree_run.specs.Abstraction.{completion_by, place_of, links_of, layout_at, then_by, chosen_by, act_of, halted_at};
 ghost use Rattle.tree_run.specs.Holds.{Held, Took, back_by, Instructs, After, Ends, Walks, told};
 
 use crate::cells::{link, previous, word};
@@ -31,7 +31,7 @@ pub struct Onward {
 // A PLAIN performs its row.
 fn perform_row(tree: &[u32], row: u32, performed: &mut [u32], number: usize) -> Performed
     ensures { (reached : List ℕ) → Held tree.now performed.old number reached
-        → Took tree.now performed.new result (reached ++ plainsFrom (row_at tree.now) row 1) }
+        → Took tree.now performed.new result (reached ++ plains_from (row_at tree.now) row 1) }
 {
     if word(tree, row, 0) != 1 {
         return Performed {
@@ -106,7 +106,7 @@ fn case_at(begin: &[u32], last: u32, place: u32) -> u32
 // Where an answer leads.
 fn chosen(begin: &[u32], asks: u32, row: u32, yes: u32, no: u32, given: u32) -> Place
     ensures { (asks ≡ 0 → ⊥) → (parent next child : List ℕ) (place : machine.Place)
-        → place_of result ≡ chosenBy (thenBy asks (linksOf begin.now parent next child) row yes no place) given }
+        → place_of result ≡ chosen_by (then_by asks (links_of begin.now parent next child) row yes no place) given }
 {
     if 2 < asks {
         if given < no {
@@ -126,7 +126,7 @@ fn chosen(begin: &[u32], asks: u32, row: u32, yes: u32, no: u32, given: u32) -> 
 // Where a turn goes on, and how many answers were taken by then.
 fn go_on(begin: &[u32], answers: &[u32], asked: usize, turn: Turn) -> Onward
     ensures { (parent next child reached : List ℕ) → state (place_of result.place) reached (drop result.asked answers.now)
-        ≡ doThen (thenBy turn.asks (linksOf begin.now parent next child) turn.row turn.yes turn.no (place_of turn.place)) reached
+        ≡ do_then (then_by turn.asks (links_of begin.now parent next child) turn.row turn.yes turn.no (place_of turn.place)) reached
         (drop asked answers.now) }
 {
     if turn.asks == 0 {
@@ -153,7 +153,7 @@ fn go_on(begin: &[u32], answers: &[u32], asked: usize, turn: Turn) -> Onward
 
 // The walk halts at the root's end, and where the run stops.
 fn halted(place: Place, rows: u32) -> bool
-    ensures { result ≡ haltedAt place rows }
+    ensures { result ≡ halted_at place rows }
 {
     if place.down {
         return false;
@@ -174,9 +174,9 @@ fn decide(
     rows: u32,
     place: Place,
 ) -> Turn
-    ensures { haltedAt place rows ≡ false → (reached left : List ℕ)
-        → step (layoutAt tree.now (linksOf begin.now parent.now next.now child.now) rows) (state (place_of place) reached left)
-        ≡ going (doAct (actOf tree.now (linksOf begin.now parent.now next.now child.now) result) reached left) }
+    ensures { halted_at place rows ≡ false → (reached left : List ℕ)
+        → step (layout_at tree.now (links_of begin.now parent.now next.now child.now) rows) (state (place_of place) reached left)
+        ≡ going (do_act (act_of tree.now (links_of begin.now parent.now next.now child.now) result) reached left) }
 {
     if place.down {
         return down(tree, begin, child, place.row);
@@ -204,7 +204,7 @@ fn instructs(tree: &[u32], place: Place) -> bool
 // After an INSTR: on to the next statement of its BLOCK, or out of the BLOCK; elsewhere out of the INSTR alone.
 fn after_instruction(tree: &[u32], parent: &[u32], next: &[u32], rows: u32, row: u32) -> Place
     requires { word_at tree.now row 0 ≡ 4 }
-    ensures { (begin child : List ℕ) → After (layoutAt tree.now (linksOf begin parent.now next.now child) rows) row result }
+    ensures { (begin child : List ℕ) → After (layout_at tree.now (links_of begin parent.now next.now child) rows) row result }
 {
     if row as usize + 1 == rows as usize {
         return leave(row, complete(NORMAL, 0, 0));
@@ -222,7 +222,7 @@ fn after_instruction(tree: &[u32], parent: &[u32], next: &[u32], rows: u32, row:
 
 // The answer for the place where the walk halted.
 fn ended(place: Place, number: usize) -> Ran
-    ensures { place.down ≡ false → result ≡ told number (reasonOf (completionBy place.kind place.target place.jump)) }
+    ensures { place.down ≡ false → result ≡ told number (reason_of (completion_by place.kind place.target place.jump)) }
 {
     let kind = place.kind;
     match kind {
@@ -248,9 +248,9 @@ pub fn walk(
     rows: u32,
 ) -> Ran
     requires le_rows { 1 ≤ rows }
-    requires walks { Walks (layoutAt tree.now (linksOf begin.now parent.now next.now child.now) rows) rows answers.now }
+    requires walks { Walks (layout_at tree.now (links_of begin.now parent.now next.now child.now) rows) rows answers.now }
     ensures { (n : ℕ) (end : Completed)
-        → Completes (layoutAt tree.now (linksOf begin.now parent.now next.now child.now) rows) n
+        → Completes (layout_at tree.now (links_of begin.now parent.now next.now child.now) rows) n
         (state (enter (rows - 1)) [] answers.now) end
         → Ends tree.now performed.new result end }
 {

@@ -2,13 +2,13 @@
 ghost use Rattle.std.specs.Prelude.{◌≡◌, List, [], ◌++◌, ℕ, get_or};
 ghost use Rattle.std.proofs.Math.Option.{none, some};
 ghost use Rattle.definition.specs.Completion as definition;
-ghost use Rattle.definition.specs.Completion.{normal, break, continue, labelSet, loopContinues};
-ghost use Rattle.table.specs.Table.{unlessNone};
+ghost use Rattle.definition.specs.Completion.{normal, break, continue, label_set, loop_continues};
+ghost use Rattle.table.specs.Table.{unless_none};
 ghost use Rattle.tree_check.specs.Found.{word_at, row_at};
-ghost use Rattle.tree_runs.specs.Links.{Links, plains, casesBack, before, ifNode, first_of, kind_of, jumpAs, testEnd, forAgain, next_of};
-ghost use Rattle.tree_runs.specs.Machine.{enter, leave, orLeave, onIfNormal};
-ghost use Rattle.tree_runs.specs.Acts.{act, go, ask, pick, actDown, actUp, roundAgain};
-ghost use Rattle.tree_run.specs.Abstraction.{completionOf, place_of, linksOf, beginIn, nodeAt, nextIn, actOf};
+ghost use Rattle.tree_runs.specs.Links.{Links, plains, cases_back, before, if_node, first_of, kind_of, jump_as, test_end, for_again, next_of};
+ghost use Rattle.tree_runs.specs.Machine.{enter, leave, or_leave, on_if_normal};
+ghost use Rattle.tree_runs.specs.Acts.{act, go, ask, pick, act_down, act_up, round_again};
+ghost use Rattle.tree_run.specs.Abstraction.{completion_of, place_of, links_of, begin_in, node_at, next_in, act_of};
 
 use crate::cells::{link, previous, word};
 use crate::completions::{
@@ -62,7 +62,7 @@ pub fn enter(row: u32) -> Place
 }
 
 pub fn leave(row: u32, c: Completion) -> Place
-    ensures { place_of result ≡ leave row (completionOf c) }
+    ensures { place_of result ≡ leave row (completion_of c) }
 {
     Place {
         down: false,
@@ -74,13 +74,13 @@ pub fn leave(row: u32, c: Completion) -> Place
 }
 
 pub fn going(place: Place) -> Turn
-    ensures { (words : List ℕ) (t : Links) → actOf words t result ≡ act [] (go (place_of place)) }
+    ensures { (words : List ℕ) (t : Links) → act_of words t result ≡ act [] (go (place_of place)) }
 {
     performing(0, 0, place)
 }
 
 fn performing(from: u32, to: u32, place: Place) -> Turn
-    ensures { (words : List ℕ) (t : Links) → actOf words t result ≡ act (plains (row_at words) from to) (go (place_of place)) }
+    ensures { (words : List ℕ) (t : Links) → act_of words t result ≡ act (plains (row_at words) from to) (go (place_of place)) }
 {
     Turn {
         from: 0,
@@ -97,7 +97,7 @@ fn performing(from: u32, to: u32, place: Place) -> Turn
 
 fn asking(from: u32, to: u32, more: u32, end: u32, row: u32, yes: u32) -> Turn
     ensures { (words : List ℕ) (t : Links)
-        → actOf words t result ≡ act (plains (row_at words) from to ++ plains (row_at words) more end) (ask row (enter yes) (leave row normal)) }
+        → act_of words t result ≡ act (plains (row_at words) from to ++ plains (row_at words) more end) (ask row (enter yes) (leave row normal)) }
 {
     let place = enter(row);
     Turn {
@@ -114,7 +114,7 @@ fn asking(from: u32, to: u32, more: u32, end: u32, row: u32, yes: u32) -> Turn
 }
 
 fn choosing(row: u32, yes: u32, no: u32) -> Turn
-    ensures { (words : List ℕ) (t : Links) → actOf words t result ≡ act [] (ask row (enter yes) (enter no)) }
+    ensures { (words : List ℕ) (t : Links) → act_of words t result ≡ act [] (ask row (enter yes) (enter no)) }
 {
     let place = enter(row);
     Turn {
@@ -131,7 +131,7 @@ fn choosing(row: u32, yes: u32, no: u32) -> Turn
 }
 
 fn picking(row: u32, last: u32, count: u32) -> Turn
-    ensures { (words : List ℕ) (t : Links) → actOf words t result ≡ act [] (pick row (casesBack t count last [])) }
+    ensures { (words : List ℕ) (t : Links) → act_of words t result ≡ act [] (pick row (cases_back t count last [])) }
 {
     let place = enter(row);
     Turn {
@@ -149,8 +149,8 @@ fn picking(row: u32, last: u32, count: u32) -> Turn
 
 // An IF asks at once. Without an alternate the answer no leads out of it.
 fn down_if(tree: &[u32], begin: &[u32], k: u32) -> Turn
-    ensures { (t : Links) → actOf tree.now t result
-        ≡ actDown (ifNode (beginIn begin.now) k (word_at tree.now k 2) (unlessNone (word_at tree.now k 4))) k }
+    ensures { (t : Links) → act_of tree.now t result
+        ≡ act_down (if_node (begin_in begin.now) k (word_at tree.now k 2) (unless_none (word_at tree.now k 4))) k }
 {
     let last = previous(k);
     if word(tree, k, 2) == 0 {
@@ -160,8 +160,8 @@ fn down_if(tree: &[u32], begin: &[u32], k: u32) -> Turn
 }
 
 fn down_block(tree: &[u32], child: &[u32], k: u32) -> Turn
-    ensures { (t : Links) → actOf tree.now t result
-        ≡ act [] (go (orLeave (first_of (word_at tree.now k 1) (get_or child.now k 0)) k)) }
+    ensures { (t : Links) → act_of tree.now t result
+        ≡ act [] (go (or_leave (first_of (word_at tree.now k 1) (get_or child.now k 0)) k)) }
 {
     if word(tree, k, 1) == 0 {
         return going(leave(k, complete(NORMAL, 0, 0)));
@@ -171,7 +171,7 @@ fn down_block(tree: &[u32], child: &[u32], k: u32) -> Turn
 
 // An Implicit jump does nothing; an Unlabeled one has the empty target.
 fn jump(kind: u32, how: u32, target: u32, k: u32) -> Completion
-    ensures { (kind ≡ 1 → completionOf result ≡ jumpAs (kind_of how) (unlessNone target) k break) × (kind ≡ 2 → completionOf result ≡ jumpAs (kind_of how) (unlessNone target) k continue) }
+    ensures { (kind ≡ 1 → completion_of result ≡ jump_as (kind_of how) (unless_none target) k break) × (kind ≡ 2 → completion_of result ≡ jump_as (kind_of how) (unless_none target) k continue) }
 {
     if how == 0 {
         return complete(NORMAL, 0, 0);
@@ -184,7 +184,7 @@ fn jump(kind: u32, how: u32, target: u32, k: u32) -> Completion
 
 // The row after a FOR's test.
 fn test_end(begin: &[u32], k: u32, update: u32) -> u32
-    ensures { result ≡ testEnd (beginIn begin.now) k update }
+    ensures { result ≡ test_end (begin_in begin.now) k update }
 {
     let first = link(begin, previous(k));
     if update == 0 {
@@ -195,8 +195,8 @@ fn test_end(begin: &[u32], k: u32, update: u32) -> u32
 
 // Into row k.
 pub fn down(tree: &[u32], begin: &[u32], child: &[u32], k: u32) -> Turn
-    ensures { (parent next : List ℕ) → actOf tree.now (linksOf begin.now parent next child.now) result
-        ≡ actDown (nodeAt tree.now (linksOf begin.now parent next child.now) k) k }
+    ensures { (parent next : List ℕ) → act_of tree.now (links_of begin.now parent next child.now) result
+        ≡ act_down (node_at tree.now (links_of begin.now parent next child.now) k) k }
 {
     let op = word(tree, k, 0);
     let last = previous(k);
@@ -228,7 +228,7 @@ pub fn down(tree: &[u32], begin: &[u32], child: &[u32], k: u32) -> Turn
 }
 
 fn no_next() -> Next
-    ensures { nextIn result ≡ none }
+    ensures { next_in result ≡ none }
 {
     Next {
         found: false,
@@ -237,15 +237,15 @@ fn no_next() -> Next
 }
 
 fn next_at(row: u32) -> Next
-    ensures { nextIn result ≡ some row }
+    ensures { next_in result ≡ some row }
 {
     Next { found: true, row }
 }
 
 // The part after this one: the next statement of a BLOCK; of a SWITCH the next case in source order, which closes before this one begins.
 fn next_part(tree: &[u32], begin: &[u32], parent: &[u32], next: &[u32], part: u32) -> Next
-    ensures { (child : List ℕ) → nextIn result
-        ≡ next_of (linksOf begin.now parent.now next.now child) part (row_at tree.now part) }
+    ensures { (child : List ℕ) → next_in result
+        ≡ next_of (links_of begin.now parent.now next.now child) part (row_at tree.now part) }
 {
     if word(tree, part, 0) == 11 {
         let first = link(begin, part);
@@ -263,8 +263,8 @@ fn next_part(tree: &[u32], begin: &[u32], parent: &[u32], next: &[u32], part: u3
 
 // After a part that completed so: on to the next, or out of row k with the completion `out`.
 fn on_or_out(next: Next, k: u32, c: Completion, out: Completion) -> Turn
-    ensures { (words : List ℕ) (t : Links) (change : definition.Completion → definition.Completion) → completionOf out ≡ change (completionOf c)
-        → actOf words t result ≡ act [] (go (onIfNormal (completionOf c) (nextIn next) k change)) }
+    ensures { (words : List ℕ) (t : Links) (change : definition.Completion → definition.Completion) → completion_of out ≡ change (completion_of c)
+        → act_of words t result ≡ act [] (go (on_if_normal (completion_of c) (next_in next) k change)) }
 {
     if c.kind != NORMAL {
         return going(leave(k, out));
@@ -277,8 +277,8 @@ fn on_or_out(next: Next, k: u32, c: Completion, out: Completion) -> Turn
 
 // After the body of a loop: `again`, or out of it. The one place that asks whether a loop goes on.
 fn up_loop(label: u32, again: Turn, k: u32, c: Completion) -> Turn
-    ensures { (words : List ℕ) (t : Links) (rows : List ℕ) (body : ℕ) → actOf words t again ≡ act rows (ask k (enter body) (leave k normal))
-        → actOf words t result ≡ roundAgain (loopContinues (completionOf c) (labelSet (unlessNone label))) (unlessNone label) rows body k (completionOf c) }
+    ensures { (words : List ℕ) (t : Links) (rows : List ℕ) (body : ℕ) → act_of words t again ≡ act rows (ask k (enter body) (leave k normal))
+        → act_of words t result ≡ round_again (loop_continues (completion_of c) (label_set (unless_none label))) (unless_none label) rows body k (completion_of c) }
 {
     if loop_continues(c, label) {
         return again;
@@ -288,8 +288,8 @@ fn up_loop(label: u32, again: Turn, k: u32, c: Completion) -> Turn
 
 // The next round of a FOR: its update, its test, and then an answer.
 fn for_again(tree: &[u32], begin: &[u32], k: u32) -> Turn
-    ensures { (t : Links) → actOf tree.now t result
-        ≡ act (forAgain (row_at tree.now) (beginIn begin.now) k (word_at tree.now k 3)) (ask k (enter (before k)) (leave k normal)) }
+    ensures { (t : Links) → act_of tree.now t result
+        ≡ act (for_again (row_at tree.now) (begin_in begin.now) k (word_at tree.now k 3)) (ask k (enter (before k)) (leave k normal)) }
 {
     let last = previous(k);
     let end = test_end(begin, k, word(tree, k, 3));
@@ -312,10 +312,10 @@ pub fn up(
     part: u32,
     c: Completion,
 ) -> Turn
-    ensures { (child : List ℕ) → actOf tree.now (linksOf begin.now parent.now next.now child) result
-        ≡ actUp (nodeAt tree.now (linksOf begin.now parent.now next.now child) (get_or parent.now part 0))
+    ensures { (child : List ℕ) → act_of tree.now (links_of begin.now parent.now next.now child) result
+        ≡ act_up (node_at tree.now (links_of begin.now parent.now next.now child) (get_or parent.now part 0))
         (get_or parent.now part 0)
-        (next_of (linksOf begin.now parent.now next.now child) part (row_at tree.now part)) (completionOf c) }
+        (next_of (links_of begin.now parent.now next.now child) part (row_at tree.now part)) (completion_of c) }
 {
     let k = link(parent, part);
     let op = word(tree, k, 0);

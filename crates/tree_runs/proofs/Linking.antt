@@ -8,11 +8,11 @@ use mathlib.Core.Bool.{Bool, true, false}
 use lib.Dec.{eqb}
 use borrow.Author.Tests.{ne_eqb, eq-eqb, eqb-true, eqb-false}
 use Rattle.definition.specs.Tree.{Row}
-use Rattle.tree_runs.specs.Links.{Links, parts_of, Parts, no_part, a-part, Linked, put, withPart, with_row}
+use Rattle.tree_runs.specs.Links.{Links, parts_of, Parts, no_part, a_part, Linked, put, with_part, with_row}
 
-put-there : (f : ℕ → ℕ) (i v : ℕ) → put f i v i ≡ v
+put_there : (f : ℕ → ℕ) (i v : ℕ) → put f i v i ≡ v
 unfolding put
-put-there f i v = ap (λ (y : Bool). elim y [ true ↦ v | false ↦ f i ]) (eq-eqb i i refl)
+put_there f i v = ap (λ (y : Bool). elim y [ true ↦ v | false ↦ f i ]) (eq-eqb i i refl)
 
 put_other : (f : ℕ → ℕ) (i v j : ℕ) → (j ≡ i → ⊥) → put f i v j ≡ f j
 unfolding put
@@ -35,7 +35,7 @@ Low t = (j : ℕ) → t.begin j ≤ j
 
 parts_low : {t : Links} {j n cursor later : ℕ} → Low t → cursor ≤ j → Parts t j n cursor later → t.begin j ≤ cursor
 parts_low {t} {j} low h (no_part e q) = omega (arith, e)
-parts_low {t} {j} low h (a-part {m = m} p q r) =
+parts_low {t} {j} low h (a_part {m = m} p q r) =
     let a : t.begin m ≤ m = low m in
     let b : t.begin j ≤ t.begin m = parts_low low (omega (arith, a, h)) r in
     omega (arith, a, b)
@@ -47,29 +47,29 @@ pub record Agree (t u : Links) (j : ℕ) : Type 0 where
   begins : (m : ℕ) → u.begin m ≡ t.begin m
   child : u.child j ≡ t.child j
 
-parts-keep : {t u : Links} {j n cursor later : ℕ} → Low t → Agree t u j → cursor ≤ j → Parts t j n cursor later → Parts u j n cursor later
-parts-keep {t} {u} {j} low g h (no_part e q) = no_part (g.begins j ∙ e) (g.child ∙ q)
-parts-keep {t} {u} {j} {later = later} low g h (a-part {count = n} {m = m} p q r) =
+parts_keep : {t u : Links} {j n cursor later : ℕ} → Low t → Agree t u j → cursor ≤ j → Parts t j n cursor later → Parts u j n cursor later
+parts_keep {t} {u} {j} low g h (no_part e q) = no_part (g.begins j ∙ e) (g.child ∙ q)
+parts_keep {t} {u} {j} {later = later} low g h (a_part {count = n} {m = m} p q r) =
     let a : t.begin m ≤ m = low m in
     let c : t.begin m ≤ j = omega (arith, a, h) in
     let b : t.begin j ≤ t.begin m = parts_low low c r in
     let d : t.begin j ≤ m = omega (arith, a, b) in
-    a-part (g.parents m d h ∙ p) (g.nexts m d h ∙ q) (subst (λ (z : ℕ). Parts u j n z m) (sym (g.begins m)) (parts-keep low g c r))
+    a_part (g.parents m d h ∙ p) (g.nexts m d h ∙ q) (subst (λ (z : ℕ). Parts u j n z m) (sym (g.begins m)) (parts_keep low g c r))
 
-upper-parts : {t : Links} {k n cursor later : ℕ} → Upper t k n cursor later → (j : ℕ) → Parts t k j cursor later → Parts t k (n + j) k 0
-upper-parts {t} {k} none_yet j p = subst (λ (z : ℕ). Parts t k z k 0) (sym (zero-add j)) p
-upper-parts {t} {k} (one_more {n = n} q r l u) j p =
+upper_parts : {t : Links} {k n cursor later : ℕ} → Upper t k n cursor later → (j : ℕ) → Parts t k j cursor later → Parts t k (n + j) k 0
+upper_parts {t} {k} none_yet j p = subst (λ (z : ℕ). Parts t k z k 0) (sym (zero-add j)) p
+upper_parts {t} {k} (one_more {n = n} q r l u) j p =
     let e : n + suc j ≡ suc n + j = omega arith in
-    subst (λ (z : ℕ). Parts t k z k 0) e (upper-parts u (suc j) (a-part q r p))
+    subst (λ (z : ℕ). Parts t k z k 0) e (upper_parts u (suc j) (a_part q r p))
 
-upper-keep : {t u : Links} {k n cursor later : ℕ} → ((i : ℕ) → cursor ≤ i → i < k → u.parent i ≡ t.parent i) → ((i : ℕ) → cursor ≤ i → i < k → u.next i ≡ t.next i)
+upper_keep : {t u : Links} {k n cursor later : ℕ} → ((i : ℕ) → cursor ≤ i → i < k → u.parent i ≡ t.parent i) → ((i : ℕ) → cursor ≤ i → i < k → u.next i ≡ t.next i)
     → ((i : ℕ) → i < k → u.begin i ≡ t.begin i) → Upper t k n cursor later → Upper u k n cursor later
-upper-keep {t} {u} {k} a b c none_yet = none_yet
-upper-keep {t} {u} {k} a b c (one_more {n = n} {m = m} q r l w) =
+upper_keep {t} {u} {k} a b c none_yet = none_yet
+upper_keep {t} {u} {k} a b c (one_more {n = n} {m = m} q r l w) =
     let h : m < k = upper_in w in
     let e : u.begin m ≡ t.begin m = c m h in
     subst (λ (z : ℕ). Upper u k (suc n) z m) e
-    (one_more (a m l h ∙ q) (b m l h ∙ r) (omega (arith, e, l)) (upper-keep (λ i g. a i (omega (arith, g, l))) (λ i g. b i (omega (arith, g, l))) c w))
+    (one_more (a m l h ∙ q) (b m l h ∙ r) (omega (arith, e, l)) (upper_keep (λ i g. a i (omega (arith, g, l))) (λ i g. b i (omega (arith, g, l))) c w))
   where
     upper_in : {x y z : ℕ} → Upper t k x y z → y ≤ k
     upper_in none_yet = le_refl k
@@ -90,41 +90,41 @@ module _ (row_at : ℕ → Row) where
     upper : Upper t k n cursor later
     pub under : cursor ≤ k
 
-  pub linking-start : (t : Links) → ((j : ℕ) → t.begin j ≤ j) → Linking t 0
-  linking-start t low = record { low = low; linked = λ j h. absurd (omega (arith, h)); apart = λ c b j h. absurd (omega (arith, h)) }
+  pub linking_start : (t : Links) → ((j : ℕ) → t.begin j ≤ j) → Linking t 0
+  linking_start t low = record { low = low; linked = λ j h. absurd (omega (arith, h)); apart = λ c b j h. absurd (omega (arith, h)) }
 
-  pub taking-start : (t : Links) (k : ℕ) → Linking t k → Taking t k 0 k 0
-  taking-start t k h = record { base = h; at = here; upper = none_yet; under = le_refl k }
+  pub taking_start : (t : Links) (k : ℕ) → Linking t k → Taking t k 0 k 0
+  taking_start t k h = record { base = h; at = here; upper = none_yet; under = le_refl k }
 
-  boundary-part : (t : Links) (k m l x : ℕ) {c : ℕ} → Boundary (withPart t x m l) k c → Boundary t k c
-  boundary-part t k m l x here = here
-  boundary-part t k m l x (back b) = back (boundary-part t k m l x b)
+  boundary_part : (t : Links) (k m l x : ℕ) {c : ℕ} → Boundary (with_part t x m l) k c → Boundary t k c
+  boundary_part t k m l x here = here
+  boundary_part t k m l x (back b) = back (boundary_part t k m l x b)
 
   -- the next part
-  pub taking-part : (t : Links) (k n m later : ℕ) → Taking t k n (suc m) later → Taking (withPart t k m later) k (suc n) (t.begin m) m
-  taking-part t k n m later h =
+  pub taking_part : (t : Links) (k n m later : ℕ) → Taking t k n (suc m) later → Taking (with_part t k m later) k (suc n) (t.begin m) m
+  taking_part t k n m later h =
       let u : suc m ≤ k = h.under in
       let l : t.begin m ≤ m = h.base.low m in
       record {
         base = record {
           low = h.base.low;
-          linked = λ j g. parts-keep h.base.low (agree j g (h.base.apart (suc m) h.at j g)) (le_refl j) (h.base.linked j g);
-          apart = λ c b j g. h.base.apart c (boundary-part t k m later k b) j g;
+          linked = λ j g. parts_keep h.base.low (agree j g (h.base.apart (suc m) h.at j g)) (le_refl j) (h.base.linked j g);
+          apart = λ c b j g. h.base.apart c (boundary_part t k m later k b) j g;
         };
         at = back at';
-        upper = one_more (put-there t.parent m k) (put-there t.next m later) l
-            (upper-keep (λ i g q. put_other t.parent m k i (λ z. omega (arith, g, z))) (λ i g q. put_other t.next m later i (λ z. omega (arith, g, z))) (λ i q. refl) h.upper);
+        upper = one_more (put_there t.parent m k) (put_there t.next m later) l
+            (upper_keep (λ i g q. put_other t.parent m k i (λ z. omega (arith, g, z))) (λ i g q. put_other t.next m later i (λ z. omega (arith, g, z))) (λ i q. refl) h.upper);
         under = omega (arith, l, u);
       }
     where
-      up-boundary : {c : ℕ} → Boundary t k c → Boundary (withPart t k m later) k c
-      up-boundary here = here
-      up-boundary (back b) = back (up-boundary b)
+      up_boundary : {c : ℕ} → Boundary t k c → Boundary (with_part t k m later) k c
+      up_boundary here = here
+      up_boundary (back b) = back (up_boundary b)
 
-      at' : Boundary (withPart t k m later) k (suc m)
-      at' = up-boundary h.at
+      at' : Boundary (with_part t k m later) k (suc m)
+      at' = up_boundary h.at
 
-      agree : (j : ℕ) → j < k → ((suc m ≤ t.begin j) ⊎ (j < suc m)) → Agree t (withPart t k m later) j
+      agree : (j : ℕ) → j < k → ((suc m ≤ t.begin j) ⊎ (j < suc m)) → Agree t (with_part t k m later) j
       agree j g (inl p) = record {
         parents = λ i a b. put_other t.parent m k i (λ z. omega (arith, a, p, z));
         nexts = λ i a b. put_other t.next m later i (λ z. omega (arith, a, p, z));
@@ -139,16 +139,16 @@ module _ (row_at : ℕ → Row) where
       }
 
   -- the row has its parts
-  pub taking-end : (t : Links) (k n cursor later : ℕ) → Taking t k n cursor later → n ≡ parts_of (row_at k) → t.begin k ≡ cursor → Linking (with_row t k later) (suc k)
-  taking-end t k n cursor later h e z =
+  pub taking_end : (t : Links) (k n cursor later : ℕ) → Taking t k n cursor later → n ≡ parts_of (row_at k) → t.begin k ≡ cursor → Linking (with_row t k later) (suc k)
+  taking_end t k n cursor later h e z =
       record {
         low = h.base.low;
-        linked = λ j g. linked-at j g (at-or j g);
-        apart = λ c b j g. apart-at c (bounds b) j g (at-or j g);
+        linked = λ j g. linked_at j g (at_or j g);
+        apart = λ c b j g. apart_at c (bounds b) j g (at_or j g);
       }
     where
-      at-or : (j : ℕ) → j < suc k → (j ≡ k) ⊎ (j < k)
-      at-or j g = by (eqb j k) refl
+      at_or : (j : ℕ) → j < suc k → (j ≡ k) ⊎ (j < k)
+      at_or j g = by (eqb j k) refl
         where
           by : (y : Bool) → eqb j k ≡ y → (j ≡ k) ⊎ (j < k)
           by true q = inl (eqb-true j k q)
@@ -157,12 +157,12 @@ module _ (row_at : ℕ → Row) where
       agree : (j : ℕ) → j < k → Agree t (with_row t k later) j
       agree j g = record { parents = λ i a b. refl; nexts = λ i a b. refl; begins = λ i. refl; child = put_other t.child k later j (λ z. omega (arith, g, z)) }
 
-      linked-at : (j : ℕ) → j < suc k → ((j ≡ k) ⊎ (j < k)) → Linked row_at (with_row t k later) j
-      linked-at j g (inr q) = parts-keep h.base.low (agree j q) (le_refl j) (h.base.linked j q)
-      linked-at j g (inl q) =
+      linked_at : (j : ℕ) → j < suc k → ((j ≡ k) ⊎ (j < k)) → Linked row_at (with_row t k later) j
+      linked_at j g (inr q) = parts_keep h.base.low (agree j q) (le_refl j) (h.base.linked j q)
+      linked_at j g (inl q) =
           subst (λ (z : ℕ). Linked row_at (with_row t k later) z) (sym q)
           (subst (λ (z : ℕ). Parts (with_row t k later) k z k 0) (sums ∙ e)
-          (upper-parts (upper-keep (λ i a b. refl) (λ i a b. refl) (λ i a. refl) h.upper) 0 (no_part z (put-there t.child k later))))
+          (upper_parts (upper_keep (λ i a b. refl) (λ i a b. refl) (λ i a. refl) h.upper) 0 (no_part z (put_there t.child k later))))
         where
           sums : n + 0 ≡ n
           sums = omega arith
@@ -181,10 +181,10 @@ module _ (row_at : ℕ → Row) where
               let l : t.begin m ≤ m = h.base.low m in
               inr (omega (arith, l, g), back q.1)
 
-      apart-at : (c : ℕ) → ((c ≡ suc k) ⊎ ((c ≤ cursor) × Boundary t k c)) → (j : ℕ) → j < suc k → ((j ≡ k) ⊎ (j < k)) → (c ≤ t.begin j) ⊎ (j < c)
-      apart-at c (inl q) j g w = inr (omega (arith, q, g))
-      apart-at c (inr q) j g (inl w) =
+      apart_at : (c : ℕ) → ((c ≡ suc k) ⊎ ((c ≤ cursor) × Boundary t k c)) → (j : ℕ) → j < suc k → ((j ≡ k) ⊎ (j < k)) → (c ≤ t.begin j) ⊎ (j < c)
+      apart_at c (inl q) j g w = inr (omega (arith, q, g))
+      apart_at c (inr q) j g (inl w) =
           let s : t.begin j ≡ cursor = ap t.begin w ∙ z in
           let a : c ≤ cursor = q.0 in
           inl (omega (arith, a, s))
-      apart-at c (inr q) j g (inr w) = h.base.apart c q.1 j w
+      apart_at c (inr q) j g (inr w) = h.base.apart c q.1 j w

@@ -6,11 +6,11 @@ use mathlib.Core.Option.{Option, none, some}
 use mathlib.Core.Bool.{true, false}
 use Rattle.definition.specs.Tree.{Kind, implicit, labeled, unlabeled, Value, PLAIN, LOAD, OPTIONAL, Statement, INSTR, IF, SWITCH, DOWHILE, WHILE, FOR, LABEL}
 use Rattle.definition.specs.Tree.{RETURN, BREAK, CONTINUE, Statements, done, ◌▸◌, Cases, no_cases, CASE}
-use Rattle.definition.specs.Completion.{loopContinues, breakable, labelled}
-use Rattle.definition.specs.TreeRun.{completed, completing, prefix, thenOn, then, choose, afterBody, whileRounds, whileLoop, forLoop, doWhileLoop, loop}
-use Rattle.definition.specs.TreeRun.{switchEnds, entry_at, choosePlace, jumpCompletion, runStatement, runStatements, reasonOf, treeRun}
-use Rattle.tree_runs.specs.Numbered.{numberedStatement}
-use Rattle.tree_runs.specs.Ran.{Outcome, refusal, firstNotRun, performedAll, ended, given, afterSorts, ran}
+use Rattle.definition.specs.Completion.{loop_continues, breakable, labelled}
+use Rattle.definition.specs.TreeRun.{completed, completing, prefix, then_on, then, choose, after_body, while_rounds, while_loop, for_loop, do_while_loop, loop}
+use Rattle.definition.specs.TreeRun.{switch_ends, entry_at, choose_place, jump_completion, run_statement, run_statements, reason_of, tree_run}
+use Rattle.tree_runs.specs.Numbered.{numbered_statement}
+use Rattle.tree_runs.specs.Ran.{Outcome, refusal, first_not_run, performed_all, ended, given, after_sorts, ran}
 
 abbrev Given : Type 0
 Given = List ℕ
@@ -35,8 +35,8 @@ picks = SWITCH 0 0 none (CASE 0 (plain 12 ▸ done) (CASE 0 (plain 11 ▸ bare �
 abbrev steps : Statements
 steps = FOR 0 (some 5) (PLAIN 90) (PLAIN 91) (some (PLAIN 92)) (plain 1 ▸ again ▸ done) ▸ done
 
-abbrev asksLast : Statements
-asksLast = DOWHILE 0 (some 5) (plain 1 ▸ again ▸ plain 9 ▸ done) (PLAIN 2) ▸ done
+abbrev asks_last : Statements
+asks_last = DOWHILE 0 (some 5) (plain 1 ▸ again ▸ plain 9 ▸ done) (PLAIN 2) ▸ done
 
 abbrev passes : Statements
 passes = WHILE 0 (some 5) (LOAD 0) (LABEL 0 (some 5) (CONTINUE 5 0 labeled 0 ▸ done) ▸ plain 7 ▸ done) ▸ done
@@ -63,8 +63,8 @@ samples :
     × (shown (ran steps [] 2) ≡ 0 ∷ 0 ∷ 2 ∷ 4 ∷ 90 ∷ 91 ∷ [])
     × (shown (ran steps (1 ∷ 0 ∷ []) 3) ≡ 65 ∷ 2 ∷ 0 ∷ 0 ∷ 0 ∷ 0 ∷ 0 ∷ [])
     × (shown (ran steps (1 ∷ 0 ∷ []) 4) ≡ 65 ∷ 1 ∷ 0 ∷ 0 ∷ 0 ∷ 0 ∷ 0 ∷ 0 ∷ [])
-    × (shown (ran asksLast [] 2) ≡ 0 ∷ 0 ∷ 2 ∷ 4 ∷ 1 ∷ 2 ∷ [])
-    × (shown (ran asksLast (1 ∷ 0 ∷ []) 4) ≡ 0 ∷ 0 ∷ 4 ∷ 3 ∷ 1 ∷ 2 ∷ 1 ∷ 2 ∷ [])
+    × (shown (ran asks_last [] 2) ≡ 0 ∷ 0 ∷ 2 ∷ 4 ∷ 1 ∷ 2 ∷ [])
+    × (shown (ran asks_last (1 ∷ 0 ∷ []) 4) ≡ 0 ∷ 0 ∷ 4 ∷ 3 ∷ 1 ∷ 2 ∷ 1 ∷ 2 ∷ [])
     × (shown (ran passes (1 ∷ 1 ∷ 0 ∷ []) 0) ≡ 0 ∷ 0 ∷ 0 ∷ 3 ∷ [])
     × (shown (ran lost [] 1) ≡ 63 ∷ 2 ∷ 0 ∷ 0 ∷ 0 ∷ [])
     × (shown (ran lost [] 0) ≡ 65 ∷ 0 ∷ 0 ∷ 0 ∷ [])
@@ -72,6 +72,6 @@ samples :
     × (shown (ran early [] 0) ≡ 0 ∷ 0 ∷ 0 ∷ 1 ∷ [])
     × (shown (ran foreign [] 0) ≡ 64 ∷ 2 ∷ 0 ∷ 0 ∷ [])
     × (shown (ran done [] 0) ≡ 0 ∷ 0 ∷ 0 ∷ 3 ∷ [])
-unfolding ran afterSorts given firstNotRun ended performedAll refusal loopContinues breakable labelled completed completing prefix thenOn then choose afterBody
-    whileRounds whileLoop forLoop doWhileLoop loop switchEnds entry_at choosePlace jumpCompletion runStatement reasonOf treeRun numberedStatement
+unfolding ran after_sorts given first_not_run ended performed_all refusal loop_continues breakable labelled completed completing prefix then_on then choose after_body
+    while_rounds while_loop for_loop do_while_loop loop switch_ends entry_at choose_place jump_completion run_statement reason_of tree_run numbered_statement
 samples = (refl, refl, refl, refl, refl, refl, refl, refl, refl, refl, refl, refl, refl, refl, refl, refl, refl, refl)

@@ -2,11 +2,11 @@
 -- the row before that part's first; so `begin` gives the parts from the last back, and only what lies ahead (parent, next, child) has to be kept as well.
 use Rattle.std.specs.Prelude.{◌≡◌, ℕ, zero, suc, ◌-◌, List, [], ◌∷◌, ◌++◌, Bool, true, false, get_or, eqb}
 use Rattle.std.proofs.Math.Option.{Option, none, some}
-use Rattle.table.specs.Table.{unlessNone}
+use Rattle.table.specs.Table.{unless_none}
 use Rattle.definition.specs.Tree.{Kind, implicit, labeled, unlabeled, Row, row}
 use Rattle.definition.specs.Run.{returned, threw, not_plain}
 use Rattle.definition.specs.Completion.{Completion, normal, break, continue, stop}
-use Rattle.tree_runs.specs.Layout.{Node, an-instr, a_block, an-if, a_case, a-switch, a-loop, a-label, a-scope, a-leaf, Layout}
+use Rattle.tree_runs.specs.Layout.{Node, an_instr, a_block, an_if, a_case, a_switch, a_loop, a_label, a_scope, a_leaf, Layout}
 
 pub record Links : Type 0 where
   -- the first row of the part that closes here
@@ -28,17 +28,17 @@ flagged zero count = count
 flagged (suc n) count = suc count
 
 -- how many parts a row takes, by its op
-abbrev pub partsByOp : (a b c : ℕ) → List ℕ
-partsByOp a b c =
+abbrev pub parts_by_op : (a b c : ℕ) → List ℕ
+parts_by_op a b c =
     0 ∷ 0 ∷ 0 ∷ 0 ∷ 1 ∷ suc a ∷ 2 ∷ 3 ∷ 1 ∷ a ∷ flagged b 1 ∷ 1 ∷ b ∷ 2 ∷ 2 ∷ flagged c 3 ∷ 3 ∷ 2 ∷ 1 ∷ 2 ∷ 1 ∷ 1 ∷ 0 ∷ 0 ∷ 0 ∷ 0 ∷ []
 
 unfoldable pub parts_of : Row → ℕ
-parts_of (row op a b c d e) = get_or (partsByOp a b c) op 0
+parts_of (row op a b c d e) = get_or (parts_by_op a b c) op 0
 
 -- `count` parts of row k, from the last back: the last of them closes just before the row `cursor`, and `later` comes after it
 pub data Parts (t : Links) (k : ℕ) : (count cursor later : ℕ) → Type 0 where
   no_part : {cursor later : ℕ} → t.begin k ≡ cursor → t.child k ≡ later → Parts t k 0 cursor later
-  a-part : {count m later : ℕ} → t.parent m ≡ k → t.next m ≡ later → Parts t k count (t.begin m) m → Parts t k (suc count) (suc m) later
+  a_part : {count m later : ℕ} → t.parent m ≡ k → t.next m ≡ later → Parts t k count (t.begin m) m → Parts t k (suc count) (suc m) later
 
 -- the links of a row's parts
 abbrev pub Linked : (row_at : ℕ → Row) → Links → ℕ → Type 0
@@ -50,13 +50,13 @@ abbrev pub is_plain : Row → Bool
 is_plain (row op a b c d e) = eqb op 1
 
 -- the PLAINs among the `count` rows from f on
-unfoldable pub plainsFrom : (row_at : ℕ → Row) → (f count : ℕ) → List ℕ
-plainsFrom row_at f zero = []
-plainsFrom row_at f (suc count) = elim (is_plain (row_at f)) [ true ↦ f ∷ plainsFrom row_at (suc f) count | false ↦ plainsFrom row_at (suc f) count ]
+unfoldable pub plains_from : (row_at : ℕ → Row) → (f count : ℕ) → List ℕ
+plains_from row_at f zero = []
+plains_from row_at f (suc count) = elim (is_plain (row_at f)) [ true ↦ f ∷ plains_from row_at (suc f) count | false ↦ plains_from row_at (suc f) count ]
 
 -- those from f on and before e
 abbrev pub plains : (row_at : ℕ → Row) → (f e : ℕ) → List ℕ
-plains row_at f e = plainsFrom row_at f (e - f)
+plains row_at f e = plains_from row_at f (e - f)
 
 abbrev pub first_of : (count child : ℕ) → Option ℕ
 first_of zero child = none
@@ -67,80 +67,80 @@ kind_of zero = implicit
 kind_of (suc zero) = labeled
 kind_of (suc (suc n)) = unlabeled
 
--- `jumpCompletion` of a target that may be none
-abbrev pub jumpAs : Kind → (target : Option ℕ) → (id : ℕ) → (Option ℕ → ℕ → Completion) → Completion
-jumpAs implicit target id jump = normal
-jumpAs unlabeled target id jump = jump none id
-jumpAs labeled target id jump = jump target id
+-- `jump_completion` of a target that may be none
+abbrev pub jump_as : Kind → (target : Option ℕ) → (id : ℕ) → (Option ℕ → ℕ → Completion) → Completion
+jump_as implicit target id jump = normal
+jump_as unlabeled target id jump = jump none id
+jump_as labeled target id jump = jump target id
 
 -- the cases of a switch, in source order: from the last row back
-abbrev pub casesBack : Links → (count m : ℕ) → (later : List ℕ) → List ℕ
-casesBack t zero m later = later
-casesBack t (suc count) m later = m ∷ casesBack t count (before (t.begin m)) later
+abbrev pub cases_back : Links → (count m : ℕ) → (later : List ℕ) → List ℕ
+cases_back t zero m later = later
+cases_back t (suc count) m later = m ∷ cases_back t count (before (t.begin m)) later
 
-abbrev pub ifNode : (begin : ℕ → ℕ) → (k present : ℕ) → Option ℕ → Node
-ifNode begin k zero label = an-if label (before k) none
-ifNode begin k (suc n) label = an-if label (before (begin (before k))) (some (before k))
+abbrev pub if_node : (begin : ℕ → ℕ) → (k present : ℕ) → Option ℕ → Node
+if_node begin k zero label = an_if label (before k) none
+if_node begin k (suc n) label = an_if label (before (begin (before k))) (some (before k))
 
 -- of a FOR: the row after the test, and the test's first row
-abbrev pub testEnd : (begin : ℕ → ℕ) → (k present : ℕ) → ℕ
-testEnd begin k zero = begin (before k)
-testEnd begin k (suc n) = begin (before (begin (before k)))
+abbrev pub test_end : (begin : ℕ → ℕ) → (k present : ℕ) → ℕ
+test_end begin k zero = begin (before k)
+test_end begin k (suc n) = begin (before (begin (before k)))
 
 -- its update, and its test again
-abbrev pub forAgain : (ℕ → Row) → (begin : ℕ → ℕ) → (k present : ℕ) → List ℕ
-forAgain row_at begin k present = plains row_at (testEnd begin k present) (begin (before k)) ++ plains row_at (begin (before (testEnd begin k present))) (testEnd begin k present)
+abbrev pub for_again : (ℕ → Row) → (begin : ℕ → ℕ) → (k present : ℕ) → List ℕ
+for_again row_at begin k present = plains row_at (test_end begin k present) (begin (before k)) ++ plains row_at (begin (before (test_end begin k present))) (test_end begin k present)
 
-abbrev pub forNode : (ℕ → Row) → Links → (k present : ℕ) → Option ℕ → Node
-forNode row_at t k present label =
-    a-loop label (some (plains row_at (t.begin k) (testEnd t.begin k present))) (forAgain row_at t.begin k present) (before k)
+abbrev pub for_node : (ℕ → Row) → Links → (k present : ℕ) → Option ℕ → Node
+for_node row_at t k present label =
+    a_loop label (some (plains row_at (t.begin k) (test_end t.begin k present))) (for_again row_at t.begin k present) (before k)
 
-abbrev pub nodesByOp : (ℕ → Row) → Links → (k a b c d : ℕ) → List Node
-nodesByOp row_at t k a b c d =
-    a-leaf (stop not_plain)
-    ∷ a-leaf (stop not_plain)
-    ∷ a-leaf (stop not_plain)
-    ∷ a-leaf (stop not_plain)
-    ∷ an-instr (plains row_at (t.begin k) k)
-    ∷ a-leaf (stop not_plain)
-    ∷ a-leaf (stop not_plain)
-    ∷ a-leaf (stop not_plain)
-    ∷ a-leaf (stop not_plain)
+abbrev pub nodes_by_op : (ℕ → Row) → Links → (k a b c d : ℕ) → List Node
+nodes_by_op row_at t k a b c d =
+    a_leaf (stop not_plain)
+    ∷ a_leaf (stop not_plain)
+    ∷ a_leaf (stop not_plain)
+    ∷ a_leaf (stop not_plain)
+    ∷ an_instr (plains row_at (t.begin k) k)
+    ∷ a_leaf (stop not_plain)
+    ∷ a_leaf (stop not_plain)
+    ∷ a_leaf (stop not_plain)
+    ∷ a_leaf (stop not_plain)
     ∷ a_block (first_of a (t.child k))
-    ∷ ifNode t.begin k b (unlessNone d)
+    ∷ if_node t.begin k b (unless_none d)
     ∷ a_case (before k)
-    ∷ a-switch (unlessNone d) (casesBack t b (before k) [])
-    ∷ a-loop (unlessNone b) none (plains row_at (t.begin (before k)) k) (before (t.begin (before k)))
-    ∷ a-loop (unlessNone b) (some (plains row_at (t.begin k) (t.begin (before k)))) (plains row_at (t.begin k) (t.begin (before k))) (before k)
-    ∷ forNode row_at t k c (unlessNone b)
-    ∷ a-leaf (stop not_plain)
-    ∷ a-leaf (stop not_plain)
-    ∷ a-label (unlessNone b) (before k)
-    ∷ a-leaf (stop not_plain)
-    ∷ a-scope (before k)
-    ∷ a-scope (before k)
-    ∷ a-leaf (stop (returned a b))
-    ∷ a-leaf (stop (threw a b))
-    ∷ a-leaf (jumpAs (kind_of c) (unlessNone a) k break)
-    ∷ a-leaf (jumpAs (kind_of c) (unlessNone a) k continue)
+    ∷ a_switch (unless_none d) (cases_back t b (before k) [])
+    ∷ a_loop (unless_none b) none (plains row_at (t.begin (before k)) k) (before (t.begin (before k)))
+    ∷ a_loop (unless_none b) (some (plains row_at (t.begin k) (t.begin (before k)))) (plains row_at (t.begin k) (t.begin (before k))) (before k)
+    ∷ for_node row_at t k c (unless_none b)
+    ∷ a_leaf (stop not_plain)
+    ∷ a_leaf (stop not_plain)
+    ∷ a_label (unless_none b) (before k)
+    ∷ a_leaf (stop not_plain)
+    ∷ a_scope (before k)
+    ∷ a_scope (before k)
+    ∷ a_leaf (stop (returned a b))
+    ∷ a_leaf (stop (threw a b))
+    ∷ a_leaf (jump_as (kind_of c) (unless_none a) k break)
+    ∷ a_leaf (jump_as (kind_of c) (unless_none a) k continue)
     ∷ []
 
 unfoldable pub node_of : (ℕ → Row) → Links → ℕ → Row → Node
-node_of row_at t k (row op a b c d e) = get_or (nodesByOp row_at t k a b c d) op (a-leaf (stop not_plain))
+node_of row_at t k (row op a b c d e) = get_or (nodes_by_op row_at t k a b c d) op (a_leaf (stop not_plain))
 
-abbrev pub unlessZero : ℕ → Option ℕ
-unlessZero zero = none
-unlessZero (suc n) = some (suc n)
+abbrev pub unless_zero : ℕ → Option ℕ
+unless_zero zero = none
+unless_zero (suc n) = some (suc n)
 
 -- the next case in source order closes before this one begins
-abbrev pub caseBefore : (begin outer : ℕ) → Option ℕ
-caseBefore begin outer = elim (eqb begin outer) [ true ↦ none | false ↦ some (before begin) ]
+abbrev pub case_before : (begin outer : ℕ) → Option ℕ
+case_before begin outer = elim (eqb begin outer) [ true ↦ none | false ↦ some (before begin) ]
 
-abbrev pub isCase : Row → Bool
-isCase (row op a b c d e) = eqb op 11
+abbrev pub is_case : Row → Bool
+is_case (row op a b c d e) = eqb op 11
 
 unfoldable pub next_of : Links → ℕ → Row → Option ℕ
-next_of t k r = elim (isCase r) [ true ↦ caseBefore (t.begin k) (t.begin (t.parent k)) | false ↦ unlessZero (t.next k) ]
+next_of t k r = elim (is_case r) [ true ↦ case_before (t.begin k) (t.begin (t.parent k)) | false ↦ unless_zero (t.next k) ]
 
 unfoldable pub parent_of : Links → (number k : ℕ) → Option ℕ
 parent_of t number k = elim (eqb (suc k) number) [ true ↦ none | false ↦ some (t.parent k) ]
@@ -155,8 +155,8 @@ unfoldable pub put : (ℕ → ℕ) → (i v : ℕ) → ℕ → ℕ
 put f i v j = elim (eqb j i) [ true ↦ v | false ↦ f j ]
 
 -- m is a part of row k, and `later` comes after it
-abbrev pub withPart : Links → (k m later : ℕ) → Links
-withPart t k m later = record { begin = t.begin; parent = put t.parent m k; next = put t.next m later; child = t.child }
+abbrev pub with_part : Links → (k m later : ℕ) → Links
+with_part t k m later = record { begin = t.begin; parent = put t.parent m k; next = put t.next m later; child = t.child }
 
 -- `later` is the first part of row k
 abbrev pub with_row : Links → (k later : ℕ) → Links

@@ -1,10 +1,10 @@
 -- The run as a walk over closing rows: down into parts, and up with a completion. It keeps no stack: where a row stands is in the layout.
 use Rattle.std.specs.Prelude.{ℕ, zero, suc, ◌≡◌, List, [], ◌∷◌, ◌++◌, true, false}
 use Rattle.std.proofs.Math.Option.{Option, none, some}
-use Rattle.definition.specs.Run.{Answers, no-answer-left}
-use Rattle.definition.specs.Completion.{Completion, normal, break, continue, stop, labelSet, loopContinues, breakable, labelled}
+use Rattle.definition.specs.Run.{Answers, no_answer_left}
+use Rattle.definition.specs.Completion.{Completion, normal, break, continue, stop, label_set, loop_continues, breakable, labelled}
 use Rattle.definition.specs.TreeRun.{Completed, completed}
-use Rattle.tree_runs.specs.Layout.{Node, an-instr, a_block, an-if, a_case, a-switch, a-loop, a-label, a-scope, a-leaf, Layout}
+use Rattle.tree_runs.specs.Layout.{Node, an_instr, a_block, an_if, a_case, a_switch, a_loop, a_label, a_scope, a_leaf, Layout}
 
 pub data Place : Type 0 where
   enter : (k : ℕ) → Place
@@ -18,59 +18,59 @@ pub data Turn : Type 0 where
   halt : Completed → Turn
 
 -- on into a part, or out of k
-abbrev pub orLeave : Option ℕ → (k : ℕ) → Place
-orLeave none k = leave k normal
-orLeave (some m) k = enter m
+abbrev pub or_leave : Option ℕ → (k : ℕ) → Place
+or_leave none k = leave k normal
+or_leave (some m) k = enter m
 
 -- by one answer: the part for yes; for no another, or out of k
-unfoldable pub asked : (k ifYes : ℕ) → (ifNo : Option ℕ) → List ℕ → Answers → State
-asked k ifYes ifNo performed [] = state (leave k (stop no-answer-left)) performed []
-asked k ifYes ifNo performed (zero ∷ left) = state (orLeave ifNo k) performed left
-asked k ifYes ifNo performed (suc n ∷ left) = state (enter ifYes) performed left
+unfoldable pub asked : (k if_yes : ℕ) → (if_no : Option ℕ) → List ℕ → Answers → State
+asked k if_yes if_no performed [] = state (leave k (stop no_answer_left)) performed []
+asked k if_yes if_no performed (zero ∷ left) = state (or_leave if_no k) performed left
+asked k if_yes if_no performed (suc n ∷ left) = state (enter if_yes) performed left
 
 abbrev pub case_at : List ℕ → ℕ → Option ℕ
 case_at [] place = none
 case_at (k ∷ ks) zero = some k
 case_at (k ∷ ks) (suc place) = case_at ks place
 
-unfoldable pub askedPlace : (k : ℕ) → (cases : List ℕ) → List ℕ → Answers → State
-askedPlace k cases performed [] = state (leave k (stop no-answer-left)) performed []
-askedPlace k cases performed (place ∷ left) = state (orLeave (case_at cases place) k) performed left
+unfoldable pub asked_place : (k : ℕ) → (cases : List ℕ) → List ℕ → Answers → State
+asked_place k cases performed [] = state (leave k (stop no_answer_left)) performed []
+asked_place k cases performed (place ∷ left) = state (or_leave (case_at cases place) k) performed left
 
 unfoldable pub down : Node → (k : ℕ) → List ℕ → Answers → State
-down (an-instr rows) k performed left = state (leave k normal) (performed ++ rows) left
-down (a_block first) k performed left = state (orLeave first k) performed left
-down (an-if label consequent alternate) k performed left = asked k consequent alternate performed left
+down (an_instr rows) k performed left = state (leave k normal) (performed ++ rows) left
+down (a_block first) k performed left = state (or_leave first k) performed left
+down (an_if label consequent alternate) k performed left = asked k consequent alternate performed left
 down (a_case body) k performed left = state (enter body) performed left
-down (a-switch label cases) k performed left = askedPlace k cases performed left
-down (a-loop label none again body) k performed left = state (enter body) performed left
-down (a-loop label (some before) again body) k performed left = asked k body none (performed ++ before) left
-down (a-label label body) k performed left = state (enter body) performed left
-down (a-scope body) k performed left = state (enter body) performed left
-down (a-leaf completion) k performed left = state (leave k completion) performed left
+down (a_switch label cases) k performed left = asked_place k cases performed left
+down (a_loop label none again body) k performed left = state (enter body) performed left
+down (a_loop label (some before) again body) k performed left = asked k body none (performed ++ before) left
+down (a_label label body) k performed left = state (enter body) performed left
+down (a_scope body) k performed left = state (enter body) performed left
+down (a_leaf completion) k performed left = state (leave k completion) performed left
 
 -- after a part that completed so: on to the next, or out of p
-abbrev pub onIfNormal : Completion → (next : Option ℕ) → (p : ℕ) → (Completion → Completion) → Place
-onIfNormal normal next p change = orLeave next p
-onIfNormal (break target id) next p change = leave p (change (break target id))
-onIfNormal (continue target id) next p change = leave p (change (continue target id))
-onIfNormal (stop reason) next p change = leave p (change (stop reason))
+abbrev pub on_if_normal : Completion → (next : Option ℕ) → (p : ℕ) → (Completion → Completion) → Place
+on_if_normal normal next p change = or_leave next p
+on_if_normal (break target id) next p change = leave p (change (break target id))
+on_if_normal (continue target id) next p change = leave p (change (continue target id))
+on_if_normal (stop reason) next p change = leave p (change (stop reason))
 
 -- part k of the row p, seen as the node, completed so
 unfoldable pub up : Node → (p : ℕ) → (next : Option ℕ) → Completion → List ℕ → Answers → State
-up (an-instr rows) p next c performed left = state (leave p c) performed left
-up (a_block first) p next c performed left = state (onIfNormal c next p (λ z. z)) performed left
-up (an-if label consequent alternate) p next c performed left = state (leave p (labelled label c)) performed left
+up (an_instr rows) p next c performed left = state (leave p c) performed left
+up (a_block first) p next c performed left = state (on_if_normal c next p (λ z. z)) performed left
+up (an_if label consequent alternate) p next c performed left = state (leave p (labelled label c)) performed left
 up (a_case body) p next c performed left = state (leave p c) performed left
-up (a-switch label cases) p next c performed left = state (onIfNormal c next p (λ z. labelled label (breakable z))) performed left
-up (a-loop label before again body) p next c performed left =
-    elim (loopContinues c (labelSet label)) [
+up (a_switch label cases) p next c performed left = state (on_if_normal c next p (λ z. labelled label (breakable z))) performed left
+up (a_loop label before again body) p next c performed left =
+    elim (loop_continues c (label_set label)) [
       | true ↦ asked p body none (performed ++ again) left
       | false ↦ state (leave p (labelled label (breakable c))) performed left
     ]
-up (a-label label body) p next c performed left = state (leave p (labelled label c)) performed left
-up (a-scope body) p next c performed left = state (leave p c) performed left
-up (a-leaf completion) p next c performed left = state (leave p c) performed left
+up (a_label label body) p next c performed left = state (leave p (labelled label c)) performed left
+up (a_scope body) p next c performed left = state (leave p c) performed left
+up (a_leaf completion) p next c performed left = state (leave p c) performed left
 
 module _ (L : Layout) where
   unfoldable pub up_from : Option ℕ → (k : ℕ) → Completion → List ℕ → Answers → Turn
@@ -93,6 +93,6 @@ module _ (L : Layout) where
     goes : {n : ℕ} {s next : State} {end : Completed} → step s ≡ going next → Completes n next end → Completes (suc n) s end
 
   -- the turns until the walk halts, counted with so much fuel: the measure of the code's loop
-  unfoldable pub turnsLeft : (fuel : ℕ) → State → ℕ
-  turnsLeft zero s = 0
-  turnsLeft (suc fuel) s = elim (step s) [ going next ↦ suc (turnsLeft fuel next) | halt end ↦ 0 ]
+  unfoldable pub turns_left : (fuel : ℕ) → State → ℕ
+  turns_left zero s = 0
+  turns_left (suc fuel) s = elim (step s) [ going next ↦ suc (turns_left fuel next) | halt end ↦ 0 ]

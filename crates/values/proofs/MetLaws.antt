@@ -8,39 +8,39 @@ use native.Mathlib.Omega.{arith}
 use lib.Dec.{eqb}
 use lib.ListN.{length}
 use borrow.Author.Tests.{eq-eqb, ne_eqb, eqb-true, eqb-false}
-use Rattle.table.specs.Words.{placeCount}
+use Rattle.table.specs.Words.{place_count}
 use Rattle.table.specs.Table.{Table, table_of, rows_from}
-use Rattle.definition.specs.Result.{Result, ok, refused, ◌>>=◌, refuseIf}
-use Rattle.definition.specs.Tree.{Row, Value, SEQ, Instructions, no-instructions, countInstructions}
-use Rattle.definition.specs.Value.{ValueBlockResult, instructionsOf, wrapWithSequence}
+use Rattle.definition.specs.Result.{Result, ok, refused, ◌>>=◌, refuse_if}
+use Rattle.definition.specs.Tree.{Row, Value, SEQ, Instructions, no_instructions, count_instructions}
+use Rattle.definition.specs.Value.{ValueBlockResult, instructions_of, wrap_with_sequence}
 use Rattle.values.specs.Rows.{Holds}
-use Rattle.values.specs.Stack.{pushValue, pushInstructions, pushInstructionRows}
+use Rattle.values.specs.Stack.{push_value, push_instructions, push_instruction_rows}
 use Rattle.values.proofs.RowLaws.{written_held}
-use Rattle.values.proofs.StackLaws.{push-instructions-of}
-use Rattle.table.proofs.BlockLaws.{length-rows}
+use Rattle.values.proofs.StackLaws.{push_instructions_of}
+use Rattle.table.proofs.BlockLaws.{length_rows}
 use Rattle.values.specs.declared.result.Tally.{Tally}
 use Rattle.values.specs.declared.result.Trailing.{Trailing}
 use Rattle.values.specs.declared.result.ValueResult.{ValueResult}
-use Rattle.values.specs.Met.{loads, refusal, finished, blockResult, okIf, Fit, Ends, Found, Numbers, Met, RowPut, InstructionsPut, Wrapped}
+use Rattle.values.specs.Met.{loads, refusal, finished, block_result, ok_if, Fit, Ends, Found, Numbers, Met, RowPut, InstructionsPut, Wrapped}
 
 -- ---- steps
 
 module _ {A B : Type 0} {ws : List ℕ} {of : ValueResult → Value → A} {o : Result A} {y : Tally} {n : ℕ} {c c' : List ℕ} {s : ValueResult} (k : A → Result B) (h : Met ws of o y n c s c') where
-  pub then-on : s.code ≡ 0 → (o >>= k) ≡ k (of s h.value)
+  pub then_on_lem : s.code ≡ 0 → (o >>= k) ≡ k (of s h.value)
   unfolding ◌>>=◌
-  then-on e = rw (h.same, eq-eqb s.code 0 e)
+  then_on_lem e = rw (h.same, eq-eqb s.code 0 e)
 
-  pub then-off : (s.code ≡ 0 → ⊥) → (o >>= k) ≡ refused s.code s.at s.tally.visits
+  pub then_off : (s.code ≡ 0 → ⊥) → (o >>= k) ≡ refused s.code s.at s.tally.visits
   unfolding ◌>>=◌
-  then-off f = rw (h.same, ne_eqb s.code 0 f)
+  then_off f = rw (h.same, ne_eqb s.code 0 f)
 
-pub unless-on : {B : Type 0} (b : Bool) (code at visits : ℕ) (k : Unit {0} → Result B) → b ≡ true → (refuseIf b code at visits >>= k) ≡ refused code at visits
-unfolding ◌>>=◌ refuseIf
-unless-on b code at visits k e = rw e
+pub unless_on : {B : Type 0} (b : Bool) (code at visits : ℕ) (k : Unit {0} → Result B) → b ≡ true → (refuse_if b code at visits >>= k) ≡ refused code at visits
+unfolding ◌>>=◌ refuse_if
+unless_on b code at visits k e = rw e
 
-pub unless-off : {B : Type 0} (b : Bool) (code at visits : ℕ) (k : Unit {0} → Result B) → b ≡ false → (refuseIf b code at visits >>= k) ≡ k tt
-unfolding ◌>>=◌ refuseIf
-unless-off b code at visits k e = rw e
+pub unless_off : {B : Type 0} (b : Bool) (code at visits : ℕ) (k : Unit {0} → Result B) → b ≡ false → (refuse_if b code at visits >>= k) ≡ k tt
+unfolding ◌>>=◌ refuse_if
+unless_off b code at visits k e = rw e
 
 module _ {B : Type 0} {ws : List ℕ} {of : ValueResult → Value → B} {x : Tally} {m : ℕ} {b : List ℕ} {r : ValueResult} {b' : List ℕ} where
   -- the step refused, and so does all
@@ -48,7 +48,7 @@ module _ {B : Type 0} {ws : List ℕ} {of : ValueResult → Value → B} {x : Ta
       → Met ws of₁ o y n c r c' → (r.code ≡ 0 → ⊥) → Numbers x m r → Met ws of (o >>= k) x m b r b'
   pass k h f z = record {
     value = h.value;
-    same = rw (ne_eqb r.code 0 f) (then-off k h f);
+    same = rw (ne_eqb r.code 0 f) (then_off k h f);
     found = λ e. absurd (f e);
     numbers = z;
   }
@@ -56,7 +56,7 @@ module _ {B : Type 0} {ws : List ℕ} {of : ValueResult → Value → B} {x : Ta
   -- the step went on
   pub goes : {A : Type 0} {of₁ : ValueResult → Value → A} {o : Result A} {y : Tally} {n : ℕ} {c c' : List ℕ} {s : ValueResult} (k : A → Result B)
       → (h : Met ws of₁ o y n c s c') → s.code ≡ 0 → Met ws of (k (of₁ s h.value)) x m b r b' → Met ws of (o >>= k) x m b r b'
-  goes k h e g = rw (then-on k h e) g
+  goes k h e g = rw (then_on_lem k h e) g
 
   -- a refusal
   pub stops : {code at : ℕ} {y : Tally} (value : Value) → r ≡ refusal code at y → eqb code 0 ≡ false → Numbers x m (refusal code at y) → Met ws of (refused code at y.visits) x m b r b'
@@ -82,7 +82,7 @@ module _ {B : Type 0} {ws : List ℕ} {of : ValueResult → Value → B} {x : Ta
 pub accepted : {A : Type 0} {ws : List ℕ} {of : ValueResult → Value → A} {a : A} {x : Tally} {m : ℕ} {b b' : List ℕ} {r : ValueResult} → Met ws of (ok a) x m b r b' → r.code ≡ 0
 accepted {of = of} {a = a} {r = r} h = by (eqb r.code 0) refl h.same
   where
-    by : (y : Bool) → eqb r.code 0 ≡ y → ok a ≡ okIf y (of r h.value) r → r.code ≡ 0
+    by : (y : Bool) → eqb r.code 0 ≡ y → ok a ≡ ok_if y (of r h.value) r → r.code ≡ 0
     by true e q = eqb-true r.code 0 e
     by false e q = let z : ◌≡◌ {A = ℕ} 0 1 = cc in absurd (omega arith)
 
@@ -92,11 +92,11 @@ accepted {of = of} {a = a} {r = r} h = by (eqb r.code 0) refl h.same
 pub row_kept : {b b' : List ℕ} {x y : Tally} {r : Row} → RowPut b x r b' y → (stack : List Row) → Holds b x.rows stack → Holds b' y.rows (r ∷ stack)
 row_kept put = written_held (record { words = put.words; count = put.rows })
 
-pub one-row : {ws b b' : List ℕ} {start tally : Tally} {m block place id loaded : ℕ} {t : Trailing} {r : ValueResult} {v : Row}
-    (value : Value) → ((stack : List Row) → pushValue value stack ≡ v ∷ stack)
-    → Fit ws start (suc m) block → place < placeCount ws → Ends ws value (loads loaded) → RowPut b start v b' tally → t ≡ loads loaded → r ≡ finished block place id tally t
-    → Met ws blockResult (ok (record { block = block; place = place; value = value; id = id; visits = start.visits })) start (suc m) b r b'
-one-row value pushes fit there ends put et er =
+pub one_row : {ws b b' : List ℕ} {start tally : Tally} {m block place id loaded : ℕ} {t : Trailing} {r : ValueResult} {v : Row}
+    (value : Value) → ((stack : List Row) → push_value value stack ≡ v ∷ stack)
+    → Fit ws start (suc m) block → place < place_count ws → Ends ws value (loads loaded) → RowPut b start v b' tally → t ≡ loads loaded → r ≡ finished block place id tally t
+    → Met ws block_result (ok (record { block = block; place = place; value = value; id = id; visits = start.visits })) start (suc m) b r b'
+one_row value pushes fit there ends put et er =
     rw (er, et, ← put.visits) (record {
       value = value;
       same = refl;
@@ -106,20 +106,20 @@ one-row value pushes fit there ends put et er =
 
 -- ---- values made of values
 
-count_of : (t : Table) (rows : List ℕ) (more : Instructions) → countInstructions (instructionsOf t rows more) ≡ length rows + countInstructions more
-unfolding instructionsOf
+count_of : (t : Table) (rows : List ℕ) (more : Instructions) → count_instructions (instructions_of t rows more) ≡ length rows + count_instructions more
+unfolding instructions_of
 count_of t [] more = omega arith
 count_of t (i ∷ rows) more = omega (arith, count_of t rows more)
 
-pub count-rows : (t : Table) (first count : ℕ) (more : Instructions) → countInstructions (instructionsOf t (rows_from first count) more) ≡ count + countInstructions more
-count-rows t first count more = omega (arith, count_of t (rows_from first count) more, length-rows first count)
+pub count_rows : (t : Table) (first count : ℕ) (more : Instructions) → count_instructions (instructions_of t (rows_from first count) more) ≡ count + count_instructions more
+count_rows t first count more = omega (arith, count_of t (rows_from first count) more, length_rows first count)
 
 -- a SEQ over instructions whose rows are out
-pub found-seq : {ws : List ℕ} {start x : Tally} {value : Value} {b b₁ b₂ b₃ : List ℕ} {v r : ValueResult} (is : Instructions) (n : ℕ) → countInstructions is ≡ n → (n ≡ 0 → ⊥)
-    → ((stack : List Row) → Holds b start.rows stack → Holds b₁ x.rows (pushInstructions is stack)) → start.rows + n ≤ x.rows
+pub found_seq : {ws : List ℕ} {start x : Tally} {value : Value} {b b₁ b₂ b₃ : List ℕ} {v r : ValueResult} (is : Instructions) (n : ℕ) → count_instructions is ≡ n → (n ≡ 0 → ⊥)
+    → ((stack : List Row) → Holds b start.rows stack → Holds b₁ x.rows (push_instructions is stack)) → start.rows + n ≤ x.rows
     → Found ws x value b₁ v b₂ → Wrapped n v b₂ r b₃ → Found ws start (SEQ is v.id value) b r b₃
-unfolding pushValue
-found-seq {value = value} {v = v} {r = r} is n e nz kept le f w =
+unfolding push_value
+found_seq {value = value} {v = v} {r = r} is n e nz kept le f w =
     let s = w.some nz in
     let a = w.same value in
     let eb : r.block ≡ v.block = ap (λ (z : ValueBlockResult). z.block) a in
@@ -138,17 +138,17 @@ found-seq {value = value} {v = v} {r = r} is n e nz kept le f w =
     }
 
 -- wrap_with_sequence: no SEQ where there is no instruction
-pub found-wrap : {ws : List ℕ} {start x : Tally} {value : Value} {b b₁ b₂ b₃ : List ℕ} {v r : ValueResult} (first count : ℕ)
+pub found_wrap : {ws : List ℕ} {start x : Tally} {value : Value} {b b₁ b₂ b₃ : List ℕ} {v r : ValueResult} (first count : ℕ)
     → InstructionsPut ws first count b start.rows b₁ x.rows → Found ws x value b₁ v b₂ → Wrapped count v b₂ r b₃
-    → Found ws start (wrapWithSequence (table_of ws) (rows_from first count) v.id value) b r b₃
-unfolding wrapWithSequence
-found-wrap {x = x} first zero i f w =
+    → Found ws start (wrap_with_sequence (table_of ws) (rows_from first count) v.id value) b r b₃
+unfolding wrap_with_sequence
+found_wrap {x = x} first zero i f w =
     let e = w.none refl in
     rw (e.0, e.1)
-    (record { held = λ stack h. f.held stack (unfold pushInstructionRows in (i.kept stack h)); block = f.block; place = f.place; ends = f.ends; more = omega (arith, f.more, i.more) })
-found-wrap {ws} {x = x} first (suc n) i f w =
-    found-seq {x = x} (instructionsOf (table_of ws) (rows_from first (suc n)) no-instructions) (suc n) (omega (arith, count-rows (table_of ws) first (suc n) no-instructions)) (λ z. omega arith)
-    (λ stack h. rw (push-instructions-of (table_of ws) (rows_from first (suc n)) no-instructions stack) (unfold pushValue in (i.kept stack h)))
+    (record { held = λ stack h. f.held stack (unfold push_instruction_rows in (i.kept stack h)); block = f.block; place = f.place; ends = f.ends; more = omega (arith, f.more, i.more) })
+found_wrap {ws} {x = x} first (suc n) i f w =
+    found_seq {x = x} (instructions_of (table_of ws) (rows_from first (suc n)) no_instructions) (suc n) (omega (arith, count_rows (table_of ws) first (suc n) no_instructions)) (λ z. omega arith)
+    (λ stack h. rw (push_instructions_of (table_of ws) (rows_from first (suc n)) no_instructions stack) (unfold push_value in (i.kept stack h)))
     (omega (arith, i.more)) f w
 
 -- the definition's result with its value in a sequence, after the block's own instructions
@@ -156,18 +156,18 @@ abbrev pub wrap : List ℕ → (first count : ℕ) → ValueBlockResult → Valu
 wrap ws first count final = record {
   block = final.block;
   place = final.place;
-  value = wrapWithSequence (table_of ws) (rows_from first count) final.id final.value;
+  value = wrap_with_sequence (table_of ws) (rows_from first count) final.id final.value;
   id = final.id;
   visits = final.visits;
 }
 
-pub met-wrap : {ws : List ℕ} {start x : Tally} {o : Result ValueBlockResult} {m n : ℕ} {b b₁ b₂ b₃ : List ℕ} {v r : ValueResult} (first count : ℕ)
-    → InstructionsPut ws first count b start.rows b₁ x.rows → Met ws blockResult o x n b₁ v b₂ → v.code ≡ 0 → Wrapped count v b₂ r b₃ → Numbers start m r
-    → Met ws blockResult (o >>= λ final. ok (wrap ws first count final)) start m b r b₃
-met-wrap {ws} {x = x} {r = r} first count i h e w z =
+pub met_wrap : {ws : List ℕ} {start x : Tally} {o : Result ValueBlockResult} {m n : ℕ} {b b₁ b₂ b₃ : List ℕ} {v r : ValueResult} (first count : ℕ)
+    → InstructionsPut ws first count b start.rows b₁ x.rows → Met ws block_result o x n b₁ v b₂ → v.code ≡ 0 → Wrapped count v b₂ r b₃ → Numbers start m r
+    → Met ws block_result (o >>= λ final. ok (wrap ws first count final)) start m b r b₃
+met_wrap {ws} {x = x} {r = r} first count i h e w z =
     goes (λ final. ok (wrap ws first count final)) h e (record {
-      value = wrapWithSequence (table_of ws) (rows_from first count) (_) h.value;
+      value = wrap_with_sequence (table_of ws) (rows_from first count) (_) h.value;
       same = rw (eq-eqb r.code 0 w.code) (ap ok (sym (w.same _)));
-      found = λ _. found-wrap {x = x} first count i (h.found e) w;
+      found = λ _. found_wrap {x = x} first count i (h.found e) w;
       numbers = z;
     })

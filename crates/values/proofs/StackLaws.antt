@@ -4,77 +4,77 @@ use mathlib.Core.List.{List, [], ◌∷◌, ◌++◌}
 use Prim.Native.Nat.{ℕ, zero, suc, ◌+◌}
 use native.Mathlib.Omega.{arith}
 use lib.ListN.{length}
-use Rattle.table.specs.Table.{Table, instructionAt, rows_from}
-use Rattle.definition.specs.Tree.{Row, row, Value, PLAIN, LOAD, UNDEF, SEQ, LOGICAL, COND, OPTIONAL, Instructions, no-instructions, instruction, valueRows}
-use Rattle.definition.specs.Tree.{instructionsRows, countInstructions, instrRow}
-use Rattle.definition.specs.Output.{valueOut, instructionsOut}
-use Rattle.definition.specs.Value.{instructionsOf}
-use Rattle.values.specs.Stack.{pushed, pushValue, pushInstructions, pushInstructionRows}
+use Rattle.table.specs.Table.{Table, instruction_at, rows_from}
+use Rattle.definition.specs.Tree.{Row, row, Value, PLAIN, LOAD, UNDEF, SEQ, LOGICAL, COND, OPTIONAL, Instructions, no_instructions, instruction, value_rows}
+use Rattle.definition.specs.Tree.{instructions_rows, count_instructions, instr_row}
+use Rattle.definition.specs.Output.{value_out, instructions_out}
+use Rattle.definition.specs.Value.{instructions_of}
+use Rattle.values.specs.Stack.{pushed, push_value, push_instructions, push_instruction_rows}
 
-pub pushed-append : (rows more below : List Row) → pushed (rows ++ more) below ≡ pushed more (pushed rows below)
+pub pushed_append : (rows more below : List Row) → pushed (rows ++ more) below ≡ pushed more (pushed rows below)
 unfolding pushed
-pushed-append [] more below = refl
-pushed-append (r ∷ rows) more below = pushed-append rows more (r ∷ below)
+pushed_append [] more below = refl
+pushed_append (r ∷ rows) more below = pushed_append rows more (r ∷ below)
 
-pub length-pushed : (rows below : List Row) → length (pushed rows below) ≡ length rows + length below
+pub length_pushed : (rows below : List Row) → length (pushed rows below) ≡ length rows + length below
 unfolding pushed
-length-pushed [] below = omega arith
-length-pushed (r ∷ rows) below = omega (arith, length-pushed rows (r ∷ below))
+length_pushed [] below = omega arith
+length_pushed (r ∷ rows) below = omega (arith, length_pushed rows (r ∷ below))
 
 mutual
-  unfolding pushed pushValue
+  unfolding pushed push_value
 
-  value_pushed : (v : Value) (after below : List Row) → pushed (valueRows v after) below ≡ pushed after (pushValue v below)
+  value_pushed : (v : Value) (after below : List Row) → pushed (value_rows v after) below ≡ pushed after (push_value v below)
   value_pushed (PLAIN i) after below = refl
   value_pushed (LOAD p) after below = refl
   value_pushed (UNDEF s) after below = refl
-  value_pushed (SEQ is id v) after below = instructions-pushed is (valueRows v (row 5 (countInstructions is) id 0 0 0 ∷ after)) below ∙ value_pushed v _ (pushInstructions is below)
-  value_pushed (LOGICAL o l r) after below = value_pushed l (valueRows r (row 6 o 0 0 0 0 ∷ after)) below ∙ value_pushed r _ (pushValue l below)
+  value_pushed (SEQ is id v) after below = instructions_pushed is (value_rows v (row 5 (count_instructions is) id 0 0 0 ∷ after)) below ∙ value_pushed v _ (push_instructions is below)
+  value_pushed (LOGICAL o l r) after below = value_pushed l (value_rows r (row 6 o 0 0 0 0 ∷ after)) below ∙ value_pushed r _ (push_value l below)
   value_pushed (COND x y z) after below =
-      value_pushed x (valueRows y (valueRows z (row 7 0 0 0 0 0 ∷ after))) below ∙ value_pushed y (valueRows z (row 7 0 0 0 0 0 ∷ after)) (pushValue x below) ∙
-      value_pushed z _ (pushValue y (pushValue x below))
+      value_pushed x (value_rows y (value_rows z (row 7 0 0 0 0 0 ∷ after))) below ∙ value_pushed y (value_rows z (row 7 0 0 0 0 0 ∷ after)) (push_value x below) ∙
+      value_pushed z _ (push_value y (push_value x below))
   value_pushed (OPTIONAL f v) after below = value_pushed v (row 8 f 0 0 0 0 ∷ after) below
 
-  instructions-pushed : (is : Instructions) (after below : List Row) → pushed (instructionsRows is after) below ≡ pushed after (pushInstructions is below)
-  instructions-pushed no-instructions after below = refl
-  instructions-pushed (instruction i l s v rest) after below = value_pushed v (instrRow i l s ∷ instructionsRows rest after) below ∙ instructions-pushed rest after _
+  instructions_pushed : (is : Instructions) (after below : List Row) → pushed (instructions_rows is after) below ≡ pushed after (push_instructions is below)
+  instructions_pushed no_instructions after below = refl
+  instructions_pushed (instruction i l s v rest) after below = value_pushed v (instr_row i l s ∷ instructions_rows rest after) below ∙ instructions_pushed rest after _
 
 -- a value's rows, in the order of the tree's rows
-pub push-value : (v : Value) (below : List Row) → pushValue v below ≡ pushed (valueOut v) below
-unfolding valueOut pushed
-push-value v below = sym (value_pushed v [] below)
+pub push_value_lem : (v : Value) (below : List Row) → push_value v below ≡ pushed (value_out v) below
+unfolding value_out pushed
+push_value_lem v below = sym (value_pushed v [] below)
 
 -- the same behind rows that are out already
-pub push-value-after : (v : Value) (rows : List Row) → pushValue v (pushed rows []) ≡ pushed (rows ++ valueOut v) []
-push-value-after v rows = push-value v (pushed rows []) ∙ sym (pushed-append rows (valueOut v) [])
+pub push_value_after : (v : Value) (rows : List Row) → push_value v (pushed rows []) ≡ pushed (rows ++ value_out v) []
+push_value_after v rows = push_value_lem v (pushed rows []) ∙ sym (pushed_append rows (value_out v) [])
 
-pub push-row-after : (r : Row) (rows : List Row) → r ∷ pushed rows [] ≡ pushed (rows ++ (r ∷ [])) []
+pub push_row_after : (r : Row) (rows : List Row) → r ∷ pushed rows [] ≡ pushed (rows ++ (r ∷ [])) []
 unfolding pushed
-push-row-after r rows = sym (pushed-append rows (r ∷ []) [])
+push_row_after r rows = sym (pushed_append rows (r ∷ []) [])
 
 -- ---- a block's instruction rows
 
-pub push-instruction-rows : (t : Table) (rows : List ℕ) (below : List Row) → pushInstructionRows t rows below ≡ pushed (instructionsOut t rows) below
-unfolding pushInstructionRows pushed instructionsOut
-push-instruction-rows t [] below = refl
-push-instruction-rows t (i ∷ rows) below = push-instruction-rows t rows _
+pub push_instruction_rows_lem : (t : Table) (rows : List ℕ) (below : List Row) → push_instruction_rows t rows below ≡ pushed (instructions_out t rows) below
+unfolding push_instruction_rows pushed instructions_out
+push_instruction_rows_lem t [] below = refl
+push_instruction_rows_lem t (i ∷ rows) below = push_instruction_rows_lem t rows _
 
-pub push-instruction-rows-after : (t : Table) (is : List ℕ) (rows : List Row) → pushInstructionRows t is (pushed rows []) ≡ pushed (rows ++ instructionsOut t is) []
-push-instruction-rows-after t is rows = push-instruction-rows t is (pushed rows []) ∙ sym (pushed-append rows (instructionsOut t is) [])
+pub push_instruction_rows_after : (t : Table) (is : List ℕ) (rows : List Row) → push_instruction_rows t is (pushed rows []) ≡ pushed (rows ++ instructions_out t is) []
+push_instruction_rows_after t is rows = push_instruction_rows_lem t is (pushed rows []) ∙ sym (pushed_append rows (instructions_out t is) [])
 
-pub push-instructions-of : (t : Table) (rows : List ℕ) (more : Instructions) (below : List Row)
-    → pushInstructions (instructionsOf t rows more) below ≡ pushInstructions more (pushInstructionRows t rows below)
-unfolding pushInstructionRows pushValue instructionsOf
-push-instructions-of t [] more below = refl
-push-instructions-of t (i ∷ rows) more below = push-instructions-of t rows more _
+pub push_instructions_of : (t : Table) (rows : List ℕ) (more : Instructions) (below : List Row)
+    → push_instructions (instructions_of t rows more) below ≡ push_instructions more (push_instruction_rows t rows below)
+unfolding push_instruction_rows push_value instructions_of
+push_instructions_of t [] more below = refl
+push_instructions_of t (i ∷ rows) more below = push_instructions_of t rows more _
 
 -- one row more, at the end
-pub push-next-row : (t : Table) (first count : ℕ) (below : List Row)
-    → pushInstructionRows t (rows_from first (suc count)) below
-    ≡ instrRow (instructionAt t (first + count)).id (instructionAt t (first + count)).lvalue (instructionAt t (first + count)).span ∷ row 1 (first + count) 0
-    0 0 0 ∷ pushInstructionRows t (rows_from first count) below
-unfolding pushInstructionRows
-push-next-row t first zero below =
+pub push_next_row : (t : Table) (first count : ℕ) (below : List Row)
+    → push_instruction_rows t (rows_from first (suc count)) below
+    ≡ instr_row (instruction_at t (first + count)).id (instruction_at t (first + count)).lvalue (instruction_at t (first + count)).span ∷ row 1 (first + count) 0
+    0 0 0 ∷ push_instruction_rows t (rows_from first count) below
+unfolding push_instruction_rows
+push_next_row t first zero below =
     let e : first + 0 ≡ first = omega arith in rw e
-push-next-row t first (suc count) below =
-    let e : first + suc count ≡ suc first + count = omega arith in rw e (push-next-row t (suc first) count _)
+push_next_row t first (suc count) below =
+    let e : first + suc count ≡ suc first + count = omega arith in rw e (push_next_row t (suc first) count _)

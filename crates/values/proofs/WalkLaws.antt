@@ -9,48 +9,48 @@ use native.Mathlib.Omega.{arith}
 use lib.Dec.{eqb, leb}
 use borrow.Author.Tests.{eq-eqb, ne_eqb, eqb-true, lt-leb}
 use Rattle.table.specs.declared.columns.Span.{Span}
-use Rattle.table.specs.Words.{blockCount, code_at, largest}
-use Rattle.table.specs.Table.{Table, Block, Terminal, absent, unreachable, throw, return, goto, if, branch, switch, do-while, while, for, for-of, for-in, logical, ternary, optional, label, sequence, maybe-throw, try, scope, table_of, terminalOf, terminalAt, block_at, instructionRowsAt, code_of, isAbsent, unlessNone}
+use Rattle.table.specs.Words.{block_count, code_at, largest}
+use Rattle.table.specs.Table.{Table, Block, Terminal, absent, unreachable, throw, return, goto, if, branch, switch, do_while, while, for, for_of, for_in, logical, ternary, optional, label, sequence, maybe_throw, try, scope, table_of, terminal_of, terminal_at, block_at, instruction_rows_at, code_of, is_absent, unless_none}
 use Rattle.table.specs.Promise.{Promise, Ends, Heads}
-use Rattle.table.proofs.BlockLaws.{end_by, code-at, low-number}
+use Rattle.table.proofs.BlockLaws.{end_by, code_at_lem, low_number}
 use Rattle.table.proofs.ColumnLaws.{head_rows}
-use Rattle.definition.specs.Result.{Result, ok, refused, ◌>>=◌, refuseIf}
-use Rattle.definition.specs.Value.{ValueBlockResult, ValueTerminalResult, TestBlockResult, VisitValueBlock, visitValueBlock, visitValueBlockAt, visitValueBlockTerminal, thenFallthrough, beginVisit, extractOrRefuse, branchValue, maybeThrowValue, isEmptyGoto, isFallthrough, Ways, branchWays, testBlockEnded}
+use Rattle.definition.specs.Result.{Result, ok, refused, ◌>>=◌, refuse_if}
+use Rattle.definition.specs.Value.{ValueBlockResult, ValueTerminalResult, TestBlockResult, VisitValueBlock, visit_value_block, visit_value_block_at, visit_value_block_terminal, then_fallthrough, begin_visit, extract_or_refuse, branch_value, maybe_throw_value, is_empty_goto, is_fallthrough, Ways, branch_ways, test_block_ended}
 use Rattle.values.specs.declared.result.Tally.{Tally}
 use Rattle.values.specs.declared.result.ValueResult.{ValueResult}
-use Rattle.values.specs.Met.{blockResult, Fit, Met}
-use Rattle.values.specs.WalkOutcome.{visit, blockOutcome, terminalOutcome}
-use Rattle.values.proofs.MetLaws.{wrap, unless-on, unless-off, defined, moved}
+use Rattle.values.specs.Met.{block_result, Fit, Met}
+use Rattle.values.specs.WalkOutcome.{visit, block_outcome, terminal_outcome}
+use Rattle.values.proofs.MetLaws.{wrap, unless_on, unless_off, defined, moved}
 
 -- ---- a visit
 
 abbrev begun : Table → VisitValueBlock → (block : ℕ) → Option ℕ → (span : Span) → Result ℕ → Result ValueBlockResult
 begun t deeper block fallthrough span begin =
-    begin >>= λ visits. refuseIf (isFallthrough fallthrough block) 23 block visits >>= λ _. visitValueBlockAt t deeper (terminalAt t block) block (block_at t block) fallthrough span visits
+    begin >>= λ visits. refuse_if (is_fallthrough fallthrough block) 23 block visits >>= λ _. visit_value_block_at t deeper (terminal_at t block) block (block_at t block) fallthrough span visits
 
-visit-more : (t : Table) {levels : ℕ} → (levels ≡ 0 → ⊥) → (block : ℕ) (fallthrough : Option ℕ) (span : Span) (visits : ℕ)
-    → visitValueBlock t levels block fallthrough span visits ≡ begun t (visitValueBlock t (levels - 1)) block fallthrough span (beginVisit t block visits)
-unfolding visitValueBlock
-visit-more t {levels = zero} f block ft span visits = absurd (f refl)
-visit-more t {levels = suc levels} f block ft span visits = let e : suc levels - 1 ≡ levels = omega arith in rw e
+visit_more : (t : Table) {levels : ℕ} → (levels ≡ 0 → ⊥) → (block : ℕ) (fallthrough : Option ℕ) (span : Span) (visits : ℕ)
+    → visit_value_block t levels block fallthrough span visits ≡ begun t (visit_value_block t (levels - 1)) block fallthrough span (begin_visit t block visits)
+unfolding visit_value_block
+visit_more t {levels = zero} f block ft span visits = absurd (f refl)
+visit_more t {levels = suc levels} f block ft span visits = let e : suc levels - 1 ≡ levels = omega arith in rw e
 
-begin-by : (t : Table) (block visits : ℕ) (full missing : Bool) → leb 8192 visits ≡ full → isAbsent (terminalAt t block) ≡ missing
-    → beginVisit t block visits ≡ (refuseIf full 31 block visits >>= λ _. refuseIf missing 10 block (suc visits) >>= λ _. ok (suc visits))
-unfolding beginVisit
-begin-by t block visits full missing e f = ap (λ (y : Bool). refuseIf y 31 block visits >>= λ _. refuseIf (isAbsent (terminalAt t block)) 10 block (suc visits) >>= λ _. ok (suc visits)) e
-    ∙ ap (λ (y : Bool). refuseIf full 31 block visits >>= λ _. refuseIf y 10 block (suc visits) >>= λ _. ok (suc visits)) f
+begin_by : (t : Table) (block visits : ℕ) (full missing : Bool) → leb 8192 visits ≡ full → is_absent (terminal_at t block) ≡ missing
+    → begin_visit t block visits ≡ (refuse_if full 31 block visits >>= λ _. refuse_if missing 10 block (suc visits) >>= λ _. ok (suc visits))
+unfolding begin_visit
+begin_by t block visits full missing e f = ap (λ (y : Bool). refuse_if y 31 block visits >>= λ _. refuse_if (is_absent (terminal_at t block)) 10 block (suc visits) >>= λ _. ok (suc visits)) e
+    ∙ ap (λ (y : Bool). refuse_if full 31 block visits >>= λ _. refuse_if y 10 block (suc visits) >>= λ _. ok (suc visits)) f
 
-this-is : (fallthrough block : ℕ) → block < 65535 → isFallthrough (unlessNone fallthrough) block ≡ eqb fallthrough block
-unfolding unlessNone
-this-is fallthrough block h = by (eqb fallthrough largest) refl
+this_is : (fallthrough block : ℕ) → block < 65535 → is_fallthrough (unless_none fallthrough) block ≡ eqb fallthrough block
+unfolding unless_none
+this_is fallthrough block h = by (eqb fallthrough largest) refl
   where
-    by : (y : Bool) → eqb fallthrough largest ≡ y → isFallthrough (elim y [ true ↦ none | false ↦ some fallthrough ]) block ≡ eqb fallthrough block
+    by : (y : Bool) → eqb fallthrough largest ≡ y → is_fallthrough (elim y [ true ↦ none | false ↦ some fallthrough ]) block ≡ eqb fallthrough block
     by true e = sym (ne_eqb fallthrough block (λ q. omega (arith, eqb-true fallthrough largest e)))
     by false e = refl
 
 -- the tally once the visit has begun
-abbrev pub begunTally : Tally → Tally
-begunTally tally = record { rows = tally.rows; visits = tally.visits + 1 }
+abbrev pub begun_tally : Tally → Tally
+begun_tally tally = record { rows = tally.rows; visits = tally.visits + 1 }
 
 module _ {ws : List ℕ} {tally : Tally} {block : ℕ} (fit : Fit ws tally 0 block) (levels fallthrough : ℕ) (span : Span) where
   abbrev t : Table
@@ -60,103 +60,103 @@ module _ {ws : List ℕ} {tally : Tally} {block : ℕ} (fit : Fit ws tally 0 blo
   visits = tally.visits
 
   abbrev outcome : Result ValueBlockResult
-  outcome = visit ws levels block (unlessNone fallthrough) span visits
+  outcome = visit ws levels block (unless_none fallthrough) span visits
 
-  missing_at : isAbsent (terminalAt t block) ≡ eqb (code_at ws block) 0
-  missing_at = ap (λ (k : ℕ). eqb k 0) (code-at ws block fit.promise fit.at)
+  missing_at : is_absent (terminal_at t block) ≡ eqb (code_at ws block) 0
+  missing_at = ap (λ (k : ℕ). eqb k 0) (code_at_lem ws block fit.promise fit.at)
 
   -- "Order at a visit: 30, 31, 10, then 11 or 23"
-  pub visit-30 : levels ≡ 0 → outcome ≡ refused 30 block visits
-  unfolding visitValueBlock
-  visit-30 e = rw e
+  pub visit_30 : levels ≡ 0 → outcome ≡ refused 30 block visits
+  unfolding visit_value_block
+  visit_30 e = rw e
 
   module _ (more : levels ≡ 0 → ⊥) where
-    begin : (begins : Result ℕ) → beginVisit t block visits ≡ begins → outcome ≡ begun t (visit ws (levels - 1)) block (unlessNone fallthrough) span begins
-    begin begins e = visit-more t more block (unlessNone fallthrough) span visits ∙ ap (begun t (visit ws (levels - 1)) block (unlessNone fallthrough) span) e
+    begin : (begins : Result ℕ) → begin_visit t block visits ≡ begins → outcome ≡ begun t (visit ws (levels - 1)) block (unless_none fallthrough) span begins
+    begin begins e = visit_more t more block (unless_none fallthrough) span visits ∙ ap (begun t (visit ws (levels - 1)) block (unless_none fallthrough) span) e
 
-    pub visit-31 : visits ≡ 8192 → outcome ≡ refused 31 block visits
-    unfolding ◌>>=◌ refuseIf
-    visit-31 e = begin _ (begin-by t block visits true (isAbsent (terminalAt t block)) (rw e) refl)
+    pub visit_31 : visits ≡ 8192 → outcome ≡ refused 31 block visits
+    unfolding ◌>>=◌ refuse_if
+    visit_31 e = begin _ (begin_by t block visits true (is_absent (terminal_at t block)) (rw e) refl)
 
     module _ (few : visits ≡ 8192 → ⊥) {code : ℕ} (known : code ≡ code_at ws block) where
       begins : (missing : Bool) → eqb (code_at ws block) 0 ≡ missing
-          → outcome ≡ begun t (visit ws (levels - 1)) block (unlessNone fallthrough) span (refuseIf missing 10 block (suc visits) >>= λ _. ok (suc visits))
-      unfolding ◌>>=◌ refuseIf
-      begins missing e = begin _ (begin-by t block visits false missing (lt-leb 8192 visits (omega (arith, fit.visits))) (missing_at ∙ e))
+          → outcome ≡ begun t (visit ws (levels - 1)) block (unless_none fallthrough) span (refuse_if missing 10 block (suc visits) >>= λ _. ok (suc visits))
+      unfolding ◌>>=◌ refuse_if
+      begins missing e = begin _ (begin_by t block visits false missing (lt-leb 8192 visits (omega (arith, fit.visits))) (missing_at ∙ e))
 
-      pub visit-10 : code ≡ 0 → outcome ≡ refused 10 block (visits + 1)
-      unfolding ◌>>=◌ refuseIf
-      visit-10 e = rw (add-one visits) (begins true (eq-eqb (code_at ws block) 0 (sym known ∙ e)))
+      pub visit_10 : code ≡ 0 → outcome ≡ refused 10 block (visits + 1)
+      unfolding ◌>>=◌ refuse_if
+      visit_10 e = rw (add-one visits) (begins true (eq-eqb (code_at ws block) 0 (sym known ∙ e)))
 
       module _ (there : code ≡ 0 → ⊥) where
         -- what the visit gives once it has begun, and the fallthrough is not reached
-        at-end : Result ValueBlockResult
-        at-end = visitValueBlockAt t (visit ws (levels - 1)) (terminalAt t block) block (block_at t block) (unlessNone fallthrough) span (suc visits)
+        at_end : Result ValueBlockResult
+        at_end = visit_value_block_at t (visit ws (levels - 1)) (terminal_at t block) block (block_at t block) (unless_none fallthrough) span (suc visits)
 
-        reaches : (this : Bool) → eqb fallthrough block ≡ this → outcome ≡ (refuseIf this 23 block (suc visits) >>= λ _. at-end)
-        unfolding ◌>>=◌ refuseIf at-end
+        reaches : (this : Bool) → eqb fallthrough block ≡ this → outcome ≡ (refuse_if this 23 block (suc visits) >>= λ _. at_end)
+        unfolding ◌>>=◌ refuse_if at_end
         reaches this e =
             let small : block < 65535 = omega (arith, fit.at, fit.promise.sized.limited.blocks) in
-            begins false (ne_eqb (code_at ws block) 0 (λ q. there (known ∙ q))) ∙ ap (λ (y : Bool). refuseIf y 23 block (suc visits) >>= λ _. at-end) (this-is fallthrough block small ∙ e)
+            begins false (ne_eqb (code_at ws block) 0 (λ q. there (known ∙ q))) ∙ ap (λ (y : Bool). refuse_if y 23 block (suc visits) >>= λ _. at_end) (this_is fallthrough block small ∙ e)
 
-        pub visit-23 : block ≡ fallthrough → outcome ≡ refused 23 block (visits + 1)
-        unfolding ◌>>=◌ refuseIf
-        visit-23 e = rw (add-one visits) (reaches true (eq-eqb fallthrough block (sym e)))
+        pub visit_23 : block ≡ fallthrough → outcome ≡ refused 23 block (visits + 1)
+        unfolding ◌>>=◌ refuse_if
+        visit_23 e = rw (add-one visits) (reaches true (eq-eqb fallthrough block (sym e)))
 
-        pub visit-on : (block ≡ fallthrough → ⊥) → outcome ≡ blockOutcome ws (levels - 1) block fallthrough span (visits + 1)
-        unfolding ◌>>=◌ refuseIf at-end
-        visit-on f = rw (add-one visits) (reaches false (ne_eqb fallthrough block (λ e. f (sym e))))
+        pub visit_on : (block ≡ fallthrough → ⊥) → outcome ≡ block_outcome ws (levels - 1) block fallthrough span (visits + 1)
+        unfolding ◌>>=◌ refuse_if at_end
+        visit_on f = rw (add-one visits) (reaches false (ne_eqb fallthrough block (λ e. f (sym e))))
 
 -- the visit has begun, and its fallthrough is not reached: the value is what the block's end gives
-pub visit-begun : {ws : List ℕ} {tally : Tally} {block code n : ℕ} {b b' : List ℕ} {r : ValueResult} (fit : Fit ws tally 0 block) (levels fallthrough : ℕ) (span : Span)
+pub visit_begun : {ws : List ℕ} {tally : Tally} {block code n : ℕ} {b b' : List ℕ} {r : ValueResult} (fit : Fit ws tally 0 block) (levels fallthrough : ℕ) (span : Span)
     → (levels ≡ 0 → ⊥) → (tally.visits ≡ 8192 → ⊥) → code ≡ code_at ws block → (code ≡ 0 → ⊥) → (block ≡ fallthrough → ⊥)
-    → Met ws blockResult (blockOutcome ws (levels - 1) block fallthrough span (tally.visits + 1)) (begunTally tally) n b r b' → n ≤ 8200
-    → Met ws blockResult (visit ws levels block (unlessNone fallthrough) span tally.visits) tally 0 b r b'
-visit-begun fit levels fallthrough span more few known there passed met most =
-    defined (visit-on fit levels fallthrough span more few known there passed) (moved met refl (omega (arith, met.numbers, most)))
+    → Met ws block_result (block_outcome ws (levels - 1) block fallthrough span (tally.visits + 1)) (begun_tally tally) n b r b' → n ≤ 8200
+    → Met ws block_result (visit ws levels block (unless_none fallthrough) span tally.visits) tally 0 b r b'
+visit_begun fit levels fallthrough span more few known there passed met most =
+    defined (visit_on fit levels fallthrough span more few known there passed) (moved met refl (omega (arith, met.numbers, most)))
 
 -- neither absent nor one of the three ends that a value block treats by themselves
 pub record OtherEnd (code : ℕ) : Type 0 where
-  pub not-0 : code ≡ 0 → ⊥
-  pub not-4 : code ≡ 4 → ⊥
-  pub not-6 : code ≡ 6 → ⊥
-  pub not-18 : code ≡ 18 → ⊥
+  pub not_0 : code ≡ 0 → ⊥
+  pub not_4 : code ≡ 4 → ⊥
+  pub not_6 : code ≡ 6 → ⊥
+  pub not_18 : code ≡ 18 → ⊥
 
 -- a block is never none
-pub some_block : (ws : List ℕ) {block : ℕ} → block < blockCount ws → blockCount ws ≤ 1024 → unlessNone block ≡ some block
-some_block ws {block} h few = low-number block (omega arith)
+pub some_block : (ws : List ℕ) {block : ℕ} → block < block_count ws → block_count ws ≤ 1024 → unless_none block ≡ some block
+some_block ws {block} h few = low_number block (omega arith)
 
 -- ---- by the block's code
 
-other-end : (t : Table) (deeper : VisitValueBlock) (m : Terminal) (number : ℕ) (block : Block) (fallthrough : Option ℕ) (span : Span) (visits : ℕ)
+other_end : (t : Table) (deeper : VisitValueBlock) (m : Terminal) (number : ℕ) (block : Block) (fallthrough : Option ℕ) (span : Span) (visits : ℕ)
     → (code_of m ≡ 4 → ⊥) → (code_of m ≡ 6 → ⊥) → (code_of m ≡ 18 → ⊥)
-    → visitValueBlockAt t deeper m number block fallthrough span visits ≡ thenFallthrough t deeper block span (visitValueBlockTerminal t deeper m block.id block.span visits number)
-unfolding visitValueBlockAt
-other-end t v absent n k ft s w f g e = refl
-other-end t v unreachable n k ft s w f g e = refl
-other-end t v (throw x) n k ft s w f g e = refl
-other-end t v (return x) n k ft s w f g e = refl
-other-end t v (goto x y) n k ft s w f g e = absurd (f refl)
-other-end t v (if x y z a) n k ft s w f g e = refl
-other-end t v (branch x y z) n k ft s w f g e = absurd (g refl)
-other-end t v (switch x y z a) n k ft s w f g e = refl
-other-end t v (do-while x y z) n k ft s w f g e = refl
-other-end t v (while x y z) n k ft s w f g e = refl
-other-end t v (for x y z a b) n k ft s w f g e = refl
-other-end t v (for-of x y z a) n k ft s w f g e = refl
-other-end t v (for-in x y z) n k ft s w f g e = refl
-other-end t v (logical x y z) n k ft s w f g e = refl
-other-end t v (ternary x y) n k ft s w f g e = refl
-other-end t v (optional x y z) n k ft s w f g e = refl
-other-end t v (label x y) n k ft s w f g e = refl
-other-end t v (sequence x y) n k ft s w f g e = refl
-other-end t v (maybe-throw x) n k ft s w f g e = absurd (e refl)
-other-end t v (try x y z a) n k ft s w f g e = refl
-other-end t v (scope x y z a) n k ft s w f g e = refl
+    → visit_value_block_at t deeper m number block fallthrough span visits ≡ then_fallthrough t deeper block span (visit_value_block_terminal t deeper m block.id block.span visits number)
+unfolding visit_value_block_at
+other_end t v absent n k ft s w f g e = refl
+other_end t v unreachable n k ft s w f g e = refl
+other_end t v (throw x) n k ft s w f g e = refl
+other_end t v (return x) n k ft s w f g e = refl
+other_end t v (goto x y) n k ft s w f g e = absurd (f refl)
+other_end t v (if x y z a) n k ft s w f g e = refl
+other_end t v (branch x y z) n k ft s w f g e = absurd (g refl)
+other_end t v (switch x y z a) n k ft s w f g e = refl
+other_end t v (do_while x y z) n k ft s w f g e = refl
+other_end t v (while x y z) n k ft s w f g e = refl
+other_end t v (for x y z a b) n k ft s w f g e = refl
+other_end t v (for_of x y z a) n k ft s w f g e = refl
+other_end t v (for_in x y z) n k ft s w f g e = refl
+other_end t v (logical x y z) n k ft s w f g e = refl
+other_end t v (ternary x y) n k ft s w f g e = refl
+other_end t v (optional x y z) n k ft s w f g e = refl
+other_end t v (label x y) n k ft s w f g e = refl
+other_end t v (sequence x y) n k ft s w f g e = refl
+other_end t v (maybe_throw x) n k ft s w f g e = absurd (e refl)
+other_end t v (try x y z a) n k ft s w f g e = refl
+other_end t v (scope x y z a) n k ft s w f g e = refl
 
 no_value : (t : Table) (deeper : VisitValueBlock) (m : Terminal) (id : ℕ) (span : Span) (visits at : ℕ) → (12 < code_of m → code_of m < 19 → ⊥)
-    → visitValueBlockTerminal t deeper m id span visits at ≡ refused 27 at visits
-unfolding visitValueBlockTerminal
+    → visit_value_block_terminal t deeper m id span visits at ≡ refused 27 at visits
+unfolding visit_value_block_terminal
 no_value t v absent i s w a f = refl
 no_value t v unreachable i s w a f = refl
 no_value t v (throw x) i s w a f = refl
@@ -165,42 +165,42 @@ no_value t v (goto x y) i s w a f = refl
 no_value t v (if x y z u) i s w a f = refl
 no_value t v (branch x y z) i s w a f = refl
 no_value t v (switch x y z u) i s w a f = refl
-no_value t v (do-while x y z) i s w a f = refl
+no_value t v (do_while x y z) i s w a f = refl
 no_value t v (while x y z) i s w a f = refl
 no_value t v (for x y z u b) i s w a f = refl
-no_value t v (for-of x y z u) i s w a f = refl
-no_value t v (for-in x y z) i s w a f = refl
+no_value t v (for_of x y z u) i s w a f = refl
+no_value t v (for_in x y z) i s w a f = refl
 no_value t v (logical x y z) i s w a f = absurd (f (omega arith) (omega arith))
 no_value t v (ternary x y) i s w a f = absurd (f (omega arith) (omega arith))
 no_value t v (optional x y z) i s w a f = absurd (f (omega arith) (omega arith))
 no_value t v (label x y) i s w a f = absurd (f (omega arith) (omega arith))
 no_value t v (sequence x y) i s w a f = absurd (f (omega arith) (omega arith))
-no_value t v (maybe-throw x) i s w a f = absurd (f (omega arith) (omega arith))
+no_value t v (maybe_throw x) i s w a f = absurd (f (omega arith) (omega arith))
 no_value t v (try x y z u) i s w a f = refl
 no_value t v (scope x y z u) i s w a f = refl
 
-no-ways : (m : Terminal) → (code_of m ≡ 6 → ⊥) → branchWays m ≡ none
-no-ways absent f = refl
-no-ways unreachable f = refl
-no-ways (throw x) f = refl
-no-ways (return x) f = refl
-no-ways (goto x y) f = refl
-no-ways (if x y z u) f = refl
-no-ways (branch x y z) f = absurd (f refl)
-no-ways (switch x y z u) f = refl
-no-ways (do-while x y z) f = refl
-no-ways (while x y z) f = refl
-no-ways (for x y z u w) f = refl
-no-ways (for-of x y z u) f = refl
-no-ways (for-in x y z) f = refl
-no-ways (logical x y z) f = refl
-no-ways (ternary x y) f = refl
-no-ways (optional x y z) f = refl
-no-ways (label x y) f = refl
-no-ways (sequence x y) f = refl
-no-ways (maybe-throw x) f = refl
-no-ways (try x y z u) f = refl
-no-ways (scope x y z u) f = refl
+no_ways : (m : Terminal) → (code_of m ≡ 6 → ⊥) → branch_ways m ≡ none
+no_ways absent f = refl
+no_ways unreachable f = refl
+no_ways (throw x) f = refl
+no_ways (return x) f = refl
+no_ways (goto x y) f = refl
+no_ways (if x y z u) f = refl
+no_ways (branch x y z) f = absurd (f refl)
+no_ways (switch x y z u) f = refl
+no_ways (do_while x y z) f = refl
+no_ways (while x y z) f = refl
+no_ways (for x y z u w) f = refl
+no_ways (for_of x y z u) f = refl
+no_ways (for_in x y z) f = refl
+no_ways (logical x y z) f = refl
+no_ways (ternary x y) f = refl
+no_ways (optional x y z) f = refl
+no_ways (label x y) f = refl
+no_ways (sequence x y) f = refl
+no_ways (maybe_throw x) f = refl
+no_ways (try x y z u) f = refl
+no_ways (scope x y z u) f = refl
 
 module _ (ws : List ℕ) (block levels : ℕ) where
   abbrev table : Table
@@ -208,85 +208,85 @@ module _ (ws : List ℕ) (block levels : ℕ) where
 
   module _ (fallthrough : ℕ) (span : Span) (visits : ℕ) where
     abbrev by_end : Terminal → Result ValueBlockResult
-    by_end m = visitValueBlockAt table (visit ws levels) m block (block_at table block) (unlessNone fallthrough) span visits
+    by_end m = visit_value_block_at table (visit ws levels) m block (block_at table block) (unless_none fallthrough) span visits
 
     abbrev ends_so : Result ValueBlockResult
-    ends_so = blockOutcome ws levels block fallthrough span visits
+    ends_so = block_outcome ws levels block fallthrough span visits
 
-    pub at-goto : block < blockCount ws → code_at ws block ≡ 4 → ends_so ≡ extractOrRefuse table block (instructionRowsAt table block) visits 24 block
-    unfolding visitValueBlockAt terminalOf
-    at-goto h e = ap by_end (end_by ws block h 4 e)
+    pub at_goto : block < block_count ws → code_at ws block ≡ 4 → ends_so ≡ extract_or_refuse table block (instruction_rows_at table block) visits 24 block
+    unfolding visit_value_block_at terminal_of
+    at_goto h e = ap by_end (end_by ws block h 4 e)
 
-    pub at-branch : {test consequent alternate : ℕ} → Ends ws block (branch test consequent alternate)
-        → ends_so ≡ branchValue table block test (block_at table block).id (instructionRowsAt table block) visits
-    unfolding visitValueBlockAt
-    at-branch ends = ap by_end ends.is
+    pub at_branch : {test consequent alternate : ℕ} → Ends ws block (branch test consequent alternate)
+        → ends_so ≡ branch_value table block test (block_at table block).id (instruction_rows_at table block) visits
+    unfolding visit_value_block_at
+    at_branch ends = ap by_end ends.is
 
-    pub at_other : {code : ℕ} → Promise ws → block < blockCount ws → code ≡ code_at ws block → OtherEnd code
-        → ends_so ≡ thenFallthrough table (visit ws levels) (block_at table block) span (terminalOutcome ws levels block visits)
+    pub at_other : {code : ℕ} → Promise ws → block < block_count ws → code ≡ code_at ws block → OtherEnd code
+        → ends_so ≡ then_fallthrough table (visit ws levels) (block_at table block) span (terminal_outcome ws levels block visits)
     at_other p h known other =
-        let c = known ∙ sym (code-at ws block p h) in
-        other-end table (visit ws levels) (terminalAt table block) block (block_at table block) (unlessNone fallthrough) span visits
-        (λ e. other.not-4 (c ∙ e)) (λ e. other.not-6 (c ∙ e)) (λ e. other.not-18 (c ∙ e))
+        let c = known ∙ sym (code_at_lem ws block p h) in
+        other_end table (visit ws levels) (terminal_at table block) block (block_at table block) (unless_none fallthrough) span visits
+        (λ e. other.not_4 (c ∙ e)) (λ e. other.not_6 (c ∙ e)) (λ e. other.not_18 (c ∙ e))
 
     -- MaybeThrow, by its continuation. "That continuation is looked up first, before any visit: 10 if missing."
-    module _ {next : ℕ} (ends : Ends ws block (maybe-throw next)) (p : Promise ws) {code : ℕ} (known : code ≡ code_at ws next) where
-      missing-is : (missing : Bool) → eqb code 0 ≡ missing → isAbsent (terminalAt table next) ≡ missing
-      missing-is missing e = ap (λ (k : ℕ). eqb k 0) (code-at ws next p ends.named ∙ sym known) ∙ e
+    module _ {next : ℕ} (ends : Ends ws block (maybe_throw next)) (p : Promise ws) {code : ℕ} (known : code ≡ code_at ws next) where
+      missing_is : (missing : Bool) → eqb code 0 ≡ missing → is_absent (terminal_at table next) ≡ missing
+      missing_is missing e = ap (λ (k : ℕ). eqb k 0) (code_at_lem ws next p ends.named ∙ sym known) ∙ e
 
-      pub maybe-throw-missing : code ≡ 0 → ends_so ≡ refused 10 next visits
-      unfolding visitValueBlockAt
-      maybe-throw-missing e = ap by_end ends.is ∙ unless-on _ 10 next visits _ (missing-is true (eq-eqb code 0 e))
+      pub maybe_throw_missing : code ≡ 0 → ends_so ≡ refused 10 next visits
+      unfolding visit_value_block_at
+      maybe_throw_missing e = ap by_end ends.is ∙ unless_on _ 10 next visits _ (missing_is true (eq-eqb code 0 e))
 
-      module _ (there : code ≡ 0 → ⊥) {empty : Bool} (asked : empty ≡ isEmptyGoto (block_at table next)) where
-        goes_on : (y : Bool) → empty ≡ y → ends_so ≡ maybeThrowValue table (visit ws levels) block next (instructionRowsAt table block) (unlessNone fallthrough) span visits y
-        unfolding visitValueBlockAt
-        goes_on y e = ap by_end ends.is ∙ unless-off _ 10 next visits _ (missing-is false (ne_eqb code 0 there))
-            ∙ ap (maybeThrowValue table (visit ws levels) block next (instructionRowsAt table block) (unlessNone fallthrough) span visits) (sym asked ∙ e)
+      module _ (there : code ≡ 0 → ⊥) {empty : Bool} (asked : empty ≡ is_empty_goto (block_at table next)) where
+        goes_on : (y : Bool) → empty ≡ y → ends_so ≡ maybe_throw_value table (visit ws levels) block next (instruction_rows_at table block) (unless_none fallthrough) span visits y
+        unfolding visit_value_block_at
+        goes_on y e = ap by_end ends.is ∙ unless_off _ 10 next visits _ (missing_is false (ne_eqb code 0 there))
+            ∙ ap (maybe_throw_value table (visit ws levels) block next (instruction_rows_at table block) (unless_none fallthrough) span visits) (sym asked ∙ e)
 
-        pub maybe-throw-own : empty ≡ true → ends_so ≡ extractOrRefuse table next (instructionRowsAt table block) visits 28 block
-        unfolding maybeThrowValue
-        maybe-throw-own e = goes_on true e
+        pub maybe_throw_own : empty ≡ true → ends_so ≡ extract_or_refuse table next (instruction_rows_at table block) visits 28 block
+        unfolding maybe_throw_value
+        maybe_throw_own e = goes_on true e
 
-        pub maybe-throw-visits : {first count id : ℕ} {own : Span} → Heads ws block first count id own → empty ≡ false
-            → ends_so ≡ (visit ws levels next (unlessNone fallthrough) span visits >>= λ final. ok (wrap ws first count final))
-        unfolding maybeThrowValue
-        maybe-throw-visits head e = goes_on false e
-            ∙ ap (λ (rows : List ℕ). maybeThrowValue table (visit ws levels) block next rows (unlessNone fallthrough) span visits false) (head_rows head)
+        pub maybe_throw_visits : {first count id : ℕ} {own : Span} → Heads ws block first count id own → empty ≡ false
+            → ends_so ≡ (visit ws levels next (unless_none fallthrough) span visits >>= λ final. ok (wrap ws first count final))
+        unfolding maybe_throw_value
+        maybe_throw_visits head e = goes_on false e
+            ∙ ap (λ (rows : List ℕ). maybe_throw_value table (visit ws levels) block next rows (unless_none fallthrough) span visits false) (head_rows head)
 
   -- the value terminal at the end of a block
   module _ (visits : ℕ) where
-    abbrev with-end : Terminal → ℕ → Span → Result ValueTerminalResult
-    with-end m id span = visitValueBlockTerminal table (visit ws levels) m id span visits block
+    abbrev with_end : Terminal → ℕ → Span → Result ValueTerminalResult
+    with_end m id span = visit_value_block_terminal table (visit ws levels) m id span visits block
 
-    pub terminal-by : {e : Terminal} {first count id : ℕ} {span : Span} → Ends ws block e → Heads ws block first count id span → terminalOutcome ws levels block visits ≡ with-end e id span
-    terminal-by ends head = rw (ends.is, head.is-id, head.is-span)
+    pub terminal_by : {e : Terminal} {first count id : ℕ} {span : Span} → Ends ws block e → Heads ws block first count id span → terminal_outcome ws levels block visits ≡ with_end e id span
+    terminal_by ends head = rw (ends.is, head.is_id, head.is_span)
 
-    module _ (h : block < blockCount ws) where
-      pub terminal-label : code_at ws block ≡ 16 → terminalOutcome ws levels block visits ≡ refused 26 block visits
-      unfolding terminalOf visitValueBlockTerminal
-      terminal-label e = ap (λ (m : Terminal). with-end m (block_at table block).id (block_at table block).span) (end_by ws block h 16 e)
+    module _ (h : block < block_count ws) where
+      pub terminal_label : code_at ws block ≡ 16 → terminal_outcome ws levels block visits ≡ refused 26 block visits
+      unfolding terminal_of visit_value_block_terminal
+      terminal_label e = ap (λ (m : Terminal). with_end m (block_at table block).id (block_at table block).span) (end_by ws block h 16 e)
 
-      pub terminal-maybe-throw : code_at ws block ≡ 18 → terminalOutcome ws levels block visits ≡ refused 92 block visits
-      unfolding terminalOf visitValueBlockTerminal
-      terminal-maybe-throw e = ap (λ (m : Terminal). with-end m (block_at table block).id (block_at table block).span) (end_by ws block h 18 e)
+      pub terminal_maybe_throw : code_at ws block ≡ 18 → terminal_outcome ws levels block visits ≡ refused 92 block visits
+      unfolding terminal_of visit_value_block_terminal
+      terminal_maybe_throw e = ap (λ (m : Terminal). with_end m (block_at table block).id (block_at table block).span) (end_by ws block h 18 e)
 
-      pub terminal-other : Promise ws → (12 < code_at ws block → code_at ws block < 19 → ⊥) → terminalOutcome ws levels block visits ≡ refused 27 block visits
-      terminal-other p f =
-          let c = code-at ws block p h in
-          no_value table (visit ws levels) (terminalAt table block) (block_at table block).id (block_at table block).span visits block (λ a b. f (rw c at a) (rw c at b))
+      pub terminal_other : Promise ws → (12 < code_at ws block → code_at ws block < 19 → ⊥) → terminal_outcome ws levels block visits ≡ refused 27 block visits
+      terminal_other p f =
+          let c = code_at_lem ws block p h in
+          no_value table (visit ws levels) (terminal_at table block) (block_at table block).id (block_at table block).span visits block (λ a b. f (rw c at a) (rw c at b))
 
 -- ---- a test, by its end
 
 module _ (ws : List ℕ) (test : ValueBlockResult) (at : ℕ) where
   abbrev ended : Result TestBlockResult
-  ended = testBlockEnded test (branchWays (terminalAt (table_of ws) test.block)) at
+  ended = test_block_ended test (branch_ways (terminal_at (table_of ws) test.block)) at
 
   pub ended_branch : {place consequent alternate : ℕ} → Ends ws test.block (branch place consequent alternate)
       → ended ≡ ok (record { test = test; ways = record { consequent = consequent; alternate = alternate } })
-  unfolding testBlockEnded
-  ended_branch ends = ap (λ (m : Terminal). testBlockEnded test (branchWays m) at) ends.is
+  unfolding test_block_ended
+  ended_branch ends = ap (λ (m : Terminal). test_block_ended test (branch_ways m) at) ends.is
 
-  pub ended-other : Promise ws → test.block < blockCount ws → (code_at ws test.block ≡ 6 → ⊥) → ended ≡ refused 25 at test.visits
-  unfolding testBlockEnded
-  ended-other p h f = ap (λ (w : Option Ways). testBlockEnded test w at) (no-ways (terminalAt (table_of ws) test.block) (λ q. f (sym (code-at ws test.block p h) ∙ q)))
+  pub ended_other : Promise ws → test.block < block_count ws → (code_at ws test.block ≡ 6 → ⊥) → ended ≡ refused 25 at test.visits
+  unfolding test_block_ended
+  ended_other p h f = ap (λ (w : Option Ways). test_block_ended test w at) (no_ways (terminal_at (table_of ws) test.block) (λ q. f (sym (code_at_lem ws test.block p h) ∙ q)))

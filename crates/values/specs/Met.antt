@@ -1,14 +1,14 @@
 -- What the functions of the value walk promise: the definition's result or refusal, and the rows of its value in the buffer.
 use Rattle.std.specs.Prelude.{◌≡◌, Bool, true, false, List, ◌∷◌, ℕ, suc, ◌+◌, ◌*◌, ◌≤◌, ◌<◌, eqb}
 use Rattle.table.specs.declared.columns.Span.{Span}
-use Rattle.table.specs.Words.{blockCount, placeCount, largest}
-use Rattle.table.specs.Table.{table_of, instructionAt, unlessNone, rows_from}
+use Rattle.table.specs.Words.{block_count, place_count, largest}
+use Rattle.table.specs.Table.{table_of, instruction_at, unless_none, rows_from}
 use Rattle.table.specs.Promise.{Promise}
 use Rattle.definition.specs.Result.{Result, ok, refused}
-use Rattle.definition.specs.Tree.{Row, row, Value, PLAIN, LOAD, UNDEF, SEQ, LOGICAL, COND, OPTIONAL, countInstructions}
-use Rattle.definition.specs.Value.{ValueBlockResult, ValueTerminalResult, storedToNamed, innermostValue, loadedPlace, loadedBy, valueBlockResultToSequence}
+use Rattle.definition.specs.Tree.{Row, row, Value, PLAIN, LOAD, UNDEF, SEQ, LOGICAL, COND, OPTIONAL, count_instructions}
+use Rattle.definition.specs.Value.{ValueBlockResult, ValueTerminalResult, stored_to_named, innermost_value, loaded_place, loaded_by, value_block_result_to_sequence}
 use Rattle.values.specs.Rows.{placed, Holds}
-use Rattle.values.specs.Stack.{pushValue, pushInstructionRows}
+use Rattle.values.specs.Stack.{push_value, push_instruction_rows}
 use Rattle.values.specs.declared.result.Tally.{Tally}
 use Rattle.values.specs.declared.result.Trailing.{Trailing}
 use Rattle.values.specs.declared.result.ValueResult.{ValueResult}
@@ -26,61 +26,61 @@ abbrev pub finished : (block place id : ℕ) → Tally → Trailing → ValueRes
 finished block place id tally trailing = record { code = 0; at = 0; block = block; place = place; id = id; tally = tally; trailing = trailing }
 
 -- of a value block and of a value terminal: the definition's result with the code's numbers
-abbrev pub blockResult : ValueResult → Value → ValueBlockResult
-blockResult r value = record { block = r.block; place = r.place; value = value; id = r.id; visits = r.tally.visits }
+abbrev pub block_result : ValueResult → Value → ValueBlockResult
+block_result r value = record { block = r.block; place = r.place; value = value; id = r.id; visits = r.tally.visits }
 
-abbrev pub terminalResult : ValueResult → Value → ValueTerminalResult
-terminalResult r value = record { value = value; place = r.place; fallthrough = r.block; id = r.id; visits = r.tally.visits }
+abbrev pub terminal_result : ValueResult → Value → ValueTerminalResult
+terminal_result r value = record { value = value; place = r.place; fallthrough = r.block; id = r.id; visits = r.tally.visits }
 
-abbrev pub okIf : {A : Type 0} → Bool → A → ValueResult → Result A
-okIf true found r = ok found
-okIf false found r = refused r.code r.at r.tally.visits
+abbrev pub ok_if : {A : Type 0} → Bool → A → ValueResult → Result A
+ok_if true found r = ok found
+ok_if false found r = refused r.code r.at r.tally.visits
 
 -- "Code (0 accepted)"
 abbrev pub answered : {A : Type 0} → (ValueResult → Value → A) → ValueResult → Value → Result A
-answered of r value = okIf (eqb r.code 0) (of r value) r
+answered of r value = ok_if (eqb r.code 0) (of r value) r
 
 -- ---- contracts
 
 -- What a visit of a block requires: the block is there; the count of rows cannot wrap, since each visit pays for 8,200 rows and `spare` of them are not used yet
 pub record Fit (words : List ℕ) (tally : Tally) (spare block : ℕ) : Type 0 where
   pub promise : Promise words
-  pub at : block < blockCount words
+  pub at : block < block_count words
   pub visits : tally.visits ≤ 8192
   pub room : tally.rows + spare ≤ 1000000000 + 8200 * tally.visits
 
 -- the SEQ rows that stand at a value's end
-abbrev pub trailingSequences : Value → ℕ
-trailingSequences (PLAIN instructionRow) = 0
-trailingSequences (LOAD place) = 0
-trailingSequences (UNDEF span) = 0
-trailingSequences (SEQ instructions id value) = suc (trailingSequences value)
-trailingSequences (LOGICAL operator left right) = 0
-trailingSequences (COND test consequent alternate) = 0
-trailingSequences (OPTIONAL flag value) = 0
+abbrev pub trailing_sequences : Value → ℕ
+trailing_sequences (PLAIN instruction_row) = 0
+trailing_sequences (LOAD place) = 0
+trailing_sequences (UNDEF span) = 0
+trailing_sequences (SEQ instructions id value) = suc (trailing_sequences value)
+trailing_sequences (LOGICAL operator left right) = 0
+trailing_sequences (COND test consequent alternate) = 0
+trailing_sequences (OPTIONAL flag value) = 0
 
 -- the instructions that they count together
-abbrev pub trailingInstructions : Value → ℕ
-trailingInstructions (PLAIN instructionRow) = 0
-trailingInstructions (LOAD place) = 0
-trailingInstructions (UNDEF span) = 0
-trailingInstructions (SEQ instructions id value) = countInstructions instructions + trailingInstructions value
-trailingInstructions (LOGICAL operator left right) = 0
-trailingInstructions (COND test consequent alternate) = 0
-trailingInstructions (OPTIONAL flag value) = 0
+abbrev pub trailing_instructions : Value → ℕ
+trailing_instructions (PLAIN instruction_row) = 0
+trailing_instructions (LOAD place) = 0
+trailing_instructions (UNDEF span) = 0
+trailing_instructions (SEQ instructions id value) = count_instructions instructions + trailing_instructions value
+trailing_instructions (LOGICAL operator left right) = 0
+trailing_instructions (COND test consequent alternate) = 0
+trailing_instructions (OPTIONAL flag value) = 0
 
 -- the end of a value in numbers
 pub record Ends (words : List ℕ) (value : Value) (trailing : Trailing) : Type 0 where
-  pub sequences : trailing.sequences ≡ trailingSequences value
-  pub instructions : trailing.instructions ≡ trailingInstructions value
-  pub loaded : unlessNone trailing.loaded ≡ loadedPlace (table_of words) (innermostValue value)
-  pub there : (trailing.loaded ≡ largest → ⊥) → trailing.loaded < placeCount words
+  pub sequences : trailing.sequences ≡ trailing_sequences value
+  pub instructions : trailing.instructions ≡ trailing_instructions value
+  pub loaded : unless_none trailing.loaded ≡ loaded_place (table_of words) (innermost_value value)
+  pub there : (trailing.loaded ≡ largest → ⊥) → trailing.loaded < place_count words
 
 -- what a result with code 0 says: whatever rows the buffer held, it holds them and the value's
 pub record Found (words : List ℕ) (start : Tally) (value : Value) (buffer : List ℕ) (r : ValueResult) (buffer' : List ℕ) : Type 0 where
-  pub held : (stack : List Row) → Holds buffer start.rows stack → Holds buffer' r.tally.rows (pushValue value stack)
-  pub block : r.block < blockCount words
-  pub place : r.place < placeCount words
+  pub held : (stack : List Row) → Holds buffer start.rows stack → Holds buffer' r.tally.rows (push_value value stack)
+  pub block : r.block < block_count words
+  pub place : r.place < place_count words
   pub ends : Ends words value r.trailing
   pub more : start.rows + r.trailing.sequences + r.trailing.instructions < r.tally.rows
 
@@ -108,11 +108,11 @@ pub record RowPut (buffer : List ℕ) (tally : Tally) (r : Row) (buffer' : List 
 -- a block's instruction rows were written, two rows for each
 pub record InstructionsPut (words : List ℕ) (first count : ℕ) (buffer : List ℕ) (rows : ℕ) (buffer' : List ℕ) (rows' : ℕ) : Type 0 where
   pub more : rows' ≡ rows + count * 2
-  pub kept : (stack : List Row) → Holds buffer rows stack → Holds buffer' rows' (pushInstructionRows (table_of words) (rows_from first count) stack)
+  pub kept : (stack : List Row) → Holds buffer rows stack → Holds buffer' rows' (push_instruction_rows (table_of words) (rows_from first count) stack)
 
 -- the Rust's wrap_with_sequence: a SEQ row over `count` instructions, and none where there are none
-abbrev pub wrapTrailing : Trailing → ℕ → Trailing
-wrapTrailing trailing count = record { sequences = trailing.sequences + 1; instructions = trailing.instructions + count; loaded = trailing.loaded }
+abbrev pub wrap_trailing : Trailing → ℕ → Trailing
+wrap_trailing trailing count = record { sequences = trailing.sequences + 1; instructions = trailing.instructions + count; loaded = trailing.loaded }
 
 pub record Wrappable (count : ℕ) (v : ValueResult) : Type 0 where
   pub code : v.code ≡ 0
@@ -122,32 +122,32 @@ pub record Wrappable (count : ℕ) (v : ValueResult) : Type 0 where
 
 pub record Wrapped (count : ℕ) (v : ValueResult) (buffer : List ℕ) (r : ValueResult) (buffer' : List ℕ) : Type 0 where
   pub code : r.code ≡ 0
-  pub same : (value : Value) → blockResult r value ≡ blockResult v value
+  pub same : (value : Value) → block_result r value ≡ block_result v value
   pub none : count ≡ 0 → (r ≡ v) × (buffer' ≡ buffer)
-  pub some : (count ≡ 0 → ⊥) → (r.trailing ≡ wrapTrailing v.trailing count) × (r.tally.rows ≡ v.tally.rows + 1)
+  pub some : (count ≡ 0 → ⊥) → (r.trailing ≡ wrap_trailing v.trailing count) × (r.tally.rows ≡ v.tally.rows + 1)
   pub kept : (count ≡ 0 → ⊥) → (stack : List Row) → Holds buffer v.tally.rows stack → Holds buffer' r.tally.rows (row 5 count v.id 0 0 0 ∷ stack)
   pub visits : r.tally.visits ≡ v.tally.visits
   pub most : r.tally.rows ≤ v.tally.rows + 1
 
 -- the place that an instruction loads, if it is a LoadLocal
 pub record Loaded (words : List ℕ) (i place : ℕ) : Type 0 where
-  pub same : unlessNone place ≡ loadedBy (instructionAt (table_of words) i).operation
-  pub there : (place ≡ largest → ⊥) → place < placeCount words
+  pub same : unless_none place ≡ loaded_by (instruction_at (table_of words) i).operation
+  pub there : (place ≡ largest → ⊥) → place < place_count words
 
 -- whether an instruction stores to an identifier that is not named
-abbrev pub unnamedStore : List ℕ → ℕ → Bool
-unnamedStore words i = eqb (storedToNamed (table_of words) (instructionAt (table_of words) i).operation) 0
+abbrev pub unnamed_store : List ℕ → ℕ → Bool
+unnamed_store words i = eqb (stored_to_named (table_of words) (instruction_at (table_of words) i).operation) 0
 
 -- what value_block_result_to_sequence requires of a result; `Found` gives it
 pub record Flattens (words : List ℕ) (result : ValueResult) : Type 0 where
   pub promise : Promise words
-  pub place : result.place < placeCount words
-  pub there : (result.trailing.loaded ≡ largest → ⊥) → result.trailing.loaded < placeCount words
+  pub place : result.place < place_count words
+  pub there : (result.trailing.loaded ≡ largest → ⊥) → result.trailing.loaded < place_count words
   pub more : result.trailing.sequences + result.trailing.instructions < result.tally.rows
   pub room : result.tally.rows < 3000000000
 
 -- the buffer held the rows of the result's value, and holds those of the flattened value
 pub record Flattened (words : List ℕ) (result : ValueResult) (span : Span) (buffer : List ℕ) (buffer' : List ℕ) (rows' : ℕ) : Type 0 where
-  pub held : (value : Value) → Ends words value result.trailing → (stack : List Row) → Holds buffer result.tally.rows (pushValue value stack)
-      → Holds buffer' rows' (pushValue (valueBlockResultToSequence (table_of words) (blockResult result value) span) stack)
+  pub held : (value : Value) → Ends words value result.trailing → (stack : List Row) → Holds buffer result.tally.rows (push_value value stack)
+      → Holds buffer' rows' (push_value (value_block_result_to_sequence (table_of words) (block_result result value) span) stack)
   pub most : rows' ≤ result.tally.rows + 3

@@ -7,13 +7,13 @@ use Rattle.definition.specs.Tree.{Row, row}
 abbrev pub cells : Row → List ℕ
 cells (row op a b c d e) = op ∷ a ∷ b ∷ c ∷ d ∷ e ∷ []
 
-abbrev pub ifFits : Bool → (stored buffer : List ℕ) → List ℕ
-ifFits true stored buffer = stored
-ifFits false stored buffer = buffer
+abbrev pub if_fits : Bool → (stored buffer : List ℕ) → List ℕ
+if_fits true stored buffer = stored
+if_fits false stored buffer = buffer
 
 -- the buffer with a row at the place n, if it has that place whole
 unfoldable pub placed : List ℕ → ℕ → Row → List ℕ
-placed buffer n r = ifFits (ltb n (length buffer / 6)) (sets buffer (n * 6) (cells r)) buffer
+placed buffer n r = if_fits (ltb n (length buffer / 6)) (sets buffer (n * 6) (cells r)) buffer
 
 -- at the place n stands the row r. Nothing is said of a place that the buffer does not have whole
 abbrev pub RowAt : List ℕ → ℕ → Row → Type 0

@@ -1,28 +1,28 @@
 -- The definition's outcomes over the words, as the contracts of the walk cite them.
 use Rattle.std.specs.Prelude.{List, ℕ}
 use Rattle.table.specs.declared.columns.Span.{Span}
-use Rattle.table.specs.Table.{table_of, terminalAt, block_at, unlessNone}
+use Rattle.table.specs.Table.{table_of, terminal_at, block_at, unless_none}
 use Rattle.definition.specs.Result.{Result}
-use Rattle.definition.specs.Value.{ValueBlockResult, ValueTerminalResult, TestBlockResult, VisitValueBlock, visitValueBlock, visitValueBlockAt, visitValueBlockTerminal, visitTestBlock, thenFallthrough}
+use Rattle.definition.specs.Value.{ValueBlockResult, ValueTerminalResult, TestBlockResult, VisitValueBlock, visit_value_block, visit_value_block_at, visit_value_block_terminal, visit_test_block, then_fallthrough}
 
 -- the value walk with a number of levels of depth left
-abbrev pub visit : List ℕ → (depthLeft : ℕ) → VisitValueBlock
-visit words depthLeft = visitValueBlock (table_of words) depthLeft
+abbrev pub visit : List ℕ → (depth_left : ℕ) → VisitValueBlock
+visit words depth_left = visit_value_block (table_of words) depth_left
 
 -- a block, by its end: what a visit gives once it has begun
-abbrev pub blockOutcome : List ℕ → (depthLeft block fallthrough : ℕ) (span : Span) (visits : ℕ) → Result ValueBlockResult
-blockOutcome words depthLeft block fallthrough span visits =
-    visitValueBlockAt (table_of words) (visit words depthLeft) (terminalAt (table_of words) block) block (block_at (table_of words) block) (unlessNone fallthrough) span visits
+abbrev pub block_outcome : List ℕ → (depth_left block fallthrough : ℕ) (span : Span) (visits : ℕ) → Result ValueBlockResult
+block_outcome words depth_left block fallthrough span visits =
+    visit_value_block_at (table_of words) (visit words depth_left) (terminal_at (table_of words) block) block (block_at (table_of words) block) (unless_none fallthrough) span visits
 
 -- the value terminal at the end of a block
-abbrev pub terminalOutcome : List ℕ → (depthLeft block visits : ℕ) → Result ValueTerminalResult
-terminalOutcome words depthLeft block visits =
-    visitValueBlockTerminal (table_of words) (visit words depthLeft) (terminalAt (table_of words) block) (block_at (table_of words) block).id (block_at (table_of words) block).span visits block
+abbrev pub terminal_outcome : List ℕ → (depth_left block visits : ℕ) → Result ValueTerminalResult
+terminal_outcome words depth_left block visits =
+    visit_value_block_terminal (table_of words) (visit words depth_left) (terminal_at (table_of words) block) (block_at (table_of words) block).id (block_at (table_of words) block).span visits block
 
 -- that terminal's value as an instruction, and the value of its fallthrough
-abbrev pub fallthroughOutcome : List ℕ → (depthLeft block : ℕ) (span : Span) (visits : ℕ) → Result ValueBlockResult
-fallthroughOutcome words depthLeft block span visits =
-    thenFallthrough (table_of words) (visit words depthLeft) (block_at (table_of words) block) span (terminalOutcome words depthLeft block visits)
+abbrev pub fallthrough_outcome : List ℕ → (depth_left block : ℕ) (span : Span) (visits : ℕ) → Result ValueBlockResult
+fallthrough_outcome words depth_left block span visits =
+    then_fallthrough (table_of words) (visit words depth_left) (block_at (table_of words) block) span (terminal_outcome words depth_left block visits)
 
-abbrev pub testOutcome : List ℕ → (depthLeft block : ℕ) (span : Span) (visits at : ℕ) → Result TestBlockResult
-testOutcome words depthLeft block span visits at = visitTestBlock (table_of words) (visit words depthLeft) block span visits at
+abbrev pub test_outcome : List ℕ → (depth_left block : ℕ) (span : Span) (visits at : ℕ) → Result TestBlockResult
+test_outcome words depth_left block span visits at = visit_test_block (table_of words) (visit words depth_left) block span visits at

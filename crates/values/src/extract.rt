@@ -1,11 +1,11 @@
 // The value of a block's instructions: the last of them, with the others in a sequence before it.
 ghost use Rattle.std.specs.Prelude.{◌≡◌, ◌+◌, ◌<◌};
-ghost use Rattle.table.specs.Words.{blockCount, instructionCount, placeCount};
+ghost use Rattle.table.specs.Words.{block_count, instruction_count, place_count};
 ghost use Rattle.table.specs.Table.{table_of, block_at};
 ghost use Rattle.table.specs.Promise.{Promise};
-ghost use Rattle.definition.specs.Value.{isEmptyGoto};
-ghost use Rattle.values.specs.Met.{blockResult, Fit, Met, Wrappable, Wrapped, Loaded, unnamedStore};
-ghost use Rattle.values.specs.Outcome.{runOutcome, extractOutcome, branchOutcome};
+ghost use Rattle.definition.specs.Value.{is_empty_goto};
+ghost use Rattle.values.specs.Met.{block_result, Fit, Met, Wrappable, Wrapped, Loaded, unnamed_store};
+ghost use Rattle.values.specs.Outcome.{run_outcome, extract_outcome, branch_outcome};
 
 use crate::instructions::put_instructions;
 use crate::result::{NONE, Tally, Trailing, ValueResult};
@@ -19,8 +19,8 @@ use table::words::{identifier_word, place_word};
 // Whether an instruction is a StoreLocal to an identifier with no name.
 fn stores_to_unnamed(words: &[u32], i: u32) -> bool
     requires promise { Promise words.now }
-    requires i_bound { i < instructionCount words.now }
-    ensures { result ≡ unnamedStore words.now i }
+    requires i_bound { i < instruction_count words.now }
+    ensures { result ≡ unnamed_store words.now i }
 {
     if operation_code_at(words, i) != 2 {
         return false;
@@ -32,7 +32,7 @@ fn stores_to_unnamed(words: &[u32], i: u32) -> bool
 // The place that a LoadLocal loads; NONE for any other instruction.
 fn loaded_by(words: &[u32], i: u32) -> u32
     requires promise { Promise words.now }
-    requires i_bound { i < instructionCount words.now }
+    requires i_bound { i < instruction_count words.now }
     ensures { Loaded words.now i result }
 {
     if operation_code_at(words, i) != 1 {
@@ -45,8 +45,8 @@ fn loaded_by(words: &[u32], i: u32) -> u32
 // whose value is stored (q), and the result's place is the one stored to (p)."
 fn final_value(words: &[u32], buffer: &mut [u32], tally: Tally, i: u32, block: u32) -> ValueResult
     requires fit { Fit words.now tally 1 block }
-    requires i_bound { i < instructionCount words.now }
-    ensures { Met words.now blockResult (runOutcome words.now block i 0 tally.visits) tally 1 buffer.old result buffer.new }
+    requires i_bound { i < instruction_count words.now }
+    ensures { Met words.now block_result (run_outcome words.now block i 0 tally.visits) tally 1 buffer.old result buffer.new }
 {
     let head = instruction_at(words, i);
     if stores_to_unnamed(words, i) {
@@ -92,8 +92,8 @@ fn extract_value_block_result(
     more: u32,
 ) -> ValueResult
     requires fit { Fit words.now tally 8192 block }
-    requires more_bound { first + more < instructionCount words.now }
-    ensures { Met words.now blockResult (runOutcome words.now block first more tally.visits) tally 8192 buffer.old result buffer.new }
+    requires more_bound { first + more < instruction_count words.now }
+    ensures { Met words.now block_result (run_outcome words.now block first more tally.visits) tally 8192 buffer.old result buffer.new }
 {
     let rows = put_instructions(words, buffer, tally.rows, first, more);
     let after = Tally {
@@ -114,9 +114,9 @@ pub fn extract_or_refuse(
     code: u32,
 ) -> ValueResult
     requires fit { Fit words.now tally 8192 block }
-    requires ends_in_bound { ends_in < blockCount words.now }
+    requires ends_in_bound { ends_in < block_count words.now }
     requires code_nonzero { 0 < code }
-    ensures { Met words.now blockResult (extractOutcome words.now block ends_in code tally.visits) tally 8192 buffer.old result buffer.new }
+    ensures { Met words.now block_result (extract_outcome words.now block ends_in code tally.visits) tally 8192 buffer.old result buffer.new }
 {
     let head = block_at(words, block);
     if head.count == 0 {
@@ -134,8 +134,8 @@ pub fn branch_value(
     test: u32,
 ) -> ValueResult
     requires fit { Fit words.now tally 8192 block }
-    requires test_bound { test < placeCount words.now }
-    ensures { Met words.now blockResult (branchOutcome words.now block test tally.visits) tally 8192 buffer.old result buffer.new }
+    requires test_bound { test < place_count words.now }
+    ensures { Met words.now block_result (branch_outcome words.now block test tally.visits) tally 8192 buffer.old result buffer.new }
 {
     let head = block_at(words, block);
     if head.count == 0 {
@@ -148,8 +148,8 @@ pub fn branch_value(
 // Whether a block is a Goto with no instruction.
 pub fn is_empty_goto(words: &[u32], block: u32) -> bool
     requires promise { Promise words.now }
-    requires block_bound { block < blockCount words.now }
-    ensures { result ≡ isEmptyGoto (block_at (table_of words.now) block) }
+    requires block_bound { block < block_count words.now }
+    ensures { result ≡ is_empty_goto (block_at (table_of words.now) block) }
 {
     if block_at(words, block).count != 0 {
         return false;

@@ -1,9 +1,9 @@
 // Flattening: a value of a For, ForOf or ForIn as one sequence that ends in UNDEF.
 ghost use Rattle.std.specs.Prelude.{◌≡◌, ◌+◌, ◌<◌};
-ghost use Rattle.table.specs.Words.{placeCount, largest};
-ghost use Rattle.table.specs.Table.{table_of, unlessNone};
+ghost use Rattle.table.specs.Words.{place_count, largest};
+ghost use Rattle.table.specs.Table.{table_of, unless_none};
 ghost use Rattle.table.specs.Promise.{Promise};
-ghost use Rattle.definition.specs.Value.{sameIdentifier};
+ghost use Rattle.definition.specs.Value.{same_identifier};
 ghost use Rattle.values.specs.Met.{Flattens, Flattened};
 
 use crate::result::{NONE, ValueResult};
@@ -14,9 +14,9 @@ use table::words::place_word;
 // Whether a value loads a place that has the identifier of `place`. Identifiers are compared, not places.
 fn loads_same_identifier(words: &[u32], place: u32, loaded: u32) -> bool
     requires promise { Promise words.now }
-    requires place_bound { place < placeCount words.now }
-    requires loaded_bound { (loaded ≡ largest → ⊥) → loaded < placeCount words.now }
-    ensures { result ≡ sameIdentifier (table_of words.now) place (unlessNone loaded) }
+    requires place_bound { place < place_count words.now }
+    requires loaded_bound { (loaded ≡ largest → ⊥) → loaded < place_count words.now }
+    ensures { result ≡ same_identifier (table_of words.now) place (unless_none loaded) }
 {
     if loaded == NONE {
         return false;

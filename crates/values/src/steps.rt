@@ -1,6 +1,6 @@
 // The results of the value walk's steps, and the rows that they put.
 ghost use Rattle.std.specs.Prelude.{◌≡◌, ◌<◌};
-ghost use Rattle.definition.specs.Tree.{row, instrRow};
+ghost use Rattle.definition.specs.Tree.{row, instr_row};
 ghost use Rattle.values.specs.Met.{loads, refusal, finished, RowPut};
 
 use crate::result::{NONE, Tally, Trailing, ValueResult};
@@ -65,7 +65,7 @@ pub fn put_row(buffer: &mut [u32], tally: Tally, op: u32, a: u32, b: u32) -> Tal
 // Puts the INSTR row of the value whose rows are out.
 pub fn put_instr(buffer: &mut [u32], tally: Tally, id: u32, lvalue: u32, span: Span) -> Tally
     requires { tally.rows < 4000000000 }
-    ensures { RowPut buffer.old tally (instrRow id lvalue span) buffer.new result }
+    ensures { RowPut buffer.old tally (instr_row id lvalue span) buffer.new result }
 {
     let rows = put(buffer, tally.rows, INSTR, id, lvalue, span.from, span.to, 0);
     Tally {

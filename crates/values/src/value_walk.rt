@@ -2,10 +2,10 @@
 // `levels` is the number of levels of depth that are left, 128 minus the depth. It falls with each call.
 ghost use Rattle.std.specs.Prelude.{◌≡◌};
 ghost use Rattle.table.specs.Words.{code_at};
-ghost use Rattle.table.specs.Table.{unlessNone};
-ghost use Rattle.values.specs.Met.{blockResult, terminalResult, Fit, Met};
-ghost use Rattle.values.specs.Tested.{noBranch, TestMet};
-ghost use Rattle.values.specs.WalkOutcome.{visit, blockOutcome, terminalOutcome, fallthroughOutcome, testOutcome};
+ghost use Rattle.table.specs.Table.{unless_none};
+ghost use Rattle.values.specs.Met.{block_result, terminal_result, Fit, Met};
+ghost use Rattle.values.specs.Tested.{no_branch, TestMet};
+ghost use Rattle.values.specs.WalkOutcome.{visit, block_outcome, terminal_outcome, fallthrough_outcome, test_outcome};
 
 use crate::extract::{branch_value, extract_or_refuse, is_empty_goto, wrap_with_sequence};
 use crate::instructions::put_instructions;
@@ -29,7 +29,7 @@ pub fn visit_value_block(
     span: Span,
 ) -> ValueResult
     requires { Fit words.now tally 0 block }
-    ensures { Met words.now blockResult (visit words.now levels block (unlessNone fallthrough) span tally.visits) tally 0 buffer.old result buffer.new }
+    ensures { Met words.now block_result (visit words.now levels block (unless_none fallthrough) span tally.visits) tally 0 buffer.old result buffer.new }
 {
     if levels == 0 {
         return refused(30, block, tally);
@@ -72,7 +72,7 @@ fn maybe_throw_value(
 ) -> ValueResult
     requires fit { Fit words.now tally 8200 block }
     requires block_value { code_at words.now block ≡ 18 }
-    ensures { Met words.now blockResult (blockOutcome words.now levels block fallthrough span tally.visits) tally 8200 buffer.old result buffer.new }
+    ensures { Met words.now block_result (block_outcome words.now levels block fallthrough span tally.visits) tally 8200 buffer.old result buffer.new }
 {
     let continuation = maybe_throw_at(words, block).continuation;
     if code_at(words, continuation) == 0 {
@@ -105,7 +105,7 @@ fn then_fallthrough(
     span: Span,
 ) -> ValueResult
     requires { Fit words.now tally 8200 block }
-    ensures { Met words.now blockResult (fallthroughOutcome words.now levels block span tally.visits) tally 8200 buffer.old result buffer.new }
+    ensures { Met words.now block_result (fallthrough_outcome words.now levels block span tally.visits) tally 8200 buffer.old result buffer.new }
 {
     let head = block_at(words, block);
     let rows = put_instructions(words, buffer, tally.rows, head.first, head.count);
@@ -135,7 +135,7 @@ pub fn visit_value_block_terminal(
     block: u32,
 ) -> ValueResult
     requires { Fit words.now tally 4 block }
-    ensures { Met words.now terminalResult (terminalOutcome words.now levels block tally.visits) tally 3 buffer.old result buffer.new }
+    ensures { Met words.now terminal_result (terminal_outcome words.now levels block tally.visits) tally 3 buffer.old result buffer.new }
 {
     match code_at(words, block) {
         13 => logical_value(words, buffer, tally, levels, block),
@@ -162,7 +162,7 @@ pub struct TestBlock {
 }
 
 fn no_branch(test: ValueResult) -> TestBlock
-    ensures { result ≡ noBranch test }
+    ensures { result ≡ no_branch test }
 {
     TestBlock {
         test,
@@ -184,7 +184,7 @@ fn visit_test_block(
     at: u32,
 ) -> TestBlock
     requires { Fit words.now tally 0 block }
-    ensures { TestMet words.now (testOutcome words.now levels block span tally.visits at) tally buffer.old result buffer.new }
+    ensures { TestMet words.now (test_outcome words.now levels block span tally.visits at) tally buffer.old result buffer.new }
 {
     let test = visit_value_block(words, buffer, tally, levels, block, NONE, span);
     if test.code != 0 {
@@ -215,7 +215,7 @@ fn logical_value(
 ) -> ValueResult
     requires fit { Fit words.now tally 4 block }
     requires block_value { code_at words.now block ≡ 13 }
-    ensures { Met words.now terminalResult (terminalOutcome words.now levels block tally.visits) tally 3 buffer.old result buffer.new }
+    ensures { Met words.now terminal_result (terminal_outcome words.now levels block tally.visits) tally 3 buffer.old result buffer.new }
 {
     let terminal = logical_at(words, block);
     let head = block_at(words, block);
@@ -272,7 +272,7 @@ fn ternary_value(
 ) -> ValueResult
     requires fit { Fit words.now tally 4 block }
     requires block_value { code_at words.now block ≡ 14 }
-    ensures { Met words.now terminalResult (terminalOutcome words.now levels block tally.visits) tally 3 buffer.old result buffer.new }
+    ensures { Met words.now terminal_result (terminal_outcome words.now levels block tally.visits) tally 3 buffer.old result buffer.new }
 {
     let terminal = ternary_at(words, block);
     let head = block_at(words, block);
@@ -327,7 +327,7 @@ fn optional_value(
 ) -> ValueResult
     requires fit { Fit words.now tally 4 block }
     requires block_value { code_at words.now block ≡ 15 }
-    ensures { Met words.now terminalResult (terminalOutcome words.now levels block tally.visits) tally 3 buffer.old result buffer.new }
+    ensures { Met words.now terminal_result (terminal_outcome words.now levels block tally.visits) tally 3 buffer.old result buffer.new }
 {
     let terminal = optional_at(words, block);
     let head = block_at(words, block);
@@ -373,7 +373,7 @@ fn sequence_value(
 ) -> ValueResult
     requires fit { Fit words.now tally 4 block }
     requires block_value { code_at words.now block ≡ 17 }
-    ensures { Met words.now terminalResult (terminalOutcome words.now levels block tally.visits) tally 3 buffer.old result buffer.new }
+    ensures { Met words.now terminal_result (terminal_outcome words.now levels block tally.visits) tally 3 buffer.old result buffer.new }
 {
     let terminal = sequence_at(words, block);
     let head = block_at(words, block);

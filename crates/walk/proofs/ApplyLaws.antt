@@ -7,16 +7,16 @@ use mathlib.Core.Option.{Option, none, some}
 use lib.ListN.{length, get_or, set, length-set}
 use lib.Dec.{eqb}
 use borrow.Author.Tests.{eq-eqb, ne_eqb}
-use Rattle.table.specs.Table.{unlessNone}
+use Rattle.table.specs.Table.{unless_none}
 use Rattle.table.proofs.BlockLaws.{no_number, some_number}
-use Rattle.definition.specs.Context.{Flags, add, emit, remove, blockAsked, scheduledBy, scheduleCatchHandler, markScopeFallthrough, unscheduledBy}
-use Rattle.definition.specs.Context.{ControlFlowTarget, target-if, target-switch, target-case, target-loop}
+use Rattle.definition.specs.Context.{Flags, add, emit, remove, block_asked, scheduled_by, schedule_catch_handler, mark_scope_fallthrough, unscheduled_by}
+use Rattle.definition.specs.Context.{ControlFlowTarget, target_if, target_switch, target_case, target_loop}
 use Rattle.definition.specs.Context as definition
 use Rattle.definition.specs.Result.{Result, ok, refused}
 use Rattle.control.specs.declared.ControlFlowTarget as code
 use Rattle.control.specs.declared.Context.{Context}
 use Rattle.control.specs.declared.Entry.{Entry}
-use Rattle.control.specs.Abstraction.{target_of, noEntry, context_of, entered_of, result_of, stored}
+use Rattle.control.specs.Abstraction.{target_of, no_entry, context_of, entered_of, result_of, stored}
 use Rattle.control.specs.Contract.{Named, Room, Bounded, Last, Scheduled, Unscheduled}
 use Rattle.control.proofs.ContextLaws.{stores}
 use Rattle.machine.specs.Framed.{Below}
@@ -33,11 +33,11 @@ emitted none cx = cx
 emitted (some block) cx = emit block cx
 
 -- the Context with its sets marked
-abbrev pub withMarks : (visited handler fallthrough : ℕ) → Context → Context
-withMarks visited handler fallthrough cx = record {
-  emitted = marked (unlessNone visited) cx.emitted;
-  catch_handlers = marked (unlessNone handler) cx.catch_handlers;
-  scope_fallthroughs = marked (unlessNone fallthrough) cx.scope_fallthroughs;
+abbrev pub with_marks : (visited handler fallthrough : ℕ) → Context → Context
+with_marks visited handler fallthrough cx = record {
+  emitted = marked (unless_none visited) cx.emitted;
+  catch_handlers = marked (unless_none handler) cx.catch_handlers;
+  scope_fallthroughs = marked (unless_none fallthrough) cx.scope_fallthroughs;
   len = cx.len;
   scheduled = cx.scheduled;
   pushed = cx.pushed;
@@ -47,8 +47,8 @@ withMarks visited handler fallthrough cx = record {
 }
 
 -- the three sets as the calls of `mark` leave them
-pub marks-as : (visited handler fallthrough asked : ℕ) (cx : Context) (emitted handlers scopes : Flags) → asked ≡ visited → emitted ≡ marked (unlessNone asked) cx.emitted
-    → handlers ≡ marked (unlessNone handler) cx.catch_handlers → scopes ≡ marked (unlessNone fallthrough) cx.scope_fallthroughs
+pub marks_as : (visited handler fallthrough asked : ℕ) (cx : Context) (emitted handlers scopes : Flags) → asked ≡ visited → emitted ≡ marked (unless_none asked) cx.emitted
+    → handlers ≡ marked (unless_none handler) cx.catch_handlers → scopes ≡ marked (unless_none fallthrough) cx.scope_fallthroughs
     → record {
       emitted = emitted;
       catch_handlers = handlers;
@@ -59,8 +59,8 @@ pub marks-as : (visited handler fallthrough asked : ℕ) (cx : Context) (emitted
       refused = cx.refused;
       next_schedule_id = cx.next_schedule_id;
       stack = cx.stack;
-    } ≡ withMarks visited handler fallthrough cx
-marks-as visited handler fallthrough asked cx emitted handlers scopes v e h f = rw (e, h, f, v) refl
+    } ≡ with_marks visited handler fallthrough cx
+marks_as visited handler fallthrough asked cx emitted handlers scopes v e h f = rw (e, h, f, v) refl
 
 -- what a change asks of the Context
 abbrev pub Changeable : Change → Context → Type 0
@@ -84,39 +84,39 @@ pub record Blocked (change : Change) (cx : Context) (code at : ℕ) : Type 0 whe
   pub refuses : code ≡ 0 → ⊥
 
 pub record Applicable (visited : ℕ) (plan : Plan) (cx : Context) : Type 0 where
-  pub block : Below 1024 (unlessNone visited)
-  pub handler : Below 1024 (unlessNone plan.handler)
-  pub scope : Below 1024 (unlessNone plan.scope)
+  pub block : Below 1024 (unless_none visited)
+  pub handler : Below 1024 (unless_none plan.handler)
+  pub scope : Below 1024 (unless_none plan.scope)
   pub change : Changeable plan.change cx
   pub whole : Whole cx
 
 pub record Applied (visited : ℕ) (plan : Plan) (cx r : Context) : Type 0 where
-  pub context : (visits : ℕ) → changed plan.change (context_of visits (withMarks visited plan.handler plan.scope cx)) ≡ ok (context_of visits r)
+  pub context : (visits : ℕ) → changed plan.change (context_of visits (with_marks visited plan.handler plan.scope cx)) ≡ ok (context_of visits r)
   pub whole : Whole r
 
 -- ---- the stack
 
-pub nothing-changed : (cx : Context) → Whole cx → Changed Nothing cx cx
-nothing-changed cx w = record { context = λ visits. refl; whole = w }
+pub nothing_changed : (cx : Context) → Whole cx → Changed Nothing cx cx
+nothing_changed cx w = record { context = λ visits. refl; whole = w }
 
-length-scheduled : (target : ControlFlowTarget) (flags : Flags) → length (scheduledBy target flags) ≡ length flags
+length_scheduled : (target : ControlFlowTarget) (flags : Flags) → length (scheduled_by target flags) ≡ length flags
 unfolding add
-length-scheduled (target-if b) s = length-set s b true
-length-scheduled (target-switch b) s = length-set s b true
-length-scheduled (target-case b) s = length-set s b true
-length-scheduled (target-loop b c l) s = length-set (set (set s b true) c true) l true ∙ length-set (set s b true) c true ∙ length-set s b true
+length_scheduled (target_if b) s = length-set s b true
+length_scheduled (target_switch b) s = length-set s b true
+length_scheduled (target_case b) s = length-set s b true
+length_scheduled (target_loop b c l) s = length-set (set (set s b true) c true) l true ∙ length-set (set s b true) c true ∙ length-set s b true
 
 -- whether the target that went on is refused, as `schedule` tells
 module _ (target : code.ControlFlowTarget) (cx r : Context) (h : Scheduled target cx r) (w : Whole cx) where
   result_by : (visits : ℕ) (y : Bool) → eqb r.refused 0 ≡ y
-      → result_of visits r ≡ elim y [ true ↦ ok (entered_of visits r) | false ↦ refused r.refused (blockAsked (target_of r.pushed.target)) visits ]
-  result_by visits y e = ap (λ (z : Bool). elim z [ true ↦ ok (entered_of visits r) | false ↦ refused r.refused (blockAsked (target_of r.pushed.target)) visits ]) e
+      → result_of visits r ≡ elim y [ true ↦ ok (entered_of visits r) | false ↦ refused r.refused (block_asked (target_of r.pushed.target)) visits ]
+  result_by visits y e = ap (λ (z : Bool). elim z [ true ↦ ok (entered_of visits r) | false ↦ refused r.refused (block_asked (target_of r.pushed.target)) visits ]) e
 
-  asked_of : blockAsked (target_of r.pushed.target) ≡ blockAsked (target_of target)
-  asked_of = ap (λ (z : Context). blockAsked (target_of z.pushed.target)) h.state
+  asked_of : block_asked (target_of r.pushed.target) ≡ block_asked (target_of target)
+  asked_of = ap (λ (z : Context). block_asked (target_of z.pushed.target)) h.state
 
-  pub schedule-blocked : (r.refused ≡ 0 → ⊥) → Blocked (Schedule target) cx r.refused (blockAsked (target_of target))
-  schedule-blocked b = record {
+  pub schedule_blocked : (r.refused ≡ 0 → ⊥) → Blocked (Schedule target) cx r.refused (block_asked (target_of target))
+  schedule_blocked b = record {
     context = λ visits. h.context visits ∙ result_by visits false (ne_eqb r.refused 0 b) ∙ ap (λ (at : ℕ). refused r.refused at visits) asked_of;
     refuses = b;
   }
@@ -124,26 +124,26 @@ module _ (target : code.ControlFlowTarget) (cx r : Context) (h : Scheduled targe
   long : length r.stack ≡ 1152
   long = ap (λ (z : Context). length z.stack) h.state ∙ w.tall
 
-  pub schedule-changed : r.refused ≡ 0 → cx.len < 1152 → Changed (Schedule target) cx (stored r)
-  schedule-changed b small = record {
+  pub schedule_changed : r.refused ≡ 0 → cx.len < 1152 → Changed (Schedule target) cx (stored r)
+  schedule_changed b small = record {
     context = λ visits. h.context visits ∙ result_by visits true (eq-eqb r.refused 0 b) ∙ ap ok (sym (stores visits r (omega (arith, h.len)) (omega (arith, h.len, long))));
     whole = unfold stored in record {
       bounded = h.bounded w.bounded;
-      wide = ap (λ (z : Context). length z.scheduled) h.state ∙ length-scheduled (target_of target) cx.scheduled ∙ w.wide;
+      wide = ap (λ (z : Context). length z.scheduled) h.state ∙ length_scheduled (target_of target) cx.scheduled ∙ w.wide;
       tall = length-set r.stack (r.len - 1) r.pushed ∙ long;
     };
   }
 
-length_removed : (target : ControlFlowTarget) (owner : Bool) (flags : Flags) → length (unscheduledBy target owner flags) ≡ length flags
-unfolding unscheduledBy remove
-length_removed (target-if b) o s = length-set s b false
-length_removed (target-switch b) o s = length-set s b false
-length_removed (target-case b) o s = length-set s b false
-length_removed (target-loop b c l) false s = length-set (set s b false) c false ∙ length-set s b false
-length_removed (target-loop b c l) true s = length-set (set (set s b false) c false) l false ∙ length-set (set s b false) c false ∙ length-set s b false
+length_removed : (target : ControlFlowTarget) (owner : Bool) (flags : Flags) → length (unscheduled_by target owner flags) ≡ length flags
+unfolding unscheduled_by remove
+length_removed (target_if b) o s = length-set s b false
+length_removed (target_switch b) o s = length-set s b false
+length_removed (target_case b) o s = length-set s b false
+length_removed (target_loop b c l) false s = length-set (set s b false) c false ∙ length-set s b false
+length_removed (target_loop b c l) true s = length-set (set (set s b false) c false) l false ∙ length-set (set s b false) c false ∙ length-set s b false
 
-pub unschedule-changed : (last : Entry) (cx r : Context) → Unscheduled last cx r → Whole cx → Changed Unschedule cx r
-unschedule-changed last cx r h w = record {
+pub unschedule_changed : (last : Entry) (cx r : Context) → Unscheduled last cx r → Whole cx → Changed Unschedule cx r
+unschedule_changed last cx r h w = record {
   context = λ visits. ap ok (sym (h.pops visits));
   whole = record {
     bounded = h.bounded w.bounded;
@@ -154,7 +154,7 @@ unschedule-changed last cx r h w = record {
 
 -- ---- the sets
 
-marks-by : (visited handler fallthrough : Option ℕ) (cx : Context) (visits : ℕ) → context_of visits (record {
+marks_by : (visited handler fallthrough : Option ℕ) (cx : Context) (visits : ℕ) → context_of visits (record {
   emitted = marked visited cx.emitted;
   catch_handlers = marked handler cx.catch_handlers;
   scope_fallthroughs = marked fallthrough cx.scope_fallthroughs;
@@ -165,44 +165,44 @@ marks-by : (visited handler fallthrough : Option ℕ) (cx : Context) (visits : �
   next_schedule_id = cx.next_schedule_id;
   stack = cx.stack;
 }) ≡ scoped fallthrough (handled handler (emitted visited (context_of visits cx)))
-unfolding context_of emit scheduleCatchHandler markScopeFallthrough
-marks-by none none none cx visits = refl
-marks-by none none (some f) cx visits = refl
-marks-by none (some h) none cx visits = refl
-marks-by none (some h) (some f) cx visits = refl
-marks-by (some b) none none cx visits = refl
-marks-by (some b) none (some f) cx visits = refl
-marks-by (some b) (some h) none cx visits = refl
-marks-by (some b) (some h) (some f) cx visits = refl
+unfolding context_of emit schedule_catch_handler mark_scope_fallthrough
+marks_by none none none cx visits = refl
+marks_by none none (some f) cx visits = refl
+marks_by none (some h) none cx visits = refl
+marks_by none (some h) (some f) cx visits = refl
+marks_by (some b) none none cx visits = refl
+marks_by (some b) none (some f) cx visits = refl
+marks_by (some b) (some h) none cx visits = refl
+marks_by (some b) (some h) (some f) cx visits = refl
 
 pub marks : (visited handler fallthrough : ℕ) (cx : Context) (visits : ℕ)
-    → context_of visits (withMarks visited handler fallthrough cx) ≡ scoped (unlessNone fallthrough) (handled (unlessNone handler) (emitted (unlessNone visited) (context_of visits cx)))
-marks visited handler fallthrough cx visits = marks-by (unlessNone visited) (unlessNone handler) (unlessNone fallthrough) cx visits
+    → context_of visits (with_marks visited handler fallthrough cx) ≡ scoped (unless_none fallthrough) (handled (unless_none handler) (emitted (unless_none visited) (context_of visits cx)))
+marks visited handler fallthrough cx visits = marks_by (unless_none visited) (unless_none handler) (unless_none fallthrough) cx visits
 
-pub changeable-marked : (change : Change) (visited handler fallthrough : ℕ) (cx : Context) → Changeable change cx → Changeable change (withMarks visited handler fallthrough cx)
-changeable-marked Nothing visited handler fallthrough cx h = tt
-changeable-marked (Schedule target) visited handler fallthrough cx (n, r) = (n, record { len = r.len; id = r.id })
-changeable-marked Unschedule visited handler fallthrough cx h = h
+pub changeable_marked : (change : Change) (visited handler fallthrough : ℕ) (cx : Context) → Changeable change cx → Changeable change (with_marks visited handler fallthrough cx)
+changeable_marked Nothing visited handler fallthrough cx h = tt
+changeable_marked (Schedule target) visited handler fallthrough cx (n, r) = (n, record { len = r.len; id = r.id })
+changeable_marked Unschedule visited handler fallthrough cx h = h
 
-pub plan-applied : (visited : ℕ) (plan : Plan) (cx m r : Context) → m ≡ withMarks visited plan.handler plan.scope cx → Changed plan.change m r → Applied visited plan cx r
-plan-applied visited plan cx m r e h = record { context = λ visits. ap (λ (z : Context). changed plan.change (context_of visits z)) (sym e) ∙ h.context visits; whole = h.whole }
+pub plan_applied : (visited : ℕ) (plan : Plan) (cx m r : Context) → m ≡ with_marks visited plan.handler plan.scope cx → Changed plan.change m r → Applied visited plan cx r
+plan_applied visited plan cx m r e h = record { context = λ visits. ap (λ (z : Context). changed plan.change (context_of visits z)) (sym e) ∙ h.context visits; whole = h.whole }
 
 -- ---- one mark
 
-pub marked-none : (n : ℕ) (flags : Flags) → n ≡ 65535 → flags ≡ marked (unlessNone n) flags
-marked-none n flags e = ap (λ (o : Option ℕ). marked o flags) (sym (ap unlessNone e ∙ no_number))
+pub marked_none : (n : ℕ) (flags : Flags) → n ≡ 65535 → flags ≡ marked (unless_none n) flags
+marked_none n flags e = ap (λ (o : Option ℕ). marked o flags) (sym (ap unless_none e ∙ no_number))
 
-pub marked-some : (n : ℕ) (flags : Flags) → (n ≡ 65535 → ⊥) → add flags n ≡ marked (unlessNone n) flags
-marked-some n flags h = ap (λ (o : Option ℕ). marked o flags) (sym (some_number n h))
+pub marked_some : (n : ℕ) (flags : Flags) → (n ≡ 65535 → ⊥) → add flags n ≡ marked (unless_none n) flags
+marked_some n flags h = ap (λ (o : Option ℕ). marked o flags) (sym (some_number n h))
 
-pub below-block : (n : ℕ) → Below 1024 (unlessNone n) → (n ≡ 65535 → ⊥) → n < 1024
-below-block n b h = subst (λ (o : Option ℕ). Below 1024 o) (some_number n h) b
+pub below_block : (n : ℕ) → Below 1024 (unless_none n) → (n ≡ 65535 → ⊥) → n < 1024
+below_block n b h = subst (λ (o : Option ℕ). Below 1024 o) (some_number n h) b
 
-pub whole-marked : (visited handler fallthrough : ℕ) (cx : Context) → Whole cx → Whole (withMarks visited handler fallthrough cx)
-whole-marked visited handler fallthrough cx w = record { bounded = w.bounded; wide = w.wide; tall = w.tall }
+pub whole_marked : (visited handler fallthrough : ℕ) (cx : Context) → Whole cx → Whole (with_marks visited handler fallthrough cx)
+whole_marked visited handler fallthrough cx w = record { bounded = w.bounded; wide = w.wide; tall = w.tall }
 
 -- ---- what the methods ask
 
-pub last_entry : (cx : Context) (last : Entry) → 0 < cx.len → last ≡ get_or cx.stack (cx.len - 1) noEntry → Whole cx → Last cx last
+pub last_entry : (cx : Context) (last : Entry) → 0 < cx.len → last ≡ get_or cx.stack (cx.len - 1) no_entry → Whole cx → Last cx last
 last_entry cx last h e w =
     record { nonempty = h; read = e; named = subst (λ (z : Entry). Named z.target) (sym e) (w.bounded.named (cx.len - 1) (omega arith)) }

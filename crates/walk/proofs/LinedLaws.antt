@@ -8,64 +8,64 @@ use lib.Dec.{ltb}
 use lib.ListN.{length, take, drop, length-append}
 use lib.Seq.{sets, sets-eq, length-sets, length-take-le, take_at}
 use borrow.Author.Tests.{lt-ltb, le-ltb, ltb-true, ltb-false}
-use Rattle.definition.specs.Index.{Line, lineWords}
+use Rattle.definition.specs.Index.{Line, line_words}
 use Rattle.definition.specs.Output.{Output, ◌⊕◌}
 use Rattle.definition.specs.Tree.{Row}
 use Rattle.statements.specs.declared.plan.Line as plan
 use Rattle.statements.specs.declared.plan.Line.TheVariants as line
-use Rattle.statements.specs.Plans.{linesBy, lined}
-use Rattle.walk.specs.Lined.{linePlaced, HoldsLines, LinePut}
+use Rattle.statements.specs.Plans.{lines_by, lined}
+use Rattle.walk.specs.Lined.{line_placed, HoldsLines, LinePut}
 
-line-words-append : (xs ys : List Line) → lineWords (xs ++ ys) ≡ lineWords xs ++ lineWords ys
-unfolding lineWords
-line-words-append [] ys = refl
-line-words-append (x ∷ xs) ys = ap (λ (z : List ℕ). x.label ∷ x.first ∷ x.closing ∷ z) (line-words-append xs ys)
+line_words_append : (xs ys : List Line) → line_words (xs ++ ys) ≡ line_words xs ++ line_words ys
+unfolding line_words
+line_words_append [] ys = refl
+line_words_append (x ∷ xs) ys = ap (λ (z : List ℕ). x.label ∷ x.first ∷ x.closing ∷ z) (line_words_append xs ys)
 
 module _ (index : List ℕ) (n label first closing : ℕ) where
   abbrev words : List ℕ
   words = label ∷ first ∷ closing ∷ []
 
-  pub placed-here : n < length index / 3 → sets index (n * 3) words ≡ linePlaced index n label first closing
-  unfolding linePlaced
-  placed-here h = ap (λ (y : Bool). elim y [ true ↦ sets index (n * 3) words | false ↦ index ]) (sym (lt-ltb n (length index / 3) h))
+  pub placed_here : n < length index / 3 → sets index (n * 3) words ≡ line_placed index n label first closing
+  unfolding line_placed
+  placed_here h = ap (λ (y : Bool). elim y [ true ↦ sets index (n * 3) words | false ↦ index ]) (sym (lt-ltb n (length index / 3) h))
 
-  pub placed-nowhere : length index / 3 ≤ n → index ≡ linePlaced index n label first closing
-  unfolding linePlaced
-  placed-nowhere h = ap (λ (y : Bool). elim y [ true ↦ sets index (n * 3) words | false ↦ index ]) (sym (le-ltb n (length index / 3) h))
+  pub placed_nowhere : length index / 3 ≤ n → index ≡ line_placed index n label first closing
+  unfolding line_placed
+  placed_nowhere h = ap (λ (y : Bool). elim y [ true ↦ sets index (n * 3) words | false ↦ index ]) (sym (le-ltb n (length index / 3) h))
 
-  placed-length : length (linePlaced index n label first closing) ≡ length index
-  unfolding linePlaced
-  placed-length = at (ltb n (length index / 3))
+  placed_length : length (line_placed index n label first closing) ≡ length index
+  unfolding line_placed
+  placed_length = at (ltb n (length index / 3))
     where
       at : (y : Bool) → length {A = ℕ} (elim y [ true ↦ sets index (n * 3) words | false ↦ index ]) ≡ length index
       at true = length-sets index (n * 3) words
       at false = refl
 
-  placed-take : n < length index / 3 → take ((n + 1) * 3) (linePlaced index n label first closing) ≡ take (n * 3) index ++ words
-  placed-take h =
-      let split : linePlaced index n label first closing ≡ (take (n * 3) index ++ words) ++ drop (n * 3 + 3) index =
-      sym (placed-here h) ∙ sets-eq words index (n * 3) (omega (arith, h)) in
+  placed_take : n < length index / 3 → take ((n + 1) * 3) (line_placed index n label first closing) ≡ take (n * 3) index ++ words
+  placed_take h =
+      let split : line_placed index n label first closing ≡ (take (n * 3) index ++ words) ++ drop (n * 3 + 3) index =
+      sym (placed_here h) ∙ sets-eq words index (n * 3) (omega (arith, h)) in
       ap (λ (z : List ℕ). take ((n + 1) * 3) z) split
       ∙ take_at (take (n * 3) index ++ words) (drop (n * 3 + 3) index) ((n + 1) * 3)
       (omega (arith, length-append (take (n * 3) index) words, length-take-le (n * 3) index (omega (arith, h))))
 
-  line-held : (lines : List Line) → HoldsLines index n lines → HoldsLines (linePlaced index n label first closing) (n + 1) (lines ++ (record { label = label; first = first; closing = closing } ∷ []))
-  unfolding lineWords
-  line-held lines h = record {
+  line_held : (lines : List Line) → HoldsLines index n lines → HoldsLines (line_placed index n label first closing) (n + 1) (lines ++ (record { label = label; first = first; closing = closing } ∷ []))
+  unfolding line_words
+  line_held lines h = record {
     count = length-append lines (record { label = label; first = first; closing = closing } ∷ []) ∙ omega (arith, h.count);
     words = λ k.
-        let room : n < length index / 3 = omega (arith, rw placed-length at k) in
-        placed-take room ∙ ap (λ (z : List ℕ). z ++ words) (h.words (omega (arith, room))) ∙ sym (line-words-append lines (record { label = label; first = first; closing = closing } ∷ []));
+        let room : n < length index / 3 = omega (arith, rw placed_length at k) in
+        placed_take room ∙ ap (λ (z : List ℕ). z ++ words) (h.words (omega (arith, room))) ∙ sym (line_words_append lines (record { label = label; first = first; closing = closing } ∷ []));
   }
 
 -- ---- what `put_line` promises
 
-pub no-line-put : {index : List ℕ} {n rows : ℕ} {own : plan.Line} → own ≡ line.Nothing → LinePut index n own rows index n
-no-line-put {index} {n} {rows} e = rw e (record { held = λ lines h. rw (append-nil lines) h })
+pub no_line_put : {index : List ℕ} {n rows : ℕ} {own : plan.Line} → own ≡ line.Nothing → LinePut index n own rows index n
+no_line_put {index} {n} {rows} e = rw e (record { held = λ lines h. rw (append-nil lines) h })
 
-pub line-put : {index index' : List ℕ} {n rows label first closing : ℕ} {own : plan.Line} → own ≡ line.Put label first → closing ≡ rows - 1
-    → index' ≡ linePlaced index n label first closing → LinePut index n own rows index' (n + 1)
-line-put {index} {n = n} {rows} {label} {first} e c p = rw (e, p, c) (record { held = λ lines h. line-held index n label first (rows - 1) lines h })
+pub line_put : {index index' : List ℕ} {n rows label first closing : ℕ} {own : plan.Line} → own ≡ line.Put label first → closing ≡ rows - 1
+    → index' ≡ line_placed index n label first closing → LinePut index n own rows index' (n + 1)
+line_put {index} {n = n} {rows} {label} {first} e c p = rw (e, p, c) (record { held = λ lines h. line_held index n label first (rows - 1) lines h })
 
 -- ---- a plan's line behind what is out
 
@@ -73,10 +73,10 @@ pub lined_rows : (own : plan.Line) (rows : ℕ) (out : Output) → (lined own ro
 lined_rows line.Nothing rows out = refl
 lined_rows (line.Put label first) rows out = refl
 
-pub lined-lines : (own : plan.Line) (rows : ℕ) (out : Output) → (lined own rows out).lines ≡ out.lines ++ linesBy own rows
-lined-lines line.Nothing rows out = sym (append-nil out.lines)
-lined-lines (line.Put label first) rows out = refl
+pub lined_lines : (own : plan.Line) (rows : ℕ) (out : Output) → (lined own rows out).lines ≡ out.lines ++ lines_by own rows
+lined_lines line.Nothing rows out = sym (append-nil out.lines)
+lined_lines (line.Put label first) rows out = refl
 
 pub no_lines : (index : List ℕ) → HoldsLines index 0 []
-unfolding lineWords
+unfolding line_words
 no_lines index = record { count = refl; words = λ _. refl }

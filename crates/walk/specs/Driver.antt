@@ -15,41 +15,41 @@ use Rattle.walk.specs.declared.Outcome.{Outcome}
 -- ---- a plan
 
 -- the block that is visited, 65,535 where none is
-abbrev pub visitedBlock : Stage → (block : ℕ) → ℕ
-visitedBlock Visit block = block
-visitedBlock Ended block = 65535
-visitedBlock Choose block = 65535
-visitedBlock Pop block = 65535
-visitedBlock Values block = 65535
-visitedBlock Halt block = 65535
+abbrev pub visited_block : Stage → (block : ℕ) → ℕ
+visited_block Visit block = block
+visited_block Ended block = 65535
+visited_block Choose block = 65535
+visited_block Pop block = 65535
+visited_block Values block = 65535
+visited_block Halt block = 65535
 
 abbrev pub marked : Option ℕ → Flags → Flags
 marked none flags = flags
 marked (some block) flags = add flags block
 
-abbrev pub isHalt : Stage → Bool
-isHalt Visit = false
-isHalt Ended = false
-isHalt Choose = false
-isHalt Pop = false
-isHalt Values = false
-isHalt Halt = true
+abbrev pub is_halt : Stage → Bool
+is_halt Visit = false
+is_halt Ended = false
+is_halt Choose = false
+is_halt Pop = false
+is_halt Values = false
+is_halt Halt = true
 
 -- refused, or accepted
-abbrev pub planEnds : Plan → Bool
-planEnds plan = elim (eqb plan.code 0) [ true ↦ isHalt plan.position.stage | false ↦ true ]
+abbrev pub plan_ends : Plan → Bool
+plan_ends plan = elim (eqb plan.code 0) [ true ↦ is_halt plan.position.stage | false ↦ true ]
 
 -- ---- the whole walk
 
-abbrev pub startingAt : (entry : ℕ) → Position
-startingAt entry = record { block = entry; depth = 0; count = 0; rows = 0; visits = 0; stage = Visit }
+abbrev pub starting_at : (entry : ℕ) → Position
+starting_at entry = record { block = entry; depth = 0; count = 0; rows = 0; visits = 0; stage = Visit }
 
-abbrev pub walkedBy : Plan → (lines : ℕ) → Outcome
-walkedBy plan lines = record { code = plan.code; at = plan.at; rows = plan.position.rows; visits = plan.position.visits; lines = lines }
+abbrev pub walked_by : Plan → (lines : ℕ) → Outcome
+walked_by plan lines = record { code = plan.code; at = plan.at; rows = plan.position.rows; visits = plan.position.visits; lines = lines }
 
 -- what `schedule` refused
-abbrev pub blockedBy : (code at : ℕ) → Position → Outcome
-blockedBy code at p = record { code = code; at = at; rows = p.rows; visits = p.visits; lines = 0 }
+abbrev pub blocked_by : (code at : ℕ) → Position → Outcome
+blocked_by code at p = record { code = code; at = at; rows = p.rows; visits = p.visits; lines = 0 }
 
 -- its answer is the table's report, and an accepted table's rows and lines are held
 abbrev pub Reported : Report → Outcome → (buffer index : List ℕ) → Type 0

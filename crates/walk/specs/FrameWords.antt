@@ -2,13 +2,13 @@
 use Rattle.std.specs.Prelude.{ℕ, zero, suc, ◌+◌, ◌*◌, Bool, true, false, List, [], ◌∷◌, eqb, get_or, set}
 use Rattle.statements.specs.declared.plan.Frame.{Frame}
 
-abbrev pub flagWord : Bool → ℕ
-flagWord true = 1
-flagWord false = 0
+abbrev pub flag_word : Bool → ℕ
+flag_word true = 1
+flag_word false = 0
 
 -- the frame whose words begin at a place
-abbrev pub frameIn : List ℕ → (place : ℕ) → Frame
-frameIn words place = record {
+abbrev pub frame_in : List ℕ → (place : ℕ) → Frame
+frame_in words place = record {
   block = get_or words place 0;
   label = get_or words (place + 1) 0;
   entries = get_or words (place + 2) 0;
@@ -20,8 +20,8 @@ frameIn words place = record {
 }
 
 -- the words with a frame stored at a place; `second` is the word of the frame's last field
-abbrev pub storedIn : List ℕ → (place : ℕ) → Frame → (second : ℕ) → List ℕ
-storedIn words place frame second =
+abbrev pub stored_in : List ℕ → (place : ℕ) → Frame → (second : ℕ) → List ℕ
+stored_in words place frame second =
     set
     (set
     (set
@@ -31,9 +31,9 @@ storedIn words place frame second =
     (place + 7) second
 
 -- a number of frames, from the frame `from` on
-unfoldable pub framesFrom : List ℕ → (from count : ℕ) → List Frame
-framesFrom words from zero = []
-framesFrom words from (suc count) = frameIn words (from * 8) ∷ framesFrom words (from + 1) count
+unfoldable pub frames_from : List ℕ → (from count : ℕ) → List Frame
+frames_from words from zero = []
+frames_from words from (suc count) = frame_in words (from * 8) ∷ frames_from words (from + 1) count
 
-unfoldable pub framesIn : List ℕ → List Frame
-framesIn words = framesFrom words 0 129
+unfoldable pub frames_in : List ℕ → List Frame
+frames_in words = frames_from words 0 129

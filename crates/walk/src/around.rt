@@ -1,14 +1,14 @@
 // Where a jump goes, by the statements around it (M-102). In the language entry the code passes over them, from the innermost.
 ghost use Rattle.std.specs.Prelude.{◌≡◌, ℕ, ◌≤◌, ◌<◌, get_or};
-ghost use Rattle.table.specs.Words.{blockCount};
+ghost use Rattle.table.specs.Words.{block_count};
 ghost use Rattle.table.specs.Table.{table_of};
 ghost use Rattle.table.specs.Promise.{Promise};
 ghost use Rattle.machine.specs.Machine.{around_of};
-ghost use Rattle.control.specs.Abstraction.{resolvedOf};
-ghost use Rattle.control.specs.AroundAbstraction.{ruleOf, aim_of, FoundBelow, AimBelow};
-ghost use Rattle.statements.specs.Plans.{noFrame, framesOf};
-ghost use Rattle.statements.specs.Search.{goalBy};
-ghost use Rattle.walk.specs.FrameWords.{framesIn};
+ghost use Rattle.control.specs.Abstraction.{resolved_of};
+ghost use Rattle.control.specs.AroundAbstraction.{rule_of, aim_of, FoundBelow, AimBelow};
+ghost use Rattle.statements.specs.Plans.{no_frame, frames_of};
+ghost use Rattle.statements.specs.Search.{goal_by};
+ghost use Rattle.walk.specs.FrameWords.{frames_in};
 
 use crate::frames::frame_at;
 use control::Resolved;
@@ -39,9 +39,9 @@ pub fn aim_around(
 ) -> Aim
     requires promise { Promise words.now }
     requires depth_bound { depth ≤ 128 }
-    requires by_index { (k : ℕ) → k < depth → (get_or (framesIn frames.now) k noFrame).block < blockCount words.now }
+    requires by_index { (k : ℕ) → k < depth → (get_or (frames_in frames.now) k no_frame).block < block_count words.now }
     requires found_below { FoundBelow found }
-    ensures { (aim_of result ≡ goalBy jump (around_of (ruleOf rule) (table_of words.now) (framesOf (framesIn frames.now) depth)) (resolvedOf found)) × AimBelow result }
+    ensures { (aim_of result ≡ goal_by jump (around_of (rule_of rule) (table_of words.now) (frames_of (frames_in frames.now) depth)) (resolved_of found)) × AimBelow result }
 {
     let mut left = pass_from(asks_around(rule, found), depth);
     let mut seen = unseen(found);

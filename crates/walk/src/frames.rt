@@ -1,18 +1,18 @@
 // The frames of the statements being built: eight words each, the outermost first. They are words because the kit lends no array of structs.
 ghost use Rattle.std.specs.Prelude.{◌≡◌, ◌*◌, ◌≤◌, ◌<◌};
-ghost use Rattle.walk.specs.FrameWords.{flagWord, frameIn, storedIn};
+ghost use Rattle.walk.specs.FrameWords.{flag_word, frame_in, stored_in};
 
 use statements::plan::Frame;
 
 fn flag_word(flag: bool) -> u32
-    ensures { result ≡ flagWord flag }
+    ensures { result ≡ flag_word flag }
 {
     if flag { 1 } else { 0 }
 }
 
 pub fn frame_at(frames: &[u32; 1032], at: usize) -> Frame
     requires { at < 129 }
-    ensures { result ≡ frameIn frames.now (at * 8) }
+    ensures { result ≡ frame_in frames.now (at * 8) }
 {
     let first = at * 8;
     Frame {
@@ -29,7 +29,7 @@ pub fn frame_at(frames: &[u32; 1032], at: usize) -> Frame
 
 fn store(frames: &mut [u32; 1032], place: usize, frame: Frame, second: u32)
     requires { place ≤ 1024 }
-    ensures { frames.new ≡ storedIn frames.old place frame second }
+    ensures { frames.new ≡ stored_in frames.old place frame second }
 {
     frames[place] = frame.block;
     frames[place + 1] = frame.label;
@@ -43,7 +43,7 @@ fn store(frames: &mut [u32; 1032], place: usize, frame: Frame, second: u32)
 
 pub fn keep_frame(frames: &mut [u32; 1032], at: usize, frame: Frame)
     requires { at < 129 }
-    ensures { frames.new ≡ storedIn frames.old (at * 8) frame (flagWord frame.second) }
+    ensures { frames.new ≡ stored_in frames.old (at * 8) frame (flag_word frame.second) }
 {
     let second = flag_word(frame.second);
     let place = at * 8;

@@ -1,6 +1,6 @@
 // M-101: a line is written after those that are out, if a whole place is left. It is counted in any case.
 ghost use Rattle.std.specs.Prelude.{◌≡◌, ◌-◌, ◌≤◌};
-ghost use Rattle.walk.specs.Lined.{linePlaced, LinePut};
+ghost use Rattle.walk.specs.Lined.{line_placed, LinePut};
 
 use statements::plan::Line;
 
@@ -15,7 +15,7 @@ fn last_row(rows: u32) -> u32
 }
 
 fn write_line(index: &mut [u32], lines: u32, label: u32, first: u32, closing: u32)
-    ensures { index.new ≡ linePlaced index.old lines label first closing }
+    ensures { index.new ≡ line_placed index.old lines label first closing }
 {
     let at = lines as usize;
     if at < index.len() / 3 {

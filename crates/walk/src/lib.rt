@@ -4,15 +4,15 @@ mod frames;
 mod index;
 
 ghost use Rattle.std.specs.Prelude.{◌≡◌, ◌-◌};
-ghost use Rattle.table.specs.Words.{entryWord};
-ghost use Rattle.table.specs.Table.{table_of, unlessNone};
+ghost use Rattle.table.specs.Words.{entry_word};
+ghost use Rattle.table.specs.Table.{table_of, unless_none};
 ghost use Rattle.table.specs.Promise.{Promise};
 ghost use Rattle.definition.specs.Build.{report};
 ghost use Rattle.machine.specs.Framed.{Below};
-ghost use Rattle.definition.specs.Context.{blockAsked};
+ghost use Rattle.definition.specs.Context.{block_asked};
 ghost use Rattle.control.specs.Abstraction.{target_of};
-ghost use Rattle.control.specs.AroundAbstraction.{ruleOf};
-ghost use Rattle.walk.specs.Driver.{visitedBlock, marked, startingAt, planEnds, isHalt, walkedBy, blockedBy, Reported};
+ghost use Rattle.control.specs.AroundAbstraction.{rule_of};
+ghost use Rattle.walk.specs.Driver.{visited_block, marked, starting_at, plan_ends, is_halt, walked_by, blocked_by, Reported};
 
 use crate::around::aim_around;
 use crate::frames::{frame_at, keep_frame};
@@ -37,7 +37,7 @@ pub struct Outcome {
 
 fn start(words: &[u32]) -> Position
     requires { Promise words.now }
-    ensures { result ≡ startingAt (entryWord words.now) }
+    ensures { result ≡ starting_at (entry_word words.now) }
 {
     Position {
         block: entry(words),
@@ -50,7 +50,7 @@ fn start(words: &[u32]) -> Position
 }
 
 fn visited_block(p: Position) -> u32
-    ensures { result ≡ visitedBlock p.stage p.block }
+    ensures { result ≡ visited_block p.stage p.block }
 {
     let stage = p.stage;
     match stage {
@@ -64,8 +64,8 @@ fn visited_block(p: Position) -> u32
 }
 
 fn mark(set: &mut [bool; 1024], block: u32)
-    requires { Below 1024 (unlessNone block) }
-    ensures { set.new ≡ marked (unlessNone block) set.old }
+    requires { Below 1024 (unless_none block) }
+    ensures { set.new ≡ marked (unless_none block) set.old }
 {
     if block == NONE {
         return;
@@ -74,7 +74,7 @@ fn mark(set: &mut [bool; 1024], block: u32)
 }
 
 fn halted(stage: Stage) -> bool
-    ensures { result ≡ isHalt stage }
+    ensures { result ≡ is_halt stage }
 {
     match stage {
         Stage::Visit => false,
@@ -88,7 +88,7 @@ fn halted(stage: Stage) -> bool
 
 // Whether the walk ends here: refused, or accepted.
 fn ends(plan: Plan) -> bool
-    ensures { result ≡ planEnds plan }
+    ensures { result ≡ plan_ends plan }
 {
     if plan.code != 0 {
         return true;
@@ -99,7 +99,7 @@ fn ends(plan: Plan) -> bool
 }
 
 fn answer(plan: Plan, lines: u32) -> Outcome
-    ensures { result ≡ walkedBy plan lines }
+    ensures { result ≡ walked_by plan lines }
 {
     let position = plan.position;
     Outcome {
@@ -113,7 +113,7 @@ fn answer(plan: Plan, lines: u32) -> Outcome
 
 // The refusal of `schedule`, at the block that it tested.
 fn blocked(code: u16, target: ControlFlowTarget, p: Position) -> Outcome
-    ensures { result ≡ blockedBy code (blockAsked (target_of target)) p }
+    ensures { result ≡ blocked_by code (block_asked (target_of target)) p }
 {
     let at = target.block_asked() as u32;
     Outcome {
@@ -139,7 +139,7 @@ fn innermost(depth: u32) -> usize
 // here, since a function that is handed the Context by value and indexes its entries copies it, 18 KB a turn (docs/PERFORMANCE.md).
 pub fn walk(rule: Rule, words: &[u32], tree: &mut [u32], index: &mut [u32]) -> Outcome
     requires { Promise words.now }
-    ensures { Reported (report (ruleOf rule) (table_of words.now)) result tree.new index.new }
+    ensures { Reported (report (rule_of rule) (table_of words.now)) result tree.new index.new }
 {
     let mut cx = Context::new();
     let mut frames = [0; 1032];

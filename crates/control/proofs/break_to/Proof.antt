@@ -3,16 +3,16 @@ use borrow.Author.Rules.{rules}
 use Rattle.control.proofs.break_to.Statement.{statement}
 use Rattle.control.proofs.break_to.Tie as tie
 
-is-loop-requires : tie.Need-is-loop-requires
-is-loop-requires c κs = search rules
+is_loop_requires : tie.Need-is-loop-requires
+is_loop_requires c κs = search rules
 
-break-kind-requires : tie.Need-break-kind-requires
-break-kind-requires c κs = search rules
+break_kind_requires : tie.Need-break-kind-requires
+break_kind_requires c κs = search rules
 
 returns : tie.Need-returns
 returns c =
     let asked : tie.After-is-loop = search in
-    (refl, rw (c.break-kind.ensures, asked.is_loop.ensures))
+    (refl, rw (c.break_kind.ensures, asked.is_loop_lem.ensures))
 
-pub break-to-spec : {M : Type 1} → statement M
-break-to-spec = tie.close (tie.spec is-loop-requires break-kind-requires returns)
+pub break_to_spec : {M : Type 1} → statement M
+break_to_spec = tie.close (tie.spec is_loop_requires break_kind_requires returns)

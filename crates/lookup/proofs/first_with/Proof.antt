@@ -6,60 +6,60 @@ use Rattle.lookup.proofs.LoopLaws.{Searching, start, not_there, there, on}
 use Rattle.lookup.proofs.first_with.Statement.{statement}
 use Rattle.lookup.proofs.first_with.Tie as tie
 
-abbrev invariant-loop : tie.invariant-loop
-invariant-loop index count label line₀ line = Searching index label count line
+abbrev invariant_loop : tie.invariant_loop
+invariant_loop index count label line₀ line = Searching index label count line
 
-abbrev decreases-loop : tie.decreases-loop
-decreases-loop index count label line₀ line = count - line
+abbrev decreases_loop : tie.decreases_loop
+decreases_loop index count label line₀ line = count - line
 
-loop-holds : tie.Need-loop-init invariant-loop decreases-loop
-loop-holds c = start _ _ _ _ refl
+loop_holds : tie.Need-loop-init invariant_loop decreases_loop
+loop_holds c = start _ _ _ _ refl
 
-mul-if1 : tie.Need-overflow-mul-if1 invariant-loop decreases-loop
-mul-if1 c = search rules
+mul_if1 : tie.Need-overflow-mul-if1 invariant_loop decreases_loop
+mul_if1 c = search rules
 
-mul-if1-2 : tie.Need-overflow-mul-if1-2 invariant-loop decreases-loop
-mul-if1-2 c = search rules
+mul_if1_2 : tie.Need-overflow-mul-if1-2 invariant_loop decreases_loop
+mul_if1_2 c = search rules
 
-shared-slice-read-if1 : tie.Need-shared-slice-read-if1 invariant-loop decreases-loop
-shared-slice-read-if1 c = search rules
+shared_slice_read_if1 : tie.Need-shared-slice-read-if1 invariant_loop decreases_loop
+shared_slice_read_if1 c = search rules
 
-returns : tie.Need-returns invariant-loop decreases-loop
+returns : tie.Need-returns invariant_loop decreases_loop
 returns c =
-    let turn : tie.In-loop invariant-loop decreases-loop = search in
-    let at-loop : tie.At-loop invariant-loop decreases-loop = search in
-    there _ _ _ _ at-loop.loop.inv turn.loop-test.taken c.if1.true
+    let turn : tie.In-loop invariant_loop decreases_loop = search in
+    let at_loop : tie.At-loop invariant_loop decreases_loop = search in
+    there _ _ _ _ at_loop.loop.inv turn.loop_test.taken c.if1.true
 
-add-line : tie.Need-overflow-add-line invariant-loop decreases-loop
-add-line c = search rules
+add_line : tie.Need-overflow-add-line invariant_loop decreases_loop
+add_line c = search rules
 
-loop-less : tie.Need-loop-smaller invariant-loop decreases-loop
-loop-less c = search rules
+loop_less : tie.Need-loop-smaller invariant_loop decreases_loop
+loop_less c = search rules
 
-loop-again : tie.Need-loop-preserved invariant-loop decreases-loop
-loop-again c =
-    let other : tie.Else1 invariant-loop decreases-loop = search in
-    let turn : tie.In-loop invariant-loop decreases-loop = search in
-    let at-loop : tie.At-loop invariant-loop decreases-loop = search in
-    record { rest = on _ _ _ _ at-loop.loop.inv turn.loop-test.taken other.if1.left; most = search rules }
+loop_again : tie.Need-loop-preserved invariant_loop decreases_loop
+loop_again c =
+    let other : tie.Else1 invariant_loop decreases_loop = search in
+    let turn : tie.In-loop invariant_loop decreases_loop = search in
+    let at_loop : tie.At-loop invariant_loop decreases_loop = search in
+    record { rest = on _ _ _ _ at_loop.loop.inv turn.loop_test.taken other.if1.left; most = search rules }
 
-returns-2 : tie.Need-returns-2 invariant-loop decreases-loop
-returns-2 c =
-    let at-loop : tie.At-loop invariant-loop decreases-loop = search in
-    not_there _ _ _ _ at-loop.loop.inv c.loop-test.false
+returns_2 : tie.Need-returns-2 invariant_loop decreases_loop
+returns_2 c =
+    let at_loop : tie.At-loop invariant_loop decreases_loop = search in
+    not_there _ _ _ _ at_loop.loop.inv c.loop_test.false
 
-pub first-with-spec : {M : Type 1} → statement M
-first-with-spec =
+pub first_with_spec : {M : Type 1} → statement M
+first_with_spec =
     tie.close
     (tie.spec
-    invariant-loop
-    decreases-loop
-    loop-holds
-    mul-if1
-    mul-if1-2
-    shared-slice-read-if1
+    invariant_loop
+    decreases_loop
+    loop_holds
+    mul_if1
+    mul_if1_2
+    shared_slice_read_if1
     returns
-    add-line
-    loop-less
-    loop-again
-    returns-2)
+    add_line
+    loop_less
+    loop_again
+    returns_2)

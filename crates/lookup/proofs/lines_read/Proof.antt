@@ -1,13 +1,13 @@
 -- `lookup::lines_read` meets its contract.
-use Rattle.lookup.proofs.Searches.{as-told, as-held}
+use Rattle.lookup.proofs.Searches.{as_told, as_held}
 use Rattle.lookup.proofs.lines_read.Statement.{statement}
 use Rattle.lookup.proofs.lines_read.Tie as tie
 
 returns : tie.Need-returns
-returns c = as-told _ _ c.if1.true
+returns c = as_told _ _ c.if1.true
 
-returns-2 : tie.Need-returns-2
-returns-2 c = as-held _ _ c.if1.false
+returns_2 : tie.Need-returns-2
+returns_2 c = as_held _ _ c.if1.false
 
-pub lines-read-spec : {M : Type 1} → statement M
-lines-read-spec = tie.close (tie.spec returns returns-2)
+pub lines_read_spec : {M : Type 1} → statement M
+lines_read_spec = tie.close (tie.spec returns returns_2)

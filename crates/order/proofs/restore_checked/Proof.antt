@@ -1,35 +1,35 @@
 use borrow.Author.Rules.{rules}
 use native.Mathlib.Omega.{arith}
 use mathlib.Core.Path.{sym, ◌∙◌}
-use Rattle.definition.proofs.Steps.{true-false}
+use Rattle.definition.proofs.Steps.{true_false}
 use Rattle.renaming.proofs.Permutations.{permutes}
-use Rattle.order.proofs.EntryLaws.{fresh, writing-first, is-restored}
+use Rattle.order.proofs.EntryLaws.{fresh, writing_first, is_restored}
 use Rattle.order.proofs.restore_checked.Statement.{statement}
 use Rattle.order.proofs.restore_checked.Tie as tie
 
-block-count-requires : tie.Need-block-count-requires
-block-count-requires c κs = search rules
+block_count_requires : tie.Need-block-count-requires
+block_count_requires c κs = search rules
 
-slice-aggregate-is-permutation : tie.Need-slice-aggregate-is-permutation
-slice-aggregate-is-permutation c = search rules
+slice_aggregate_is_permutation : tie.Need-slice-aggregate-is-permutation
+slice_aggregate_is_permutation c = search rules
 
-is-permutation-requires : tie.Need-is-permutation-requires
-is-permutation-requires c κs =
+is_permutation_requires : tie.Need-is-permutation-requires
+is_permutation_requires c κs =
     let counted : tie.After-block-count = search in
     let start : tie.Start = search in
-    (omega (arith, counted.block-count.ensures, start.pre.0.sized.limited.blocks), fresh)
+    (omega (arith, counted.block_count.ensures, start.pre.0.sized.limited.blocks), fresh)
 
-slice-aggregate-write-table : tie.Need-slice-aggregate-write-table
-slice-aggregate-write-table c = search rules
+slice_aggregate_write_table : tie.Need-slice-aggregate-write-table
+slice_aggregate_write_table c = search rules
 
-write-table-requires : tie.Need-write-table-requires
-write-table-requires c κs =
+write_table_requires : tie.Need-write-table-requires
+write_table_requires c κs =
     let tested : tie.Then1 = search in
     let asked : tie.After-is-permutation = search in
     let counted : tie.After-block-count = search in
     let start : tie.Start = search in
-    let perm = rw counted.block-count.ensures at (sym asked.is-permutation.ensures.0 ∙ tested.if1.taken) in
-    writing-first _ _ _ start.pre.0 (permutes _ _ perm) (asked.is-permutation.ensures.1 tested.if1.taken) start.pre.1
+    let perm = rw counted.block_count.ensures at (sym asked.is_permutation.ensures.0 ∙ tested.if1.taken) in
+    writing_first _ _ _ start.pre.0 (permutes _ _ perm) (asked.is_permutation.ensures.1 tested.if1.taken) start.pre.1
 
 same_length : tie.Need-same-length
 same_length c = search rules
@@ -41,26 +41,26 @@ returns c =
     let asked : tie.After-is-permutation = search in
     let counted : tie.After-block-count = search in
     let start : tie.Start = search in
-    let perm = rw counted.block-count.ensures at (sym asked.is-permutation.ensures.0 ∙ tested.if1.taken) in
-    (sym perm, (λ e. wrote.write-table.ensures ∙ is-restored _ _ _ start.pre.0 (permutes _ _ perm) (asked.is-permutation.ensures.1 tested.if1.taken)))
+    let perm = rw counted.block_count.ensures at (sym asked.is_permutation.ensures.0 ∙ tested.if1.taken) in
+    (sym perm, (λ e. wrote.write_table.ensures ∙ is_restored _ _ _ start.pre.0 (permutes _ _ perm) (asked.is_permutation.ensures.1 tested.if1.taken)))
 
-returns-2 : tie.Need-returns-2
-returns-2 c =
+returns_2 : tie.Need-returns-2
+returns_2 c =
     let tested : tie.Else1 = search in
     let asked : tie.After-is-permutation = search in
     let counted : tie.After-block-count = search in
-    let none = rw counted.block-count.ensures at (sym asked.is-permutation.ensures.0 ∙ tested.if1.left) in
-    (sym none, (λ e. absurd (true-false (sym e))))
+    let none = rw counted.block_count.ensures at (sym asked.is_permutation.ensures.0 ∙ tested.if1.left) in
+    (sym none, (λ e. absurd (true_false (sym e))))
 
-pub restore-checked-spec : {M : Type 1} → statement M
-restore-checked-spec =
+pub restore_checked_spec : {M : Type 1} → statement M
+restore_checked_spec =
     tie.close
     (tie.spec
-    block-count-requires
-    slice-aggregate-is-permutation
-    is-permutation-requires
-    slice-aggregate-write-table
-    write-table-requires
+    block_count_requires
+    slice_aggregate_is_permutation
+    is_permutation_requires
+    slice_aggregate_write_table
+    write_table_requires
     same_length
     returns
-    returns-2)
+    returns_2)

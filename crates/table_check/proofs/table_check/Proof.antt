@@ -3,20 +3,20 @@ use borrow.Author.Rules.{rules}
 use Rattle.table_check.proofs.table_check.Statement.{statement}
 use Rattle.table_check.proofs.table_check.Tie as tie
 
-check-requires : tie.Need-check-requires
-check-requires c κs = search rules
+check_requires : tie.Need-check-requires
+check_requires c κs = search rules
 
-place-requires : tie.Need-place-requires
-place-requires c κs = search rules
+place_requires : tie.Need-place-requires
+place_requires c κs = search rules
 
-code-requires : tie.Need-code-requires
-code-requires c κs = search rules
+code_requires : tie.Need-code-requires
+code_requires c κs = search rules
 
 returns : tie.Need-returns
 returns c =
     let at_place : tie.After-place = search in
-    let at-check : tie.After-check = search in
-    rw (← at-check.check.ensures) (c.code.ensures, at_place.place.ensures)
+    let at_check : tie.After-check = search in
+    rw (← at_check.check.ensures) (c.code.ensures, at_place.place.ensures)
 
-pub table-check-spec : {M : Type 1} → statement M
-table-check-spec = tie.close (tie.spec check-requires place-requires code-requires returns)
+pub table_check_spec : {M : Type 1} → statement M
+table_check_spec = tie.close (tie.spec check_requires place_requires code_requires returns)

@@ -2,103 +2,103 @@
 use Prim.Native.Nat.{◌-◌}
 use borrow.Author.Rules.{rules}
 use borrow.Author.Tests.{not-true, not-false}
-use Rattle.tree_check.specs.Found.{noBegins}
-use Rattle.tree_check.proofs.ReadLaws.{Reading, reading-start, row_out, row-missing, row_on, rows-read}
+use Rattle.tree_check.specs.Found.{no_begins}
+use Rattle.tree_check.proofs.ReadLaws.{Reading, reading_start, row_out, row_missing, row_on, rows_read}
 use Rattle.tree_check.proofs.read_rows.Statement.{statement}
 use Rattle.tree_check.proofs.read_rows.Tie as tie
 
-abbrev invariant-loop : tie.invariant-loop
-invariant-loop tree rows begin₀ row₀ begin row = Reading tree begin rows row
+abbrev invariant_loop : tie.invariant_loop
+invariant_loop tree rows begin₀ row₀ begin row = Reading tree begin rows row
 
-abbrev decreases-loop : tie.decreases-loop
-decreases-loop tree rows begin₀ row₀ begin row = rows - row
+abbrev decreases_loop : tie.decreases_loop
+decreases_loop tree rows begin₀ row₀ begin row = rows - row
 
-loop-holds : tie.Need-loop-init invariant-loop decreases-loop
-unfolding noBegins
-loop-holds c = reading-start _ _
+loop_holds : tie.Need-loop-init invariant_loop decreases_loop
+unfolding no_begins
+loop_holds c = reading_start _ _
 
-in-range-requires : tie.Need-in-range-requires invariant-loop decreases-loop
-in-range-requires c κs = search rules
+in_range_requires : tie.Need-in-range-requires invariant_loop decreases_loop
+in_range_requires c κs = search rules
 
-returns : tie.Need-returns invariant-loop decreases-loop
+returns : tie.Need-returns invariant_loop decreases_loop
 returns c =
-    let ranged : tie.After-in-range invariant-loop decreases-loop = search in
-    let turn : tie.In-loop invariant-loop decreases-loop = search in
-    let at-loop : tie.At-loop invariant-loop decreases-loop = search in
-    row_out _ _ _ _ at-loop.loop.inv turn.loop-test.taken ranged.in-range.ensures (not-true _ c.if1.true)
+    let ranged : tie.After-in-range invariant_loop decreases_loop = search in
+    let turn : tie.In-loop invariant_loop decreases_loop = search in
+    let at_loop : tie.At-loop invariant_loop decreases_loop = search in
+    row_out _ _ _ _ at_loop.loop.inv turn.loop_test.taken ranged.in_range.ensures (not-true _ c.if1.true)
 
-slice-aggregate-row-begin : tie.Need-slice-aggregate-row-begin invariant-loop decreases-loop
-slice-aggregate-row-begin c = search rules
+slice_aggregate_row_begin : tie.Need-slice-aggregate-row-begin invariant_loop decreases_loop
+slice_aggregate_row_begin c = search rules
 
-row-begin-requires : tie.Need-row-begin-requires invariant-loop decreases-loop
-row-begin-requires c κs = search rules
+row_begin_requires : tie.Need-row-begin-requires invariant_loop decreases_loop
+row_begin_requires c κs = search rules
 
-returns-2 : tie.Need-returns-2 invariant-loop decreases-loop
-returns-2 c =
-    let found : tie.After-row-begin invariant-loop decreases-loop = search in
-    let fits : tie.Else1 invariant-loop decreases-loop = search in
-    let ranged : tie.After-in-range invariant-loop decreases-loop = search in
-    let turn : tie.In-loop invariant-loop decreases-loop = search in
-    let at-loop : tie.At-loop invariant-loop decreases-loop = search in
-    row-missing _ _ _ _ at-loop.loop.inv turn.loop-test.taken ranged.in-range.ensures (not-false _ fits.if1.left) found.row-begin.ensures c.if2.true
+returns_2 : tie.Need-returns-2 invariant_loop decreases_loop
+returns_2 c =
+    let found : tie.After-row-begin invariant_loop decreases_loop = search in
+    let fits : tie.Else1 invariant_loop decreases_loop = search in
+    let ranged : tie.After-in-range invariant_loop decreases_loop = search in
+    let turn : tie.In-loop invariant_loop decreases_loop = search in
+    let at_loop : tie.At-loop invariant_loop decreases_loop = search in
+    row_missing _ _ _ _ at_loop.loop.inv turn.loop_test.taken ranged.in_range.ensures (not-false _ fits.if1.left) found.row_begin.ensures c.if2.true
 
-cast-begin : tie.Need-overflow-cast-begin invariant-loop decreases-loop
-cast-begin c = search rules
+cast_begin : tie.Need-overflow-cast-begin invariant_loop decreases_loop
+cast_begin c = search rules
 
-mul-begin : tie.Need-overflow-mul-begin invariant-loop decreases-loop
-mul-begin c = search rules
+mul_begin : tie.Need-overflow-mul-begin invariant_loop decreases_loop
+mul_begin c = search rules
 
-array-write-begin : tie.Need-array-write-begin invariant-loop decreases-loop
-array-write-begin c = search rules
+array_write_begin : tie.Need-array-write-begin invariant_loop decreases_loop
+array_write_begin c = search rules
 
-add_row : tie.Need-overflow-add-row invariant-loop decreases-loop
+add_row : tie.Need-overflow-add-row invariant_loop decreases_loop
 add_row c = search rules
 
-loop-less : tie.Need-loop-smaller invariant-loop decreases-loop
-loop-less c = search rules
+loop_less : tie.Need-loop-smaller invariant_loop decreases_loop
+loop_less c = search rules
 
-loop-again : tie.Need-loop-preserved invariant-loop decreases-loop
-loop-again c =
-    let there : tie.Else2 invariant-loop decreases-loop = search in
-    let found : tie.After-row-begin invariant-loop decreases-loop = search in
-    let fits : tie.Else1 invariant-loop decreases-loop = search in
-    let ranged : tie.After-in-range invariant-loop decreases-loop = search in
-    let turn : tie.In-loop invariant-loop decreases-loop = search in
-    let at-loop : tie.At-loop invariant-loop decreases-loop = search in
-    let next = row_on _ _ _ _ at-loop.loop.inv turn.loop-test.taken ranged.in-range.ensures (not-false _ fits.if1.left)
-    found.row-begin.ensures (search rules) (search rules) there.if2.left in
+loop_again : tie.Need-loop-preserved invariant_loop decreases_loop
+loop_again c =
+    let there : tie.Else2 invariant_loop decreases_loop = search in
+    let found : tie.After-row-begin invariant_loop decreases_loop = search in
+    let fits : tie.Else1 invariant_loop decreases_loop = search in
+    let ranged : tie.After-in-range invariant_loop decreases_loop = search in
+    let turn : tie.In-loop invariant_loop decreases_loop = search in
+    let at_loop : tie.At-loop invariant_loop decreases_loop = search in
+    let next = row_on _ _ _ _ at_loop.loop.inv turn.loop_test.taken ranged.in_range.ensures (not-false _ fits.if1.left)
+    found.row_begin.ensures (search rules) (search rules) there.if2.left in
     record { rest = next.0; ready = next.1; most = search rules }
 
-slice-aggregate-remainder : tie.Need-slice-aggregate-remainder invariant-loop decreases-loop
-slice-aggregate-remainder c = search rules
+slice_aggregate_remainder : tie.Need-slice-aggregate-remainder invariant_loop decreases_loop
+slice_aggregate_remainder c = search rules
 
-remainder-requires : tie.Need-remainder-requires invariant-loop decreases-loop
-remainder-requires c κs = search rules
+remainder_requires : tie.Need-remainder-requires invariant_loop decreases_loop
+remainder_requires c κs = search rules
 
-returns-3 : tie.Need-returns-3 invariant-loop decreases-loop
-returns-3 c =
-    let ended : tie.After-loop invariant-loop decreases-loop = search in
-    let at-loop : tie.At-loop invariant-loop decreases-loop = search in
-    rows-read _ _ _ _ at-loop.loop.inv ended.loop-test.left c.remainder.ensures
+returns_3 : tie.Need-returns-3 invariant_loop decreases_loop
+returns_3 c =
+    let ended : tie.After-loop invariant_loop decreases_loop = search in
+    let at_loop : tie.At-loop invariant_loop decreases_loop = search in
+    rows_read _ _ _ _ at_loop.loop.inv ended.loop_test.left c.remainder.ensures
 
-pub read-rows-spec : {M : Type 1} → statement M
-read-rows-spec =
+pub read_rows_spec : {M : Type 1} → statement M
+read_rows_spec =
     tie.close
     (tie.spec
-    invariant-loop
-    decreases-loop
-    loop-holds
-    in-range-requires
+    invariant_loop
+    decreases_loop
+    loop_holds
+    in_range_requires
     returns
-    slice-aggregate-row-begin
-    row-begin-requires
-    returns-2
-    cast-begin
-    mul-begin
-    array-write-begin
+    slice_aggregate_row_begin
+    row_begin_requires
+    returns_2
+    cast_begin
+    mul_begin
+    array_write_begin
     add_row
-    loop-less
-    loop-again
-    slice-aggregate-remainder
-    remainder-requires
-    returns-3)
+    loop_less
+    loop_again
+    slice_aggregate_remainder
+    remainder_requires
+    returns_3)

@@ -1,64 +1,64 @@
 -- `tree_check::read_tree` meets its contract.
 use mathlib.Core.Path.{◌∙◌}
-use Rattle.tree_check.proofs.ReadLaws.{part-of-row, no_rows, too_many, sized}
+use Rattle.tree_check.proofs.ReadLaws.{part_of_row, no_rows, too_many, sized}
 use borrow.Author.Rules.{rules}
 use Rattle.tree_check.proofs.read_tree.Statement.{statement}
 use Rattle.tree_check.proofs.read_tree.Tie as tie
 
-mul-if1 : tie.Need-overflow-mul-if1
-mul-if1 c = search rules
+mul_if1 : tie.Need-overflow-mul-if1
+mul_if1 c = search rules
 
-no-list-requires : tie.Need-no-list-requires
-no-list-requires c κs = search rules
+no_list_requires : tie.Need-no-list-requires
+no_list_requires c κs = search rules
 
 returns : tie.Need-returns
 returns c =
     let odd : tie.Then1 = search in
-    c.no-list.ensures ∙ part-of-row _ odd.if1.taken
+    c.no_list.ensures ∙ part_of_row _ odd.if1.taken
 
-no-list-requires-2 : tie.Need-no-list-requires-2
-no-list-requires-2 c κs = search rules
+no_list_requires_2 : tie.Need-no-list-requires-2
+no_list_requires_2 c κs = search rules
 
-returns-2 : tie.Need-returns-2
-returns-2 c =
+returns_2 : tie.Need-returns-2
+returns_2 c =
     let empty : tie.Then2 = search in
     let whole : tie.Else1 = search in
-    c.no-list2.ensures ∙ no_rows _ whole.if1.left empty.if2.taken
+    c.no_list2.ensures ∙ no_rows _ whole.if1.left empty.if2.taken
 
-no-list-requires-3 : tie.Need-no-list-requires-3
-no-list-requires-3 c κs = search rules
+no_list_requires_3 : tie.Need-no-list-requires-3
+no_list_requires_3 c κs = search rules
 
-returns-3 : tie.Need-returns-3
-returns-3 c =
+returns_3 : tie.Need-returns-3
+returns_3 c =
     let many : tie.Then3 = search in
-    let some-row : tie.Else2 = search in
+    let some_row : tie.Else2 = search in
     let whole : tie.Else1 = search in
-    c.no-list3.ensures ∙ too_many _ whole.if1.left some-row.if2.left many.if3.taken
+    c.no_list3.ensures ∙ too_many _ whole.if1.left some_row.if2.left many.if3.taken
 
-cast-read-rows : tie.Need-overflow-cast-read-rows
-cast-read-rows c = search rules
+cast_read_rows : tie.Need-overflow-cast-read-rows
+cast_read_rows c = search rules
 
-read-rows-requires : tie.Need-read-rows-requires
-read-rows-requires c κs = search rules
+read_rows_requires : tie.Need-read-rows-requires
+read_rows_requires c κs = search rules
 
-returns-4 : tie.Need-returns-4
-returns-4 c =
+returns_4 : tie.Need-returns-4
+returns_4 c =
     let few : tie.Else3 = search in
-    let some-row : tie.Else2 = search in
+    let some_row : tie.Else2 = search in
     let whole : tie.Else1 = search in
-    c.read-rows.ensures ∙ sized _ whole.if1.left some-row.if2.left few.if3.left
+    c.read_rows.ensures ∙ sized _ whole.if1.left some_row.if2.left few.if3.left
 
-pub read-tree-spec : {M : Type 1} → statement M
-read-tree-spec =
+pub read_tree_spec : {M : Type 1} → statement M
+read_tree_spec =
     tie.close
     (tie.spec
-    mul-if1
-    no-list-requires
+    mul_if1
+    no_list_requires
     returns
-    no-list-requires-2
-    returns-2
-    no-list-requires-3
-    returns-3
-    cast-read-rows
-    read-rows-requires
-    returns-4)
+    no_list_requires_2
+    returns_2
+    no_list_requires_3
+    returns_3
+    cast_read_rows
+    read_rows_requires
+    returns_4)

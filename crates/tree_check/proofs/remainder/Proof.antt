@@ -1,48 +1,48 @@
 -- `tree_check::remainder` meets its contract.
-use Rattle.tree_check.proofs.ReadLaws.{begins-later, no_block, one-root}
+use Rattle.tree_check.proofs.ReadLaws.{begins_later, no_block, one_root}
 use borrow.Author.Rules.{rules}
 use Rattle.tree_check.proofs.remainder.Statement.{statement}
 use Rattle.tree_check.proofs.remainder.Tie as tie
 
-sub-last : tie.Need-overflow-sub-last
-sub-last c = search rules
+sub_last : tie.Need-overflow-sub-last
+sub_last c = search rules
 
-cast-if1 : tie.Need-overflow-cast-if1
-cast-if1 c = search rules
+cast_if1 : tie.Need-overflow-cast-if1
+cast_if1 c = search rules
 
-mul-if1 : tie.Need-overflow-mul-if1
-mul-if1 c = search rules
+mul_if1 : tie.Need-overflow-mul-if1
+mul_if1 c = search rules
 
-shared-slice-read-if1 : tie.Need-shared-slice-read-if1
-shared-slice-read-if1 c = search rules
+shared_slice_read_if1 : tie.Need-shared-slice-read-if1
+shared_slice_read_if1 c = search rules
 
 returns : tie.Need-returns
-returns c = begins-later _ _ _ c.if1.true
+returns c = begins_later _ _ _ c.if1.true
 
-word-requires : tie.Need-word-requires
-word-requires c κs = search rules
+word_requires : tie.Need-word-requires
+word_requires c κs = search rules
 
-returns-2 : tie.Need-returns-2
-returns-2 c =
+returns_2 : tie.Need-returns-2
+returns_2 c =
     let read : tie.After-word = search in
     let first : tie.Else1 = search in
     no_block _ _ _ first.if1.left read.word.ensures c.if2.true
 
-returns-3 : tie.Need-returns-3
-returns-3 c =
+returns_3 : tie.Need-returns-3
+returns_3 c =
     let read : tie.After-word = search in
     let first : tie.Else1 = search in
-    one-root _ _ _ first.if1.left read.word.ensures c.if2.false
+    one_root _ _ _ first.if1.left read.word.ensures c.if2.false
 
-pub remainder-spec : {M : Type 1} → statement M
-remainder-spec =
+pub remainder_spec : {M : Type 1} → statement M
+remainder_spec =
     tie.close
     (tie.spec
-    sub-last
-    cast-if1
-    mul-if1
-    shared-slice-read-if1
+    sub_last
+    cast_if1
+    mul_if1
+    shared_slice_read_if1
     returns
-    word-requires
-    returns-2
-    returns-3)
+    word_requires
+    returns_2
+    returns_3)

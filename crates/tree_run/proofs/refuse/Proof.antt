@@ -1,13 +1,13 @@
-use Rattle.tree_run.proofs.SeekLaws.{refuse-is}
+use Rattle.tree_run.proofs.SeekLaws.{refuse_is}
 use borrow.Author.Rules.{rules}
 use Rattle.tree_run.proofs.refuse.Statement.{statement}
 use Rattle.tree_run.proofs.refuse.Tie as tie
 
-clear-requires : tie.Need-clear-requires
-clear-requires c κs = search rules
+clear_requires : tie.Need-clear-requires
+clear_requires c κs = search rules
 
-refused-requires : tie.Need-refused-requires
-refused-requires c κs = search rules
+refused_requires : tie.Need-refused-requires
+refused_requires c κs = search rules
 
 same_length : tie.Need-same-length
 same_length c = search rules
@@ -16,7 +16,7 @@ returns : tie.Need-returns
 returns c =
     let cleared : tie.After-clear = search in
     let start : tie.Start = search in
-    refuse-is start.args.performed.now c.refused.ensures cleared.clear.ensures
+    refuse_is start.args.performed.now c.refused.ensures cleared.clear.ensures
 
-pub refuse-spec : {M : Type 1} → statement M
-refuse-spec = tie.close (tie.spec clear-requires refused-requires same_length returns)
+pub refuse_spec : {M : Type 1} → statement M
+refuse_spec = tie.close (tie.spec clear_requires refused_requires same_length returns)

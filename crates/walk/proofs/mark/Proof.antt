@@ -1,28 +1,28 @@
 use native.Mathlib.Omega.{arith}
-use Rattle.walk.proofs.ApplyLaws.{marked-none, marked-some, below-block}
+use Rattle.walk.proofs.ApplyLaws.{marked_none, marked_some, below_block}
 use Rattle.walk.proofs.mark.Statement.{statement}
 use Rattle.walk.proofs.mark.Tie as tie
 
 returns : tie.Need-returns
-returns c = marked-none _ _ c.if1.true
+returns c = marked_none _ _ c.if1.true
 
-block-id-requires : tie.Need-block-id-requires
-block-id-requires c κs =
+block_id_requires : tie.Need-block-id-requires
+block_id_requires c κs =
     let else1 : tie.Else1 = search in
     let start : tie.Start = search in
-    omega (arith, below-block _ start.pre else1.if1.left)
+    omega (arith, below_block _ start.pre else1.if1.left)
 
-insert-requires : tie.Need-insert-requires
-insert-requires c κs =
+insert_requires : tie.Need-insert-requires
+insert_requires c κs =
     let else1 : tie.Else1 = search in
     let start : tie.Start = search in
-    rw c.block-id.ensures (below-block _ start.pre else1.if1.left)
+    rw c.block_id.ensures (below_block _ start.pre else1.if1.left)
 
-returns-2 : tie.Need-returns-2
-returns-2 c =
-    let at-block-id : tie.After-block-id = search in
+returns_2 : tie.Need-returns-2
+returns_2 c =
+    let at_block_id : tie.After-block-id = search in
     let else1 : tie.Else1 = search in
-    rw (c.insert.ensures, at-block-id.block-id.ensures) (marked-some _ _ else1.if1.left)
+    rw (c.insert.ensures, at_block_id.block_id.ensures) (marked_some _ _ else1.if1.left)
 
 pub mark_spec : {M : Type 1} → statement M
-mark_spec = tie.close (tie.spec returns block-id-requires insert-requires returns-2)
+mark_spec = tie.close (tie.spec returns block_id_requires insert_requires returns_2)

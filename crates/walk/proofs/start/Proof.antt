@@ -3,11 +3,11 @@ use borrow.Author.Rules.{rules}
 use Rattle.walk.proofs.start.Statement.{statement}
 use Rattle.walk.proofs.start.Tie as tie
 
-entry-requires : tie.Need-entry-requires
-entry-requires c κs = search rules
+entry_requires : tie.Need-entry-requires
+entry_requires c κs = search rules
 
 returns : tie.Need-returns
 returns c = rw c.entry.ensures refl
 
 pub start_spec : {M : Type 1} → statement M
-start_spec = tie.close (tie.spec entry-requires returns)
+start_spec = tie.close (tie.spec entry_requires returns)

@@ -7,5 +7,5 @@ use Rattle.build.proofs.file.lent_lines.Tie as tie
 returns : tie.Need-returns
 returns c = sym (length-replicate {A = ℕ} 6144 0)
 
-pub lent-lines-spec : {M : Type 1} → statement M
-lent-lines-spec = tie.close (tie.spec returns)
+pub lent_lines_spec : {M : Type 1} → statement M
+lent_lines_spec = tie.close (tie.spec returns)

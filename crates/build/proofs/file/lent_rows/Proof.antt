@@ -7,5 +7,5 @@ use Rattle.build.proofs.file.lent_rows.Tie as tie
 returns : tie.Need-returns
 returns c = sym (length-replicate {A = ℕ} 12288 0)
 
-pub lent-rows-spec : {M : Type 1} → statement M
-lent-rows-spec = tie.close (tie.spec returns)
+pub lent_rows_spec : {M : Type 1} → statement M
+lent_rows_spec = tie.close (tie.spec returns)

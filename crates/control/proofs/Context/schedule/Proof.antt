@@ -10,134 +10,134 @@ use borrow.Author.Rules.{rules}
 use Rattle.control.proofs.Context.schedule.Statement.{statement}
 use Rattle.control.proofs.Context.schedule.Tie as tie
 
-enum-known-target : tie.Need-enum-known-target
-enum-known-target c = search rules
+enum_known_target : tie.Need-enum-known-target
+enum_known_target c = search rules
 
-cast-refusal : tie.Need-overflow-cast-refusal
-cast-refusal c = search rules
+cast_refusal : tie.Need-overflow-cast-refusal
+cast_refusal c = search rules
 
-array-read-refusal : tie.Need-array-read-refusal
-array-read-refusal c =
+array_read_refusal : tie.Need-array-read-refusal
+array_read_refusal c =
     let at_target : tie.After-target = search in
     let start : tie.Start = search in
     (rw at_target.target.given.1 at start.pre.0)
 
-refusal-requires : tie.Need-refusal-requires
-refusal-requires c κs = search rules
+refusal_requires : tie.Need-refusal-requires
+refusal_requires c κs = search rules
 
-cast-scheduled : tie.Need-overflow-cast-scheduled
-cast-scheduled c = search rules
+cast_scheduled : tie.Need-overflow-cast-scheduled
+cast_scheduled c = search rules
 
-array-write-scheduled : tie.Need-array-write-scheduled
-array-write-scheduled c =
+array_write_scheduled : tie.Need-array-write-scheduled
+array_write_scheduled c =
     let at_target : tie.After-target = search in
     let start : tie.Start = search in
     (rw at_target.target.given.1 at start.pre.0)
 
-enum-known-target-2 : tie.Need-enum-known-target-2
-enum-known-target-2 c = search rules
+enum_known_target_2 : tie.Need-enum-known-target-2
+enum_known_target_2 c = search rules
 
-cast-refusal-2 : tie.Need-overflow-cast-refusal-2
-cast-refusal-2 c = search rules
+cast_refusal_2 : tie.Need-overflow-cast-refusal-2
+cast_refusal_2 c = search rules
 
-array-read-refusal-2 : tie.Need-array-read-refusal-2
-array-read-refusal-2 c =
-    let at-target2 : tie.After-target2 = search in
+array_read_refusal_2 : tie.Need-array-read-refusal-2
+array_read_refusal_2 c =
+    let at_target2 : tie.After-target2 = search in
     let start : tie.Start = search in
-    (rw at-target2.target2.given.1 at start.pre.0)
+    (rw at_target2.target2.given.1 at start.pre.0)
 
-refusal-requires-2 : tie.Need-refusal-requires-2
-refusal-requires-2 c κs = search rules
+refusal_requires_2 : tie.Need-refusal-requires-2
+refusal_requires_2 c κs = search rules
 
-cast-scheduled-2 : tie.Need-overflow-cast-scheduled-2
-cast-scheduled-2 c = search rules
+cast_scheduled_2 : tie.Need-overflow-cast-scheduled-2
+cast_scheduled_2 c = search rules
 
-array-write-scheduled-2 : tie.Need-array-write-scheduled-2
-array-write-scheduled-2 c =
-    let at-target2 : tie.After-target2 = search in
+array_write_scheduled_2 : tie.Need-array-write-scheduled-2
+array_write_scheduled_2 c =
+    let at_target2 : tie.After-target2 = search in
     let start : tie.Start = search in
-    (rw at-target2.target2.given.1 at start.pre.0)
+    (rw at_target2.target2.given.1 at start.pre.0)
 
-enum-known-target-3 : tie.Need-enum-known-target-3
-enum-known-target-3 c = search rules
+enum_known_target_3 : tie.Need-enum-known-target-3
+enum_known_target_3 c = search rules
 
-cast-refusal-3 : tie.Need-overflow-cast-refusal-3
-cast-refusal-3 c = search rules
+cast_refusal_3 : tie.Need-overflow-cast-refusal-3
+cast_refusal_3 c = search rules
 
-array-read-refusal-3 : tie.Need-array-read-refusal-3
-array-read-refusal-3 c =
-    let at-target3 : tie.After-target3 = search in
+array_read_refusal_3 : tie.Need-array-read-refusal-3
+array_read_refusal_3 c =
+    let at_target3 : tie.After-target3 = search in
     let start : tie.Start = search in
-    (rw at-target3.target3.given.1 at start.pre.0)
+    (rw at_target3.target3.given.1 at start.pre.0)
 
-refusal-requires-3 : tie.Need-refusal-requires-3
-refusal-requires-3 c κs = search rules
+refusal_requires_3 : tie.Need-refusal-requires-3
+refusal_requires_3 c κs = search rules
 
-cast-scheduled-3 : tie.Need-overflow-cast-scheduled-3
-cast-scheduled-3 c = search rules
+cast_scheduled_3 : tie.Need-overflow-cast-scheduled-3
+cast_scheduled_3 c = search rules
 
-array-write-scheduled-3 : tie.Need-array-write-scheduled-3
-array-write-scheduled-3 c =
-    let at-target3 : tie.After-target3 = search in
+array_write_scheduled_3 : tie.Need-array-write-scheduled-3
+array_write_scheduled_3 c =
+    let at_target3 : tie.After-target3 = search in
     let start : tie.Start = search in
-    (rw at-target3.target3.given.1 at start.pre.0)
+    (rw at_target3.target3.given.1 at start.pre.0)
 
-enum-known-target-4 : tie.Need-enum-known-target-4
-enum-known-target-4 c = search rules
+enum_known_target_4 : tie.Need-enum-known-target-4
+enum_known_target_4 c = search rules
 
-cast-scheduled-4 : tie.Need-overflow-cast-scheduled-4
-cast-scheduled-4 c = search rules
+cast_scheduled_4 : tie.Need-overflow-cast-scheduled-4
+cast_scheduled_4 c = search rules
 
-array-write-scheduled-4 : tie.Need-array-write-scheduled-4
-array-write-scheduled-4 c =
-    let at-target4 : tie.After-target4 = search in
+array_write_scheduled_4 : tie.Need-array-write-scheduled-4
+array_write_scheduled_4 c =
+    let at_target4 : tie.After-target4 = search in
     let start : tie.Start = search in
-    (rw at-target4.target4.given.1 at start.pre.0).0
+    (rw at_target4.target4.given.1 at start.pre.0).0
 
-cast-refusal-4 : tie.Need-overflow-cast-refusal-4
-cast-refusal-4 c = search rules
+cast_refusal_4 : tie.Need-overflow-cast-refusal-4
+cast_refusal_4 c = search rules
 
-array-read-refusal-4 : tie.Need-array-read-refusal-4
-array-read-refusal-4 c =
-    let at-target4 : tie.After-target4 = search in
+array_read_refusal_4 : tie.Need-array-read-refusal-4
+array_read_refusal_4 c =
+    let at_target4 : tie.After-target4 = search in
     let start : tie.Start = search in
-    (rw at-target4.target4.given.1 at start.pre.0).1
+    (rw at_target4.target4.given.1 at start.pre.0).1
 
-refusal-requires-4 : tie.Need-refusal-requires-4
-refusal-requires-4 c κs = search rules
+refusal_requires_4 : tie.Need-refusal-requires-4
+refusal_requires_4 c κs = search rules
 
-cast-scheduled-5 : tie.Need-overflow-cast-scheduled-5
-cast-scheduled-5 c = search rules
+cast_scheduled_5 : tie.Need-overflow-cast-scheduled-5
+cast_scheduled_5 c = search rules
 
-array-write-scheduled-5 : tie.Need-array-write-scheduled-5
-array-write-scheduled-5 c =
-    let at-target4 : tie.After-target4 = search in
+array_write_scheduled_5 : tie.Need-array-write-scheduled-5
+array_write_scheduled_5 c =
+    let at_target4 : tie.After-target4 = search in
     let start : tie.Start = search in
-    (rw at-target4.target4.given.1 at start.pre.0).1
+    (rw at_target4.target4.given.1 at start.pre.0).1
 
-cast-owns-loop : tie.Need-overflow-cast-owns-loop
-cast-owns-loop c = search rules
+cast_owns_loop : tie.Need-overflow-cast-owns-loop
+cast_owns_loop c = search rules
 
-array-read-owns-loop : tie.Need-array-read-owns-loop
-array-read-owns-loop c =
-    let at-target4 : tie.After-target4 = search in
+array_read_owns_loop : tie.Need-array-read-owns-loop
+array_read_owns_loop c =
+    let at_target4 : tie.After-target4 = search in
     let start : tie.Start = search in
-    (rw at-target4.target4.given.1 at start.pre.0).2
+    (rw at_target4.target4.given.1 at start.pre.0).2
 
-cast-scheduled-6 : tie.Need-overflow-cast-scheduled-6
-cast-scheduled-6 c = search rules
+cast_scheduled_6 : tie.Need-overflow-cast-scheduled-6
+cast_scheduled_6 c = search rules
 
-array-write-scheduled-6 : tie.Need-array-write-scheduled-6
-array-write-scheduled-6 c =
-    let at-target4 : tie.After-target4 = search in
+array_write_scheduled_6 : tie.Need-array-write-scheduled-6
+array_write_scheduled_6 c =
+    let at_target4 : tie.After-target4 = search in
     let start : tie.Start = search in
-    (rw at-target4.target4.given.1 at start.pre.0).2
+    (rw at_target4.target4.given.1 at start.pre.0).2
 
-add-self : tie.Need-overflow-add-self
-add-self c = search rules
+add_self : tie.Need-overflow-add-self
+add_self c = search rules
 
-add-self-2 : tie.Need-overflow-add-self-2
-add-self-2 c = search rules
+add_self_2 : tie.Need-overflow-add-self-2
+add_self_2 c = search rules
 
 returns : tie.Need-returns
 unfolding has add
@@ -151,40 +151,40 @@ returns c =
     (λ v. ⊎_elim (λ w. entered (rw w.1.given.1 w.4) (rw w.1.given.1 w.5) (rw w.1.given.1 (w.6 ∙ w.3.ensures)) (rw w.1.given.1 w.7) given)
     (λ w. entered (rw w.1.given.1 w.4) (rw w.1.given.1 w.5) (rw w.1.given.1 (w.6 ∙ w.3.ensures)) (rw w.1.given.1 w.7) given) v) v) met.match.came
 
-pub schedule-spec : {M : Type 1} → statement M
-schedule-spec =
+pub schedule_spec : {M : Type 1} → statement M
+schedule_spec =
     tie.close
     (tie.spec
-    enum-known-target
-    cast-refusal
-    array-read-refusal
-    refusal-requires
-    cast-scheduled
-    array-write-scheduled
-    enum-known-target-2
-    cast-refusal-2
-    array-read-refusal-2
-    refusal-requires-2
-    cast-scheduled-2
-    array-write-scheduled-2
-    enum-known-target-3
-    cast-refusal-3
-    array-read-refusal-3
-    refusal-requires-3
-    cast-scheduled-3
-    array-write-scheduled-3
-    enum-known-target-4
-    cast-scheduled-4
-    array-write-scheduled-4
-    cast-refusal-4
-    array-read-refusal-4
-    refusal-requires-4
-    cast-scheduled-5
-    array-write-scheduled-5
-    cast-owns-loop
-    array-read-owns-loop
-    cast-scheduled-6
-    array-write-scheduled-6
-    add-self
-    add-self-2
+    enum_known_target
+    cast_refusal
+    array_read_refusal
+    refusal_requires
+    cast_scheduled
+    array_write_scheduled
+    enum_known_target_2
+    cast_refusal_2
+    array_read_refusal_2
+    refusal_requires_2
+    cast_scheduled_2
+    array_write_scheduled_2
+    enum_known_target_3
+    cast_refusal_3
+    array_read_refusal_3
+    refusal_requires_3
+    cast_scheduled_3
+    array_write_scheduled_3
+    enum_known_target_4
+    cast_scheduled_4
+    array_write_scheduled_4
+    cast_refusal_4
+    array_read_refusal_4
+    refusal_requires_4
+    cast_scheduled_5
+    array_write_scheduled_5
+    cast_owns_loop
+    array_read_owns_loop
+    cast_scheduled_6
+    array_write_scheduled_6
+    add_self
+    add_self_2
     returns)

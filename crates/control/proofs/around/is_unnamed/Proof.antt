@@ -7,50 +7,50 @@ use Rattle.control.proofs.around.is_unnamed.Tie as tie
 enum_told : tie.Need-enum-told
 enum_told c = search rules
 
-enum-told-2 : tie.Need-enum-told-2
-enum-told-2 c = search rules
+enum_told_2 : tie.Need-enum-told-2
+enum_told_2 c = search rules
 
-enum-told-3 : tie.Need-enum-told-3
-enum-told-3 c = search rules
+enum_told_3 : tie.Need-enum-told-3
+enum_told_3 c = search rules
 
-enum-told-4 : tie.Need-enum-told-4
-enum-told-4 c = search rules
+enum_told_4 : tie.Need-enum-told-4
+enum_told_4 c = search rules
 
-enum-told-5 : tie.Need-enum-told-5
-enum-told-5 c = search rules
+enum_told_5 : tie.Need-enum-told-5
+enum_told_5 c = search rules
 
 returns : tie.Need-returns
 unfolding unnamed
 returns c = rw c.enum_told.given.1 refl
 
-returns-2 : tie.Need-returns-2
+returns_2 : tie.Need-returns-2
 unfolding unnamed
-returns-2 c =
+returns_2 c =
     let told : tie.After-enum-told2 = search in
-    rw (told.enum-told2.given.1, c.enum-told3.given.1) refl
+    rw (told.enum_told2.given.1, c.enum_told3.given.1) refl
 
-returns-3 : tie.Need-returns-3
+returns_3 : tie.Need-returns-3
 unfolding unnamed
-returns-3 c =
+returns_3 c =
     let told : tie.After-enum-told2 = search in
-    rw (told.enum-told2.given.1, c.enum-told4.given.1) refl
+    rw (told.enum_told2.given.1, c.enum_told4.given.1) refl
 
-returns-4 : tie.Need-returns-4
+returns_4 : tie.Need-returns-4
 unfolding unnamed
-returns-4 c =
+returns_4 c =
     let told : tie.After-enum-told2 = search in
-    rw (told.enum-told2.given.1, c.enum-told5.given.1) refl
+    rw (told.enum_told2.given.1, c.enum_told5.given.1) refl
 
-pub is-unnamed-spec : {M : Type 1} → statement M
-is-unnamed-spec =
+pub is_unnamed_spec : {M : Type 1} → statement M
+is_unnamed_spec =
     tie.close
     (tie.spec
     enum_told
-    enum-told-2
-    enum-told-3
-    enum-told-4
-    enum-told-5
+    enum_told_2
+    enum_told_3
+    enum_told_4
+    enum_told_5
     returns
-    returns-2
-    returns-3
-    returns-4)
+    returns_2
+    returns_3
+    returns_4)

@@ -1,5 +1,5 @@
 use mathlib.Core.Path.{sym}
-use Rattle.control.proofs.SurveyLaws.{not-next}
+use Rattle.control.proofs.SurveyLaws.{not_next}
 use borrow.Author.Rules.{rules}
 use Rattle.control.proofs.around.names_loop.Statement.{statement}
 use Rattle.control.proofs.around.names_loop.Tie as tie
@@ -7,8 +7,8 @@ use Rattle.control.proofs.around.names_loop.Tie as tie
 returns : tie.Need-returns
 returns c = search rules
 
-returns-2 : tie.Need-returns-2
-returns-2 c = sym (not-next _ _ c.if1.false)
+returns_2 : tie.Need-returns-2
+returns_2 c = sym (not_next _ _ c.if1.false)
 
-pub names-loop-spec : {M : Type 1} → statement M
-names-loop-spec = tie.close (tie.spec returns returns-2)
+pub names_loop_spec : {M : Type 1} → statement M
+names_loop_spec = tie.close (tie.spec returns returns_2)

@@ -4,11 +4,11 @@ use Rattle.text.proofs.WriteLaws.{wrote_then}
 use Rattle.convert.proofs.written_tables.write_part.Statement.{statement}
 use Rattle.convert.proofs.written_tables.write_part.Tie as tie
 
-write-names-requires : tie.Need-write-names-requires
-write-names-requires c κs = search rules
+write_names_requires : tie.Need-write-names-requires
+write_names_requires c κs = search rules
 
-write-rows-requires : tie.Need-write-rows-requires
-write-rows-requires c κs = search rules
+write_rows_requires : tie.Need-write-rows-requires
+write_rows_requires c κs = search rules
 
 same_length : tie.Need-same-length
 same_length c = search rules
@@ -18,7 +18,7 @@ returns c =
     let rows : tie.After-write-rows = search in
     let names : tie.After-write-names = search in
     let start : tie.Start = search in
-    (wrote_then names.write-names.ensures rows.write-rows.ensures.0, omega (arith, names.write-names.ensures.long, rows.write-rows.ensures.1, start.pre))
+    (wrote_then names.write_names.ensures rows.write_rows.ensures.0, omega (arith, names.write_names.ensures.long, rows.write_rows.ensures.1, start.pre))
 
-pub write-part-spec : {M : Type 1} → statement M
-write-part-spec = tie.close (tie.spec write-names-requires write-rows-requires same_length returns)
+pub write_part_spec : {M : Type 1} → statement M
+write_part_spec = tie.close (tie.spec write_names_requires write_rows_requires same_length returns)

@@ -1,24 +1,24 @@
 use borrow.Author.Rules.{rules}
 use native.Mathlib.Omega.{arith}
 use mathlib.Core.Path.{sym, ◌∙◌}
-use Rattle.order.proofs.WalkLaws.{in_order, order-numbers}
+use Rattle.order.proofs.WalkLaws.{in_order, order_numbers}
 use Rattle.order.proofs.block_walk.walking_order.Statement.{statement}
 use Rattle.order.proofs.block_walk.walking_order.Tie as tie
 
-walk-requires : tie.Need-walk-requires
-walk-requires c κs = search rules
+walk_requires : tie.Need-walk-requires
+walk_requires c κs = search rules
 
-block-count-requires : tie.Need-block-count-requires
-block-count-requires c κs = search rules
+block_count_requires : tie.Need-block-count-requires
+block_count_requires c κs = search rules
 
-name-rest-requires : tie.Need-name-rest-requires
-name-rest-requires c κs = search rules
+name_rest_requires : tie.Need-name-rest-requires
+name_rest_requires c κs = search rules
 
 same_length : tie.Need-same-length
 same_length c = search rules
 
-same-length-2 : tie.Need-same-length-2
-same-length-2 c = search rules
+same_length_2 : tie.Need-same-length-2
+same_length_2 c = search rules
 
 returns : tie.Need-returns
 returns c =
@@ -26,17 +26,17 @@ returns c =
     let counted : tie.After-block-count = search in
     let walked : tie.After-walk = search in
     let start : tie.Start = search in
-    let joined = rw counted.block-count.ensures at rest.name-rest.ensures in
+    let joined = rw counted.block_count.ensures at rest.name_rest.ensures in
     let long = walked.walk.kept.1.0 ∙ start.pre.1.0 in
-    (in_order _ start.pre.0 joined walked.walk.ensures.1 long, order-numbers _ start.pre.0 joined walked.walk.ensures.1 long)
+    (in_order _ start.pre.0 joined walked.walk.ensures.1 long, order_numbers _ start.pre.0 joined walked.walk.ensures.1 long)
 
-pub walking-order-spec : {M : Type 1} → statement M
-walking-order-spec =
+pub walking_order_spec : {M : Type 1} → statement M
+walking_order_spec =
     tie.close
     (tie.spec
-    walk-requires
-    block-count-requires
-    name-rest-requires
+    walk_requires
+    block_count_requires
+    name_rest_requires
     same_length
-    same-length-2
+    same_length_2
     returns)

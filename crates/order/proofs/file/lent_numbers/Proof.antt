@@ -7,5 +7,5 @@ use Rattle.order.proofs.file.lent_numbers.Tie as tie
 returns : tie.Need-returns
 returns c = sym (length-replicate {A = ℕ} 1024 0)
 
-pub lent-numbers-spec : {M : Type 1} → statement M
-lent-numbers-spec = tie.close (tie.spec returns)
+pub lent_numbers_spec : {M : Type 1} → statement M
+lent_numbers_spec = tie.close (tie.spec returns)

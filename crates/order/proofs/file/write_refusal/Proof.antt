@@ -1,15 +1,15 @@
 use borrow.Author.Rules.{rules}
 use native.Mathlib.Omega.{arith}
 use mathlib.Core.Path.{refl}
-use Rattle.text.proofs.PrintsLaws.{refusal-written, written_as}
+use Rattle.text.proofs.PrintsLaws.{refusal_written, written_as}
 use Rattle.order.proofs.file.write_refusal.Statement.{statement}
 use Rattle.order.proofs.file.write_refusal.Tie as tie
 
-slice-aggregate-write : tie.Need-slice-aggregate-write
-slice-aggregate-write c = search rules
+slice_aggregate_write : tie.Need-slice-aggregate-write
+slice_aggregate_write c = search rules
 
-write-requires : tie.Need-write-requires
-write-requires c κs = search rules
+write_requires : tie.Need-write-requires
+write_requires c κs = search rules
 
 same_length : tie.Need-same-length
 same_length c = search rules
@@ -20,7 +20,7 @@ returns c =
     let start : tie.Start = search in
     let w = written.write.ensures in
     let f = start.fits in
-    written_as refl (omega arith) (refusal-written start.args.code start.args.at _ start.pre f.code.fits f.at.fits w.0 w.1)
+    written_as refl (omega arith) (refusal_written start.args.code start.args.at _ start.pre f.code.fits f.at.fits w.0 w.1)
 
-pub write-refusal-spec : {M : Type 1} → statement M
-write-refusal-spec = tie.close (tie.spec slice-aggregate-write write-requires same_length returns)
+pub write_refusal_spec : {M : Type 1} → statement M
+write_refusal_spec = tie.close (tie.spec slice_aggregate_write write_requires same_length returns)

@@ -8,75 +8,75 @@ use Rattle.order.proofs.WriteLaws.{copied_none, copied_more}
 use Rattle.order.proofs.write.copy_words.Statement.{statement}
 use Rattle.order.proofs.write.copy_words.Tie as tie
 
-abbrev invariant-loop : tie.invariant-loop
-invariant-loop words new-words₀ begin end i₀ new-words i = (begin ≤ i) × (i ≤ end) × Copied words new-words₀ begin i new-words
+abbrev invariant_loop : tie.invariant_loop
+invariant_loop words new_words₀ begin end i₀ new_words i = (begin ≤ i) × (i ≤ end) × Copied words new_words₀ begin i new_words
 
-abbrev decreases-loop : tie.decreases-loop
-decreases-loop words new-words₀ begin end i₀ new-words i = end - i
+abbrev decreases_loop : tie.decreases_loop
+decreases_loop words new_words₀ begin end i₀ new_words i = end - i
 
-loop-holds : tie.Need-loop-init invariant-loop decreases-loop
-loop-holds c =
-    let start : tie.Start invariant-loop decreases-loop = search in
+loop_holds : tie.Need-loop-init invariant_loop decreases_loop
+loop_holds c =
+    let start : tie.Start invariant_loop decreases_loop = search in
     (omega arith, omega (arith, start.pre.0), copied_none _ _ _)
 
-mul-new-words : tie.Need-overflow-mul-new-words invariant-loop decreases-loop
-mul-new-words c = search rules
+mul_new_words : tie.Need-overflow-mul-new-words invariant_loop decreases_loop
+mul_new_words c = search rules
 
-shared-slice-read-new-words : tie.Need-shared-slice-read-new-words invariant-loop decreases-loop
-shared-slice-read-new-words c =
-    let within : tie.In-loop invariant-loop decreases-loop = search in
-    let start : tie.Start invariant-loop decreases-loop = search in
-    omega (arith, within.loop-test.taken, start.pre.1.0)
+shared_slice_read_new_words : tie.Need-shared-slice-read-new-words invariant_loop decreases_loop
+shared_slice_read_new_words c =
+    let within : tie.In-loop invariant_loop decreases_loop = search in
+    let start : tie.Start invariant_loop decreases_loop = search in
+    omega (arith, within.loop_test.taken, start.pre.1.0)
 
-mul-new-words-2 : tie.Need-overflow-mul-new-words-2 invariant-loop decreases-loop
-mul-new-words-2 c = search rules
+mul_new_words_2 : tie.Need-overflow-mul-new-words-2 invariant_loop decreases_loop
+mul_new_words_2 c = search rules
 
-slice-write-new-words : tie.Need-slice-write-new-words invariant-loop decreases-loop
-slice-write-new-words c =
-    let within : tie.In-loop invariant-loop decreases-loop = search in
-    let turn : tie.At-loop invariant-loop decreases-loop = search in
-    let start : tie.Start invariant-loop decreases-loop = search in
-    omega (arith, within.loop-test.taken, start.pre.1.0, start.pre.1.1, turn.loop.inv.2.long)
+slice_write_new_words : tie.Need-slice-write-new-words invariant_loop decreases_loop
+slice_write_new_words c =
+    let within : tie.In-loop invariant_loop decreases_loop = search in
+    let turn : tie.At-loop invariant_loop decreases_loop = search in
+    let start : tie.Start invariant_loop decreases_loop = search in
+    omega (arith, within.loop_test.taken, start.pre.1.0, start.pre.1.1, turn.loop.inv.2.long)
 
-add-i : tie.Need-overflow-add-i invariant-loop decreases-loop
-add-i c = search rules
+add_i : tie.Need-overflow-add-i invariant_loop decreases_loop
+add_i c = search rules
 
-loop-less : tie.Need-loop-smaller invariant-loop decreases-loop
-loop-less c = search rules
+loop_less : tie.Need-loop-smaller invariant_loop decreases_loop
+loop_less c = search rules
 
-loop-again : tie.Need-loop-preserved invariant-loop decreases-loop
-loop-again c =
-    let within : tie.In-loop invariant-loop decreases-loop = search in
-    let turn : tie.At-loop invariant-loop decreases-loop = search in
-    let start : tie.Start invariant-loop decreases-loop = search in
+loop_again : tie.Need-loop-preserved invariant_loop decreases_loop
+loop_again c =
+    let within : tie.In-loop invariant_loop decreases_loop = search in
+    let turn : tie.At-loop invariant_loop decreases_loop = search in
+    let start : tie.Start invariant_loop decreases_loop = search in
     let I = turn.loop.inv in
-    (omega (arith, I.0), omega (arith, within.loop-test.taken), copied_more I.2 I.0 (omega (arith, within.loop-test.taken, start.pre.1.0, start.pre.1.1, I.2.long)))
+    (omega (arith, I.0), omega (arith, within.loop_test.taken), copied_more I.2 I.0 (omega (arith, within.loop_test.taken, start.pre.1.0, start.pre.1.1, I.2.long)))
 
-same_length : tie.Need-same-length invariant-loop decreases-loop
+same_length : tie.Need-same-length invariant_loop decreases_loop
 same_length c =
-    let turn : tie.At-loop invariant-loop decreases-loop = search in
+    let turn : tie.At-loop invariant_loop decreases_loop = search in
     turn.loop.inv.2.long
 
-returns : tie.Need-returns invariant-loop decreases-loop
+returns : tie.Need-returns invariant_loop decreases_loop
 returns c =
-    let turn : tie.At-loop invariant-loop decreases-loop = search in
-    let start : tie.Start invariant-loop decreases-loop = search in
-    let all : turn.loop.i ≡ start.args.end = omega (arith, turn.loop.inv.1, c.loop-test.false) in
+    let turn : tie.At-loop invariant_loop decreases_loop = search in
+    let start : tie.Start invariant_loop decreases_loop = search in
+    let all : turn.loop.i ≡ start.args.end = omega (arith, turn.loop.inv.1, c.loop_test.false) in
     rw all at turn.loop.inv.2
 
-pub copy-words-spec : {M : Type 1} → statement M
-copy-words-spec =
+pub copy_words_spec : {M : Type 1} → statement M
+copy_words_spec =
     tie.close
     (tie.spec
-    invariant-loop
-    decreases-loop
-    loop-holds
-    mul-new-words
-    shared-slice-read-new-words
-    mul-new-words-2
-    slice-write-new-words
-    add-i
-    loop-less
-    loop-again
+    invariant_loop
+    decreases_loop
+    loop_holds
+    mul_new_words
+    shared_slice_read_new_words
+    mul_new_words_2
+    slice_write_new_words
+    add_i
+    loop_less
+    loop_again
     same_length
     returns)

@@ -3,16 +3,16 @@ use native.Mathlib.Omega.{arith}
 use Rattle.order.proofs.write.number_if.Statement.{statement}
 use Rattle.order.proofs.write.number_if.Tie as tie
 
-number-in-requires : tie.Need-number-in-requires
-number-in-requires c κs = search rules
+number_in_requires : tie.Need-number-in-requires
+number_in_requires c κs = search rules
 
 returns : tie.Need-returns
 returns c =
     let tested : tie.Then1 = search in
     rw tested.if1.taken c.number_in.ensures
 
-returns-2 : tie.Need-returns-2
-returns-2 c = search rules
+returns_2 : tie.Need-returns-2
+returns_2 c = search rules
 
-pub number-if-spec : {M : Type 1} → statement M
-number-if-spec = tie.close (tie.spec number-in-requires returns returns-2)
+pub number_if_spec : {M : Type 1} → statement M
+number_if_spec = tie.close (tie.spec number_in_requires returns returns_2)

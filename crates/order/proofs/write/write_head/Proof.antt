@@ -2,40 +2,40 @@ use borrow.Author.Rules.{rules}
 use native.Mathlib.Omega.{arith}
 use mathlib.Core.Path.{◌≡◌, refl, sym, ◌∙◌}
 use lib.ListN.{length-set}
-use Rattle.order.proofs.WriteLaws.{sizes, put, copy, entry-is, head-same}
+use Rattle.order.proofs.WriteLaws.{sizes, put, copy, entry_is, head_same}
 use Rattle.order.proofs.write.write_head.Statement.{statement}
 use Rattle.order.proofs.write.write_head.Tie as tie
 
-block-count-requires : tie.Need-block-count-requires
-block-count-requires c κs =
+block_count_requires : tie.Need-block-count-requires
+block_count_requires c κs =
     let start : tie.Start = search in
     start.pre.promise.sized.limited.head
 
-shared-slice-read-number-in : tie.Need-shared-slice-read-number-in
-shared-slice-read-number-in c =
+shared_slice_read_number_in : tie.Need-shared-slice-read-number-in
+shared_slice_read_number_in c =
     let start : tie.Start = search in
     omega (arith, start.pre.promise.sized.limited.head)
 
-number-in-requires : tie.Need-number-in-requires
-number-in-requires c κs =
+number_in_requires : tie.Need-number-in-requires
+number_in_requires c κs =
     let counted : tie.After-block-count = search in
     let start : tie.Start = search in
-    omega (arith, counted.block-count.ensures, start.pre.named)
+    omega (arith, counted.block_count.ensures, start.pre.named)
 
-slice-write-new-words : tie.Need-slice-write-new-words
-slice-write-new-words c =
+slice_write_new_words : tie.Need-slice-write-new-words
+slice_write_new_words c =
     let start : tie.Start = search in
     omega (arith, start.pre.promise.sized.limited.head, start.pre.long)
 
-copy-words-requires : tie.Need-copy-words-requires
-copy-words-requires c κs =
+copy_words_requires : tie.Need-copy-words-requires
+copy_words_requires c κs =
     let start : tie.Start = search in
     (omega arith, (omega (arith, start.pre.promise.sized.limited.head), simp length-set start.pre.long))
 
 same_length : tie.Need-same-length
 same_length c =
     let copied : tie.After-copy-words = search in
-    copied.copy-words.ensures.long ∙ simp length-set
+    copied.copy_words.ensures.long ∙ simp length-set
 
 returns : tie.Need-returns
 returns c =
@@ -44,17 +44,17 @@ returns c =
     let counted : tie.After-block-count = search in
     let start : tie.Start = search in
     let p = start.pre.promise in
-    let first = rw counted.block-count.ensures at numbered.number_in.ensures in
-    copy (put start.pre _ (omega (arith, p.sized.limited.head)) (first ∙ entry-is _ _ _ p)) copied.copy-words.ensures (head-same _ _ _ p)
+    let first = rw counted.block_count.ensures at numbered.number_in.ensures in
+    copy (put start.pre _ (omega (arith, p.sized.limited.head)) (first ∙ entry_is _ _ _ p)) copied.copy_words.ensures (head_same _ _ _ p)
 
-pub write-head-spec : {M : Type 1} → statement M
-write-head-spec =
+pub write_head_spec : {M : Type 1} → statement M
+write_head_spec =
     tie.close
     (tie.spec
-    block-count-requires
-    shared-slice-read-number-in
-    number-in-requires
-    slice-write-new-words
-    copy-words-requires
+    block_count_requires
+    shared_slice_read_number_in
+    number_in_requires
+    slice_write_new_words
+    copy_words_requires
     same_length
     returns)

@@ -3,16 +3,16 @@ use mathlib.Core.Path.{refl}
 use Rattle.plain.proofs.asked.is_branch_to.Statement.{statement}
 use Rattle.plain.proofs.asked.is_branch_to.Tie as tie
 
-both-requires : tie.Need-both-requires
-both-requires c κs = search rules
+both_requires : tie.Need-both-requires
+both_requires c κs = search rules
 
-both-requires-2 : tie.Need-both-requires-2
-both-requires-2 c κs = search rules
+both_requires_2 : tie.Need-both-requires-2
+both_requires_2 c κs = search rules
 
 returns : tie.Need-returns
 returns c =
     let named : tie.After-both = search in
     rw (c.both2.ensures, named.both.ensures) refl
 
-pub is-branch-to-spec : {M : Type 1} → statement M
-is-branch-to-spec = tie.close (tie.spec both-requires both-requires-2 returns)
+pub is_branch_to_spec : {M : Type 1} → statement M
+is_branch_to_spec = tie.close (tie.spec both_requires both_requires_2 returns)

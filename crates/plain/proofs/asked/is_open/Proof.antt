@@ -3,17 +3,17 @@ use mathlib.Core.Path.{refl}
 use Rattle.plain.proofs.asked.is_open.Statement.{statement}
 use Rattle.plain.proofs.asked.is_open.Tie as tie
 
-either-requires : tie.Need-either-requires
-either-requires c κs = search rules
+either_requires : tie.Need-either-requires
+either_requires c κs = search rules
 
-either-requires-2 : tie.Need-either-requires-2
-either-requires-2 c κs = search rules
+either_requires_2 : tie.Need-either-requires-2
+either_requires_2 c κs = search rules
 
-either-requires-3 : tie.Need-either-requires-3
-either-requires-3 c κs = search rules
+either_requires_3 : tie.Need-either-requires-3
+either_requires_3 c κs = search rules
 
-either-requires-4 : tie.Need-either-requires-4
-either-requires-4 c κs = search rules
+either_requires_4 : tie.Need-either-requires-4
+either_requires_4 c κs = search rules
 
 returns : tie.Need-returns
 returns c =
@@ -22,7 +22,7 @@ returns c =
     let scopes : tie.After-either = search in
     rw (c.either4.ensures, switches.either3.ensures, labels.either2.ensures, scopes.either.ensures) refl
 
-pub is-open-spec : {M : Type 1} → statement M
-is-open-spec =
+pub is_open_spec : {M : Type 1} → statement M
+is_open_spec =
     tie.close
-    (tie.spec either-requires either-requires-2 either-requires-3 either-requires-4 returns)
+    (tie.spec either_requires either_requires_2 either_requires_3 either_requires_4 returns)

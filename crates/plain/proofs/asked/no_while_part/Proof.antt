@@ -3,16 +3,16 @@ use mathlib.Core.Path.{refl}
 use Rattle.plain.proofs.asked.no_while_part.Statement.{statement}
 use Rattle.plain.proofs.asked.no_while_part.Tie as tie
 
-both-requires : tie.Need-both-requires
-both-requires c κs = search rules
+both_requires : tie.Need-both-requires
+both_requires c κs = search rules
 
-either-requires : tie.Need-either-requires
-either-requires c κs = search rules
+either_requires : tie.Need-either-requires
+either_requires c κs = search rules
 
 returns : tie.Need-returns
 returns c =
     let other : tie.After-both = search in
     rw (c.either.ensures, other.both.ensures) refl
 
-pub no-while-part-spec : {M : Type 1} → statement M
-no-while-part-spec = tie.close (tie.spec both-requires either-requires returns)
+pub no_while_part_spec : {M : Type 1} → statement M
+no_while_part_spec = tie.close (tie.spec both_requires either_requires returns)

@@ -3,20 +3,20 @@ use mathlib.Core.Path.{refl}
 use Rattle.plain.proofs.asked.not_named.Statement.{statement}
 use Rattle.plain.proofs.asked.not_named.Tie as tie
 
-is-jump-requires : tie.Need-is-jump-requires
-is-jump-requires c κs = search rules
+is_jump_requires : tie.Need-is-jump-requires
+is_jump_requires c κs = search rules
 
-no-while-part-requires : tie.Need-no-while-part-requires
-no-while-part-requires c κs = search rules
+no_while_part_requires : tie.Need-no-while-part-requires
+no_while_part_requires c κs = search rules
 
-both-requires : tie.Need-both-requires
-both-requires c κs = search rules
+both_requires : tie.Need-both-requires
+both_requires c κs = search rules
 
-is-fall-requires : tie.Need-is-fall-requires
-is-fall-requires c κs = search rules
+is_fall_requires : tie.Need-is-fall-requires
+is_fall_requires c κs = search rules
 
-both-requires-2 : tie.Need-both-requires-2
-both-requires-2 c κs = search rules
+both_requires_2 : tie.Need-both-requires-2
+both_requires_2 c κs = search rules
 
 returns : tie.Need-returns
 returns c =
@@ -24,15 +24,15 @@ returns c =
     let others : tie.After-both = search in
     let part : tie.After-no-while-part = search in
     let jumps : tie.After-is-jump = search in
-    rw (c.both2.ensures, falls.is-fall.ensures, others.both.ensures, part.no-while-part.ensures, jumps.is-jump.ensures) refl
+    rw (c.both2.ensures, falls.is_fall.ensures, others.both.ensures, part.no_while_part.ensures, jumps.is_jump.ensures) refl
 
-pub not-named-spec : {M : Type 1} → statement M
-not-named-spec =
+pub not_named_spec : {M : Type 1} → statement M
+not_named_spec =
     tie.close
     (tie.spec
-    is-jump-requires
-    no-while-part-requires
-    both-requires
-    is-fall-requires
-    both-requires-2
+    is_jump_requires
+    no_while_part_requires
+    both_requires
+    is_fall_requires
+    both_requires_2
     returns)

@@ -3,16 +3,16 @@ use mathlib.Core.Path.{refl}
 use Rattle.plain.proofs.asked.only_of.Statement.{statement}
 use Rattle.plain.proofs.asked.only_of.Tie as tie
 
-is-fall-requires : tie.Need-is-fall-requires
-is-fall-requires c κs = search rules
+is_fall_requires : tie.Need-is-fall-requires
+is_fall_requires c κs = search rules
 
-either-requires : tie.Need-either-requires
-either-requires c κs = search rules
+either_requires : tie.Need-either-requires
+either_requires c κs = search rules
 
 returns : tie.Need-returns
 returns c =
     let falls : tie.After-is-fall = search in
-    rw (c.either.ensures, falls.is-fall.ensures) refl
+    rw (c.either.ensures, falls.is_fall.ensures) refl
 
-pub only-of-spec : {M : Type 1} → statement M
-only-of-spec = tie.close (tie.spec is-fall-requires either-requires returns)
+pub only_of_spec : {M : Type 1} → statement M
+only_of_spec = tie.close (tie.spec is_fall_requires either_requires returns)

@@ -3,82 +3,82 @@ use borrow.Author.Rules.{rules}
 use native.Mathlib.Omega.{arith}
 use mathlib.Core.Path.{refl, sym, ◌∙◌}
 use Rattle.definition.specs.Plain.{different}
-use Rattle.plain.proofs.CaseLaws.{Left, left-all, left-first, left-more, left-none}
+use Rattle.plain.proofs.CaseLaws.{Left, left_all, left_first, left_more, left_none}
 use Rattle.plain.proofs.cases.different_cases.Statement.{statement}
 use Rattle.plain.proofs.cases.different_cases.Tie as tie
 
-abbrev invariant-loop : tie.invariant-loop
-invariant-loop words first number at₀ left₀ at left = Left words different first number at left
+abbrev invariant_loop : tie.invariant_loop
+invariant_loop words first number at₀ left₀ at left = Left words different first number at left
 
-abbrev decreases-loop : tie.decreases-loop
-decreases-loop words first number at₀ left₀ at left = left
+abbrev decreases_loop : tie.decreases_loop
+decreases_loop words first number at₀ left₀ at left = left
 
-loop-holds : tie.Need-loop-init invariant-loop decreases-loop
-loop-holds c =
-    let start : tie.Start invariant-loop decreases-loop = search in
-    left-all _ start.pre.1
+loop_holds : tie.Need-loop-init invariant_loop decreases_loop
+loop_holds c =
+    let start : tie.Start invariant_loop decreases_loop = search in
+    left_all _ start.pre.1
 
-case-at-requires : tie.Need-case-at-requires invariant-loop decreases-loop
-case-at-requires c κs =
-    let turn : tie.At-loop invariant-loop decreases-loop = search in
-    let start : tie.Start invariant-loop decreases-loop = search in
-    (start.pre.0, omega (arith, turn.loop.inv.within, c.loop-test.true))
+case_at_requires : tie.Need-case-at-requires invariant_loop decreases_loop
+case_at_requires c κs =
+    let turn : tie.At-loop invariant_loop decreases_loop = search in
+    let start : tie.Start invariant_loop decreases_loop = search in
+    (start.pre.0, omega (arith, turn.loop.inv.within, c.loop_test.true))
 
-add_at : tie.Need-overflow-add-at invariant-loop decreases-loop
+add_at : tie.Need-overflow-add-at invariant_loop decreases_loop
 add_at c =
-    let turn : tie.At-loop invariant-loop decreases-loop = search in
-    let start : tie.Start invariant-loop decreases-loop = search in
+    let turn : tie.At-loop invariant_loop decreases_loop = search in
+    let start : tie.Start invariant_loop decreases_loop = search in
     omega (arith, turn.loop.inv.within, start.pre.0.sized.limited.cases)
 
-sub-left : tie.Need-overflow-sub-left invariant-loop decreases-loop
-sub-left c =
-    let within : tie.In-loop invariant-loop decreases-loop = search in
-    omega (arith, within.loop-test.taken)
+sub_left : tie.Need-overflow-sub-left invariant_loop decreases_loop
+sub_left c =
+    let within : tie.In-loop invariant_loop decreases_loop = search in
+    omega (arith, within.loop_test.taken)
 
-has-case-requires : tie.Need-has-case-requires invariant-loop decreases-loop
-has-case-requires c κs =
-    let within : tie.In-loop invariant-loop decreases-loop = search in
-    let turn : tie.At-loop invariant-loop decreases-loop = search in
-    let start : tie.Start invariant-loop decreases-loop = search in
-    (start.pre.0, omega (arith, turn.loop.inv.within, within.loop-test.taken))
+has_case_requires : tie.Need-has-case-requires invariant_loop decreases_loop
+has_case_requires c κs =
+    let within : tie.In-loop invariant_loop decreases_loop = search in
+    let turn : tie.At-loop invariant_loop decreases_loop = search in
+    let start : tie.Start invariant_loop decreases_loop = search in
+    (start.pre.0, omega (arith, turn.loop.inv.within, within.loop_test.taken))
 
-returns : tie.Need-returns invariant-loop decreases-loop
+returns : tie.Need-returns invariant_loop decreases_loop
 returns c =
-    let told : tie.After-has-case invariant-loop decreases-loop = search in
-    let chosen : tie.After-case-at invariant-loop decreases-loop = search in
-    let within : tie.In-loop invariant-loop decreases-loop = search in
-    let turn : tie.At-loop invariant-loop decreases-loop = search in
-    sym (left-first different turn.loop.inv within.loop-test.taken chosen.case-at.ensures ∙ rw (sym told.has-case.ensures ∙ c.if1.true) refl)
+    let told : tie.After-has-case invariant_loop decreases_loop = search in
+    let chosen : tie.After-case-at invariant_loop decreases_loop = search in
+    let within : tie.In-loop invariant_loop decreases_loop = search in
+    let turn : tie.At-loop invariant_loop decreases_loop = search in
+    sym (left_first different turn.loop.inv within.loop_test.taken chosen.case_at.ensures ∙ rw (sym told.has_case.ensures ∙ c.if1.true) refl)
 
-loop-less : tie.Need-loop-smaller invariant-loop decreases-loop
-loop-less c = search rules
+loop_less : tie.Need-loop-smaller invariant_loop decreases_loop
+loop_less c = search rules
 
-loop-again : tie.Need-loop-preserved invariant-loop decreases-loop
-loop-again c =
-    let no : tie.Else1 invariant-loop decreases-loop = search in
-    let told : tie.After-has-case invariant-loop decreases-loop = search in
-    let chosen : tie.After-case-at invariant-loop decreases-loop = search in
-    let within : tie.In-loop invariant-loop decreases-loop = search in
-    let turn : tie.At-loop invariant-loop decreases-loop = search in
-    left-more different turn.loop.inv within.loop-test.taken chosen.case-at.ensures (rw (sym told.has-case.ensures ∙ no.if1.left) refl)
+loop_again : tie.Need-loop-preserved invariant_loop decreases_loop
+loop_again c =
+    let no : tie.Else1 invariant_loop decreases_loop = search in
+    let told : tie.After-has-case invariant_loop decreases_loop = search in
+    let chosen : tie.After-case-at invariant_loop decreases_loop = search in
+    let within : tie.In-loop invariant_loop decreases_loop = search in
+    let turn : tie.At-loop invariant_loop decreases_loop = search in
+    left_more different turn.loop.inv within.loop_test.taken chosen.case_at.ensures (rw (sym told.has_case.ensures ∙ no.if1.left) refl)
 
-returns-2 : tie.Need-returns-2 invariant-loop decreases-loop
-returns-2 c =
-    let turn : tie.At-loop invariant-loop decreases-loop = search in
-    sym (left-none different turn.loop.inv c.loop-test.false)
+returns_2 : tie.Need-returns-2 invariant_loop decreases_loop
+returns_2 c =
+    let turn : tie.At-loop invariant_loop decreases_loop = search in
+    sym (left_none different turn.loop.inv c.loop_test.false)
 
-pub different-cases-spec : {M : Type 1} → statement M
-different-cases-spec =
+pub different_cases_spec : {M : Type 1} → statement M
+different_cases_spec =
     tie.close
     (tie.spec
-    invariant-loop
-    decreases-loop
-    loop-holds
-    case-at-requires
+    invariant_loop
+    decreases_loop
+    loop_holds
+    case_at_requires
     add_at
-    sub-left
-    has-case-requires
+    sub_left
+    has_case_requires
     returns
-    loop-less
-    loop-again
-    returns-2)
+    loop_less
+    loop_again
+    returns_2)

@@ -1,39 +1,39 @@
 use borrow.Author.Rules.{rules}
-use Rattle.definition.specs.Plain.{with-switch}
-use Rattle.plain.proofs.NumberLaws.{plain-not, plain-is}
+use Rattle.definition.specs.Plain.{with_switch}
+use Rattle.plain.proofs.NumberLaws.{plain_not, plain_is}
 use Rattle.plain.proofs.laws.is_with_switch.Statement.{statement}
 use Rattle.plain.proofs.laws.is_with_switch.Tie as tie
 
-entry-requires : tie.Need-entry-requires
-entry-requires c κs = search rules
+entry_requires : tie.Need-entry-requires
+entry_requires c κs = search rules
 
-no-branch-requires : tie.Need-no-branch-requires
-no-branch-requires c κs = search rules
+no_branch_requires : tie.Need-no-branch-requires
+no_branch_requires c κs = search rules
 
 returns : tie.Need-returns
 returns c =
     let told : tie.After-no-branch = search in
     let read : tie.After-entry = search in
     let start : tie.Start = search in
-    plain-not with-switch start.pre read.entry.ensures told.no-branch.ensures c.if1.true
+    plain_not with_switch start.pre read.entry.ensures told.no_branch.ensures c.if1.true
 
-every-block-requires : tie.Need-every-block-requires
-every-block-requires c κs = search rules
+every_block_requires : tie.Need-every-block-requires
+every_block_requires c κs = search rules
 
-returns-2 : tie.Need-returns-2
-returns-2 c =
+returns_2 : tie.Need-returns-2
+returns_2 c =
     let yes : tie.Else1 = search in
     let told : tie.After-no-branch = search in
     let read : tie.After-entry = search in
     let start : tie.Start = search in
-    plain-is with-switch start.pre read.entry.ensures told.no-branch.ensures yes.if1.left c.every-block.ensures
+    plain_is with_switch start.pre read.entry.ensures told.no_branch.ensures yes.if1.left c.every_block.ensures
 
-pub is-with-switch-spec : {M : Type 1} → statement M
-is-with-switch-spec =
+pub is_with_switch_spec : {M : Type 1} → statement M
+is_with_switch_spec =
     tie.close
     (tie.spec
-    entry-requires
-    no-branch-requires
+    entry_requires
+    no_branch_requires
     returns
-    every-block-requires
-    returns-2)
+    every_block_requires
+    returns_2)

@@ -3,20 +3,20 @@ use mathlib.Core.Path.{refl}
 use Rattle.plain.proofs.loops.loop_code.Statement.{statement}
 use Rattle.plain.proofs.loops.loop_code.Tie as tie
 
-paper-code-requires : tie.Need-paper-code-requires
-paper-code-requires c κs = search rules
+paper_code_requires : tie.Need-paper-code-requires
+paper_code_requires c κs = search rules
 
-either-requires : tie.Need-either-requires
-either-requires c κs = search rules
+either_requires : tie.Need-either-requires
+either_requires c κs = search rules
 
-either-requires-2 : tie.Need-either-requires-2
-either-requires-2 c κs = search rules
+either_requires_2 : tie.Need-either-requires-2
+either_requires_2 c κs = search rules
 
-either-requires-3 : tie.Need-either-requires-3
-either-requires-3 c κs = search rules
+either_requires_3 : tie.Need-either-requires-3
+either_requires_3 c κs = search rules
 
-either-requires-4 : tie.Need-either-requires-4
-either-requires-4 c κs = search rules
+either_requires_4 : tie.Need-either-requires-4
+either_requires_4 c κs = search rules
 
 returns : tie.Need-returns
 returns c =
@@ -24,15 +24,15 @@ returns c =
     let f : tie.After-either2 = search in
     let u : tie.After-either = search in
     let paper : tie.After-paper-code = search in
-    rw (c.either4.ensures, w.either3.ensures, f.either2.ensures, u.either.ensures, paper.paper-code.ensures) refl
+    rw (c.either4.ensures, w.either3.ensures, f.either2.ensures, u.either.ensures, paper.paper_code.ensures) refl
 
-pub loop-code-spec : {M : Type 1} → statement M
-loop-code-spec =
+pub loop_code_spec : {M : Type 1} → statement M
+loop_code_spec =
     tie.close
     (tie.spec
-    paper-code-requires
-    either-requires
-    either-requires-2
-    either-requires-3
-    either-requires-4
+    paper_code_requires
+    either_requires
+    either_requires_2
+    either_requires_3
+    either_requires_4
     returns)

@@ -1,41 +1,41 @@
 use borrow.Author.Rules.{rules}
-use Rattle.plain.proofs.LoopLaws.{loop-found, no-loop-found}
+use Rattle.plain.proofs.LoopLaws.{loop_found, no_loop_found}
 use Rattle.plain.proofs.loops.loop_test.Statement.{statement}
 use Rattle.plain.proofs.loops.loop_test.Tie as tie
 
-facts-at-requires : tie.Need-facts-at-requires
-facts-at-requires c κs = search rules
+facts_at_requires : tie.Need-facts-at-requires
+facts_at_requires c κs = search rules
 
-is-loop-requires : tie.Need-is-loop-requires
-is-loop-requires c κs = search rules
+is_loop_requires : tie.Need-is-loop-requires
+is_loop_requires c κs = search rules
 
 returns : tie.Need-returns
 returns c =
     let asked : tie.After-is-loop = search in
     let read : tie.After-facts-at = search in
     let start : tie.Start = search in
-    no-loop-found start.pre start.args.block read.facts_at.ensures asked.is_loop.ensures c.if1.true
+    no_loop_found start.pre start.args.block read.facts_at.ensures asked.is_loop_lem.ensures c.if1.true
 
-facts-at-requires-2 : tie.Need-facts-at-requires-2
-facts-at-requires-2 c κs = search rules
+facts_at_requires_2 : tie.Need-facts-at-requires-2
+facts_at_requires_2 c κs = search rules
 
-no-branch-requires : tie.Need-no-branch-requires
-no-branch-requires c κs = search rules
+no_branch_requires : tie.Need-no-branch-requires
+no_branch_requires c κs = search rules
 
-no-branch-requires-2 : tie.Need-no-branch-requires-2
-no-branch-requires-2 c κs = search rules
+no_branch_requires_2 : tie.Need-no-branch-requires-2
+no_branch_requires_2 c κs = search rules
 
-both-requires : tie.Need-both-requires
-both-requires c κs = search rules
+both_requires : tie.Need-both-requires
+both_requires c κs = search rules
 
-is-branch-to-requires : tie.Need-is-branch-to-requires
-is-branch-to-requires c κs = search rules
+is_branch_to_requires : tie.Need-is-branch-to-requires
+is_branch_to_requires c κs = search rules
 
-both-requires-2 : tie.Need-both-requires-2
-both-requires-2 c κs = search rules
+both_requires_2 : tie.Need-both-requires-2
+both_requires_2 c κs = search rules
 
-returns-2 : tie.Need-returns-2
-returns-2 c =
+returns_2 : tie.Need-returns-2
+returns_2 c =
     let goes : tie.After-is-branch-to = search in
     let bare : tie.After-both = search in
     let second : tie.After-no-branch2 = search in
@@ -45,20 +45,20 @@ returns-2 c =
     let asked : tie.After-is-loop = search in
     let read : tie.After-facts-at = search in
     let start : tie.Start = search in
-    loop-found start.pre start.args.block read.facts_at.ensures asked.is_loop.ensures yes.if1.left test.facts-at2.ensures first.no-branch.ensures
-    second.no-branch2.ensures bare.both.ensures goes.is-branch-to.ensures c.both2.ensures
+    loop_found start.pre start.args.block read.facts_at.ensures asked.is_loop_lem.ensures yes.if1.left test.facts_at2.ensures first.no_branch.ensures
+    second.no_branch2.ensures bare.both.ensures goes.is_branch_to.ensures c.both2.ensures
 
-pub loop-test-spec : {M : Type 1} → statement M
-loop-test-spec =
+pub loop_test_spec : {M : Type 1} → statement M
+loop_test_spec =
     tie.close
     (tie.spec
-    facts-at-requires
-    is-loop-requires
+    facts_at_requires
+    is_loop_requires
     returns
-    facts-at-requires-2
-    no-branch-requires
-    no-branch-requires-2
-    both-requires
-    is-branch-to-requires
-    both-requires-2
-    returns-2)
+    facts_at_requires_2
+    no_branch_requires
+    no_branch_requires_2
+    both_requires
+    is_branch_to_requires
+    both_requires_2
+    returns_2)

@@ -5,45 +5,45 @@ use Rattle.plain.proofs.EveryLaws.{stopped, passed}
 use Rattle.plain.proofs.tests.cases_test.Statement.{statement}
 use Rattle.plain.proofs.tests.cases_test.Tie as tie
 
-code-at-requires : tie.Need-code-at-requires
-code-at-requires c κs = search rules
+code_at_requires : tie.Need-code-at-requires
+code_at_requires c κs = search rules
 
 returns : tie.Need-returns
 returns c =
     let asked : tie.After-code-at = search in
     let start : tie.Start = search in
-    rw (no_cases start.pre.0 start.args.block start.pre.1 asked.code-at.ensures c.if1.true) refl
+    rw (no_cases start.pre.0 start.args.block start.pre.1 asked.code_at.ensures c.if1.true) refl
 
-switch-at-requires : tie.Need-switch-at-requires
-switch-at-requires c κs = search rules
+switch_at_requires : tie.Need-switch-at-requires
+switch_at_requires c κs = search rules
 
-different-cases-requires : tie.Need-different-cases-requires
-different-cases-requires c κs = search rules
+different_cases_requires : tie.Need-different-cases-requires
+different_cases_requires c κs = search rules
 
-returns-2 : tie.Need-returns-2
-returns-2 c =
+returns_2 : tie.Need-returns-2
+returns_2 c =
     let told : tie.After-different-cases = search in
     let read : tie.After-switch-at = search in
-    rw read.switch-at.ensures.is (stopped _ told.different-cases.ensures c.if2.true)
+    rw read.switch_at.ensures.is (stopped _ told.different_cases.ensures c.if2.true)
 
-every-case-requires : tie.Need-every-case-requires
-every-case-requires c κs = search rules
+every_case_requires : tie.Need-every-case-requires
+every_case_requires c κs = search rules
 
-returns-3 : tie.Need-returns-3
-returns-3 c =
+returns_3 : tie.Need-returns-3
+returns_3 c =
     let yes : tie.Else2 = search in
     let told : tie.After-different-cases = search in
     let read : tie.After-switch-at = search in
-    rw read.switch-at.ensures.is (passed told.different-cases.ensures yes.if2.left c.every-case.ensures)
+    rw read.switch_at.ensures.is (passed told.different_cases.ensures yes.if2.left c.every_case.ensures)
 
-pub cases-test-spec : {M : Type 1} → statement M
-cases-test-spec =
+pub cases_test_spec : {M : Type 1} → statement M
+cases_test_spec =
     tie.close
     (tie.spec
-    code-at-requires
+    code_at_requires
     returns
-    switch-at-requires
-    different-cases-requires
-    returns-2
-    every-case-requires
-    returns-3)
+    switch_at_requires
+    different_cases_requires
+    returns_2
+    every_case_requires
+    returns_3)

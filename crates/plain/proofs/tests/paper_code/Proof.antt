@@ -3,35 +3,35 @@ use mathlib.Core.Path.{refl}
 use Rattle.plain.proofs.tests.paper_code.Statement.{statement}
 use Rattle.plain.proofs.tests.paper_code.Tie as tie
 
-either-requires : tie.Need-either-requires
-either-requires c κs = search rules
+either_requires : tie.Need-either-requires
+either_requires c κs = search rules
 
-either-requires-2 : tie.Need-either-requires-2
-either-requires-2 c κs = search rules
+either_requires_2 : tie.Need-either-requires-2
+either_requires_2 c κs = search rules
 
-either-requires-3 : tie.Need-either-requires-3
-either-requires-3 c κs = search rules
+either_requires_3 : tie.Need-either-requires-3
+either_requires_3 c κs = search rules
 
-either-requires-4 : tie.Need-either-requires-4
-either-requires-4 c κs = search rules
+either_requires_4 : tie.Need-either-requires-4
+either_requires_4 c κs = search rules
 
-either-requires-5 : tie.Need-either-requires-5
-either-requires-5 c κs = search rules
+either_requires_5 : tie.Need-either-requires-5
+either_requires_5 c κs = search rules
 
-either-requires-6 : tie.Need-either-requires-6
-either-requires-6 c κs = search rules
+either_requires_6 : tie.Need-either-requires-6
+either_requires_6 c κs = search rules
 
-either-requires-7 : tie.Need-either-requires-7
-either-requires-7 c κs = search rules
+either_requires_7 : tie.Need-either-requires-7
+either_requires_7 c κs = search rules
 
-either-requires-8 : tie.Need-either-requires-8
-either-requires-8 c κs = search rules
+either_requires_8 : tie.Need-either-requires-8
+either_requires_8 c κs = search rules
 
-either-requires-9 : tie.Need-either-requires-9
-either-requires-9 c κs = search rules
+either_requires_9 : tie.Need-either-requires-9
+either_requires_9 c κs = search rules
 
-either-requires-10 : tie.Need-either-requires-10
-either-requires-10 c κs = search rules
+either_requires_10 : tie.Need-either-requires-10
+either_requires_10 c κs = search rules
 
 returns : tie.Need-returns
 returns c =
@@ -57,18 +57,18 @@ returns c =
       absent.either.ensures,
     ) refl
 
-pub paper-code-spec : {M : Type 1} → statement M
-paper-code-spec =
+pub paper_code_spec : {M : Type 1} → statement M
+paper_code_spec =
     tie.close
     (tie.spec
-    either-requires
-    either-requires-2
-    either-requires-3
-    either-requires-4
-    either-requires-5
-    either-requires-6
-    either-requires-7
-    either-requires-8
-    either-requires-9
-    either-requires-10
+    either_requires
+    either_requires_2
+    either_requires_3
+    either_requires_4
+    either_requires_5
+    either_requires_6
+    either_requires_7
+    either_requires_8
+    either_requires_9
+    either_requires_10
     returns)

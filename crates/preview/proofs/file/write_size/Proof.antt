@@ -1,32 +1,32 @@
 use mathlib.Core.List.{[]}
-use Rattle.text.proofs.LentLaws.{holds-none}
-use Rattle.text.proofs.WriteLaws.{wrote_then, wrote-all}
-use Rattle.preview.specs.Prints.{sizeText}
-use Rattle.preview.proofs.SizeLaws.{size-written}
+use Rattle.text.proofs.LentLaws.{holds_none}
+use Rattle.text.proofs.WriteLaws.{wrote_then, wrote_all}
+use Rattle.preview.specs.Prints.{size_text}
+use Rattle.preview.proofs.SizeLaws.{size_written}
 use borrow.Author.Rules.{rules}
 use Rattle.preview.proofs.file.write_size.Statement.{statement}
 use Rattle.preview.proofs.file.write_size.Tie as tie
 
-slice-aggregate-write-names : tie.Need-slice-aggregate-write-names
-slice-aggregate-write-names c = search rules
+slice_aggregate_write_names : tie.Need-slice-aggregate-write-names
+slice_aggregate_write_names c = search rules
 
-write-names-requires : tie.Need-write-names-requires
-write-names-requires c κs = search rules
+write_names_requires : tie.Need-write-names-requires
+write_names_requires c κs = search rules
 
-slice-aggregate-write-line : tie.Need-slice-aggregate-write-line
-slice-aggregate-write-line c = search rules
+slice_aggregate_write_line : tie.Need-slice-aggregate-write-line
+slice_aggregate_write_line c = search rules
 
-write-line-requires : tie.Need-write-line-requires
-write-line-requires c κs = search rules
+write_line_requires : tie.Need-write-line-requires
+write_line_requires c κs = search rules
 
-finish-text-requires : tie.Need-finish-text-requires
-finish-text-requires c κs = search rules
+finish_text_requires : tie.Need-finish-text-requires
+finish_text_requires c κs = search rules
 
 same_length : tie.Need-same-length
 same_length c = search rules
 
 returns : tie.Need-returns
-unfolding sizeText
+unfolding size_text
 returns c =
     let finished : tie.After-finish-text = search in
     let line : tie.After-write-line = search in
@@ -34,20 +34,20 @@ returns c =
     let start : tie.Start = search in
     let f = start.fits in
     let a = start.args in
-    let held = wrote-all (wrote_then names.write-names.ensures line.write-line.ensures) [] (holds-none _) in
-    rw (← names.write-names.kept.0, ← line.write-line.kept.0)
-    (size-written (record { code = a.code; at = a.at; rows = a.rows; visits = a.visits; lines = a.lines })
+    let held = wrote_all (wrote_then names.write_names.ensures line.write_line.ensures) [] (holds_none _) in
+    rw (← names.write_names.kept.0, ← line.write_line.kept.0)
+    (size_written (record { code = a.code; at = a.at; rows = a.rows; visits = a.visits; lines = a.lines })
     (f.code.fits, f.at.fits, f.rows.fits, f.visits.fits, f.lines.fits)
-    (finished.finish-text.ensures.0 _ held) (finished.finish-text.ensures.1 _ held))
+    (finished.finish_text.ensures.0 _ held) (finished.finish_text.ensures.1 _ held))
 
-pub write-size-spec : {M : Type 1} → statement M
-write-size-spec =
+pub write_size_spec : {M : Type 1} → statement M
+write_size_spec =
     tie.close
     (tie.spec
-    slice-aggregate-write-names
-    write-names-requires
-    slice-aggregate-write-line
-    write-line-requires
-    finish-text-requires
+    slice_aggregate_write_names
+    write_names_requires
+    slice_aggregate_write_line
+    write_line_requires
+    finish_text_requires
     same_length
     returns)

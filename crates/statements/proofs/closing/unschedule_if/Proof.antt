@@ -5,8 +5,8 @@ use Rattle.statements.proofs.closing.unschedule_if.Tie as tie
 returns : tie.Need-returns
 returns c = rw (eq-eqb _ _ c.if1.true)
 
-returns-2 : tie.Need-returns-2
-returns-2 c = rw (ne_eqb _ _ c.if1.false)
+returns_2 : tie.Need-returns-2
+returns_2 c = rw (ne_eqb _ _ c.if1.false)
 
-pub unschedule-if-spec : {M : Type 1} → statement M
-unschedule-if-spec = tie.close (tie.spec returns returns-2)
+pub unschedule_if_spec : {M : Type 1} → statement M
+unschedule_if_spec = tie.close (tie.spec returns returns_2)

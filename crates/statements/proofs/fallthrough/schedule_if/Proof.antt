@@ -6,13 +6,13 @@ use Rattle.statements.proofs.fallthrough.schedule_if.Tie as tie
 returns : tie.Need-returns
 returns c = rw (eq-eqb _ _ c.if1.true)
 
-block-id-requires : tie.Need-block-id-requires
-block-id-requires c κs = search rules
+block_id_requires : tie.Need-block-id-requires
+block_id_requires c κs = search rules
 
-returns-2 : tie.Need-returns-2
-returns-2 c =
+returns_2 : tie.Need-returns-2
+returns_2 c =
     let else1 : tie.Else1 = search in
-    rw (ne_eqb _ _ else1.if1.left, c.block-id.ensures)
+    rw (ne_eqb _ _ else1.if1.left, c.block_id.ensures)
 
-pub schedule-if-spec : {M : Type 1} → statement M
-schedule-if-spec = tie.close (tie.spec returns block-id-requires returns-2)
+pub schedule_if_spec : {M : Type 1} → statement M
+schedule_if_spec = tie.close (tie.spec returns block_id_requires returns_2)

@@ -1,19 +1,19 @@
 use borrow.Author.Rules.{rules}
-use Rattle.statements.proofs.LoopLaws.{for-in-scheduled}
+use Rattle.statements.proofs.LoopLaws.{for_in_scheduled}
 use Rattle.statements.proofs.for_in.visit_for_in.Statement.{statement}
 use Rattle.statements.proofs.for_in.visit_for_in.Tie as tie
 
-for-in-at-requires : tie.Need-for-in-at-requires
-for-in-at-requires c κs = search rules
+for_in_at_requires : tie.Need-for-in-at-requires
+for_in_at_requires c κs = search rules
 
-unless-scheduled-requires : tie.Need-unless-scheduled-requires
-unless-scheduled-requires c κs = search rules
+unless_scheduled_requires : tie.Need-unless-scheduled-requires
+unless_scheduled_requires c κs = search rules
 
-schedule-loop-requires : tie.Need-schedule-loop-requires
-schedule-loop-requires c κs = search rules
+schedule_loop_requires : tie.Need-schedule-loop-requires
+schedule_loop_requires c κs = search rules
 
 returns : tie.Need-returns
-returns c = search for-in-scheduled
+returns c = search for_in_scheduled
 
-pub visit-for-in-spec : {M : Type 1} → statement M
-visit-for-in-spec = tie.close (tie.spec for-in-at-requires unless-scheduled-requires schedule-loop-requires returns)
+pub visit_for_in_spec : {M : Type 1} → statement M
+visit_for_in_spec = tie.close (tie.spec for_in_at_requires unless_scheduled_requires schedule_loop_requires returns)

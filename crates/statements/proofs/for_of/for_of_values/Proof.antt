@@ -1,24 +1,24 @@
-use Rattle.statements.proofs.LoopLaws.{for-of-made, nothing-spent, first-spent}
+use Rattle.statements.proofs.LoopLaws.{for_of_made_lem, nothing_spent, first_spent}
 use borrow.Author.Rules.{rules}
 use Rattle.statements.proofs.for_of.for_of_values.Statement.{statement}
 use Rattle.statements.proofs.for_of.for_of_values.Tie as tie
 
-no-values-requires : tie.Need-no-values-requires
-no-values-requires c κs = search rules
+no_values_requires : tie.Need-no-values-requires
+no_values_requires c κs = search rules
 
-flat-value-requires : tie.Need-flat-value-requires
-flat-value-requires c κs = search (nothing-spent, rules)
+flat_value_requires : tie.Need-flat-value-requires
+flat_value_requires c κs = search (nothing_spent, rules)
 
-flat-value-requires-2 : tie.Need-flat-value-requires-2
-flat-value-requires-2 c κs = search (first-spent, rules)
+flat_value_requires_2 : tie.Need-flat-value-requires-2
+flat_value_requires_2 c κs = search (first_spent, rules)
 
 same_length : tie.Need-same-length
 same_length c = search rules
 
 returns : tie.Need-returns
-returns c = search for-of-made
+returns c = search for_of_made_lem
 
-pub for-of-values-spec : {M : Type 1} → statement M
-for-of-values-spec =
+pub for_of_values_spec : {M : Type 1} → statement M
+for_of_values_spec =
     tie.close
-    (tie.spec no-values-requires flat-value-requires flat-value-requires-2 same_length returns)
+    (tie.spec no_values_requires flat_value_requires flat_value_requires_2 same_length returns)

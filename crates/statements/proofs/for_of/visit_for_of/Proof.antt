@@ -1,19 +1,19 @@
 use borrow.Author.Rules.{rules}
-use Rattle.statements.proofs.LoopLaws.{for-of-scheduled}
+use Rattle.statements.proofs.LoopLaws.{for_of_scheduled}
 use Rattle.statements.proofs.for_of.visit_for_of.Statement.{statement}
 use Rattle.statements.proofs.for_of.visit_for_of.Tie as tie
 
-for-of-at-requires : tie.Need-for-of-at-requires
-for-of-at-requires c κs = search rules
+for_of_at_requires : tie.Need-for-of-at-requires
+for_of_at_requires c κs = search rules
 
-unless-scheduled-requires : tie.Need-unless-scheduled-requires
-unless-scheduled-requires c κs = search rules
+unless_scheduled_requires : tie.Need-unless-scheduled-requires
+unless_scheduled_requires c κs = search rules
 
-schedule-loop-requires : tie.Need-schedule-loop-requires
-schedule-loop-requires c κs = search rules
+schedule_loop_requires : tie.Need-schedule-loop-requires
+schedule_loop_requires c κs = search rules
 
 returns : tie.Need-returns
-returns c = search for-of-scheduled
+returns c = search for_of_scheduled
 
-pub visit-for-of-spec : {M : Type 1} → statement M
-visit-for-of-spec = tie.close (tie.spec for-of-at-requires unless-scheduled-requires schedule-loop-requires returns)
+pub visit_for_of_spec : {M : Type 1} → statement M
+visit_for_of_spec = tie.close (tie.spec for_of_at_requires unless_scheduled_requires schedule_loop_requires returns)

@@ -1,22 +1,22 @@
-use Rattle.statements.proofs.RowPlanLaws.{return-left}
+use Rattle.statements.proofs.RowPlanLaws.{return_left}
 use borrow.Author.Rules.{rules}
 use Rattle.statements.proofs.leaf.visit_return.Statement.{statement}
 use Rattle.statements.proofs.leaf.visit_return.Tie as tie
 
-return-at-requires : tie.Need-return-at-requires
-return-at-requires c κs = search rules
+return_at_requires : tie.Need-return-at-requires
+return_at_requires c κs = search rules
 
-block-at-requires : tie.Need-block-at-requires
-block-at-requires c κs = search rules
+block_at_requires : tie.Need-block-at-requires
+block_at_requires c κs = search rules
 
-put-requires : tie.Need-put-requires
-put-requires c κs = search rules
+put_requires : tie.Need-put-requires
+put_requires c κs = search rules
 
-add-leave : tie.Need-overflow-add-leave
-add-leave c = search rules
+add_leave : tie.Need-overflow-add-leave
+add_leave c = search rules
 
-leave-requires : tie.Need-leave-requires
-leave-requires c κs = search rules
+leave_requires : tie.Need-leave-requires
+leave_requires c κs = search rules
 
 same_length : tie.Need-same-length
 same_length c = search rules
@@ -27,16 +27,16 @@ returns c =
     let headed : tie.After-block-at = search in
     let read : tie.After-return-at = search in
     let start : tie.Start = search in
-    return-left start.pre.0 headed.block-at.ensures read.return-at.ensures put.put.ensures c.leave.ensures
+    return_left start.pre.0 headed.block_at.ensures read.return_at.ensures put.put.ensures c.leave.ensures
 
-pub visit-return-spec : {M : Type 1} → statement M
-visit-return-spec =
+pub visit_return_spec : {M : Type 1} → statement M
+visit_return_spec =
     tie.close
     (tie.spec
-    return-at-requires
-    block-at-requires
-    put-requires
-    add-leave
-    leave-requires
+    return_at_requires
+    block_at_requires
+    put_requires
+    add_leave
+    leave_requires
     same_length
     returns)

@@ -1,22 +1,22 @@
-use Rattle.statements.proofs.RowPlanLaws.{throw-left}
+use Rattle.statements.proofs.RowPlanLaws.{throw_left}
 use borrow.Author.Rules.{rules}
 use Rattle.statements.proofs.leaf.visit_throw.Statement.{statement}
 use Rattle.statements.proofs.leaf.visit_throw.Tie as tie
 
-throw-at-requires : tie.Need-throw-at-requires
-throw-at-requires c κs = search rules
+throw_at_requires : tie.Need-throw-at-requires
+throw_at_requires c κs = search rules
 
-block-at-requires : tie.Need-block-at-requires
-block-at-requires c κs = search rules
+block_at_requires : tie.Need-block-at-requires
+block_at_requires c κs = search rules
 
-put-requires : tie.Need-put-requires
-put-requires c κs = search rules
+put_requires : tie.Need-put-requires
+put_requires c κs = search rules
 
-add-leave : tie.Need-overflow-add-leave
-add-leave c = search rules
+add_leave : tie.Need-overflow-add-leave
+add_leave c = search rules
 
-leave-requires : tie.Need-leave-requires
-leave-requires c κs = search rules
+leave_requires : tie.Need-leave-requires
+leave_requires c κs = search rules
 
 same_length : tie.Need-same-length
 same_length c = search rules
@@ -27,16 +27,16 @@ returns c =
     let headed : tie.After-block-at = search in
     let read : tie.After-throw-at = search in
     let start : tie.Start = search in
-    throw-left start.pre.0 headed.block-at.ensures read.throw-at.ensures put.put.ensures c.leave.ensures
+    throw_left start.pre.0 headed.block_at.ensures read.throw_at.ensures put.put.ensures c.leave.ensures
 
-pub visit-throw-spec : {M : Type 1} → statement M
-visit-throw-spec =
+pub visit_throw_spec : {M : Type 1} → statement M
+visit_throw_spec =
     tie.close
     (tie.spec
-    throw-at-requires
-    block-at-requires
-    put-requires
-    add-leave
-    leave-requires
+    throw_at_requires
+    block_at_requires
+    put_requires
+    add_leave
+    leave_requires
     same_length
     returns)

@@ -2,40 +2,40 @@ use borrow.Author.Rules.{rules}
 use Rattle.statements.proofs.loop_parts.schedule_loop.Statement.{statement}
 use Rattle.statements.proofs.loop_parts.schedule_loop.Tie as tie
 
-loop-is-taken-requires : tie.Need-loop-is-taken-requires
-loop-is-taken-requires c κs = search rules
+loop_is_taken_requires : tie.Need-loop-is-taken-requires
+loop_is_taken_requires c κs = search rules
 
-unless-taken-requires : tie.Need-unless-taken-requires
-unless-taken-requires c κs = search rules
+unless_taken_requires : tie.Need-unless-taken-requires
+unless_taken_requires c κs = search rules
 
-frame-of-requires : tie.Need-frame-of-requires
-frame-of-requires c κs = search rules
+frame_of_requires : tie.Need-frame-of-requires
+frame_of_requires c κs = search rules
 
-loop-target-requires : tie.Need-loop-target-requires
-loop-target-requires c κs = search rules
+loop_target_requires : tie.Need-loop-target-requires
+loop_target_requires c κs = search rules
 
-add-make-values : tie.Need-overflow-add-make-values
-add-make-values c = search rules
+add_make_values : tie.Need-overflow-add-make-values
+add_make_values c = search rules
 
-make-values-requires : tie.Need-make-values-requires
-make-values-requires c κs = search rules
+make_values_requires : tie.Need-make-values-requires
+make_values_requires c κs = search rules
 
 returns : tie.Need-returns
 returns c =
     let at_target : tie.After-loop-target = search in
-    let at-frame : tie.After-frame-of = search in
+    let at_frame : tie.After-frame-of = search in
     let at_body : tie.After-unless-taken = search in
-    let at-taken : tie.After-loop-is-taken = search in
-    rw (at_target.loop-target.ensures, at-frame.frame-of.ensures, at_body.unless-taken.ensures, at-taken.loop-is-taken.ensures) at c.make-values.ensures
+    let at_taken : tie.After-loop-is-taken = search in
+    rw (at_target.loop_target.ensures, at_frame.frame_of.ensures, at_body.unless_taken.ensures, at_taken.loop_is_taken.ensures) at c.make_values.ensures
 
-pub schedule-loop-spec : {M : Type 1} → statement M
-schedule-loop-spec =
+pub schedule_loop_spec : {M : Type 1} → statement M
+schedule_loop_spec =
     tie.close
     (tie.spec
-    loop-is-taken-requires
-    unless-taken-requires
-    frame-of-requires
-    loop-target-requires
-    add-make-values
-    make-values-requires
+    loop_is_taken_requires
+    unless_taken_requires
+    frame_of_requires
+    loop_target_requires
+    add_make_values
+    make_values_requires
     returns)

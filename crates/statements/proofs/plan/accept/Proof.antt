@@ -2,11 +2,11 @@ use borrow.Author.Rules.{rules}
 use Rattle.statements.proofs.plan.accept.Statement.{statement}
 use Rattle.statements.proofs.plan.accept.Tie as tie
 
-go-on-requires : tie.Need-go-on-requires
-go-on-requires c κs = search rules
+go_on_requires : tie.Need-go-on-requires
+go_on_requires c κs = search rules
 
 returns : tie.Need-returns
 returns c = cc
 
-pub accept-spec : {M : Type 1} → statement M
-accept-spec = tie.close (tie.spec go-on-requires returns)
+pub accept_spec : {M : Type 1} → statement M
+accept_spec = tie.close (tie.spec go_on_requires returns)

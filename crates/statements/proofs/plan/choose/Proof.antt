@@ -3,8 +3,8 @@ use borrow.Author.Rules.{rules}
 use Rattle.statements.proofs.plan.choose.Statement.{statement}
 use Rattle.statements.proofs.plan.choose.Tie as tie
 
-go-on-requires : tie.Need-go-on-requires
-go-on-requires c κs = search rules
+go_on_requires : tie.Need-go-on-requires
+go_on_requires c κs = search rules
 
 returns : tie.Need-returns
 returns c =
@@ -12,4 +12,4 @@ returns c =
     rw went.go_on.ensures refl
 
 pub choose_spec : {M : Type 1} → statement M
-choose_spec = tie.close (tie.spec go-on-requires returns)
+choose_spec = tie.close (tie.spec go_on_requires returns)

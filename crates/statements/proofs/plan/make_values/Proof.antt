@@ -3,13 +3,13 @@ use borrow.Author.Rules.{rules}
 use Rattle.statements.proofs.plan.make_values.Statement.{statement}
 use Rattle.statements.proofs.plan.make_values.Tie as tie
 
-go-on-requires : tie.Need-go-on-requires
-go-on-requires c κs = search rules
+go_on_requires : tie.Need-go-on-requires
+go_on_requires c κs = search rules
 
 returns : tie.Need-returns
 returns c =
     let went : tie.After-go-on = search in
     rw went.go_on.ensures refl
 
-pub make-values-spec : {M : Type 1} → statement M
-make-values-spec = tie.close (tie.spec go-on-requires returns)
+pub make_values_spec : {M : Type 1} → statement M
+make_values_spec = tie.close (tie.spec go_on_requires returns)

@@ -1,30 +1,30 @@
 use native.Mathlib.Omega.{arith}
-use Rattle.statements.proofs.PlannedLaws.{takes-most}
-use Rattle.statements.proofs.RowPlanLaws.{scope-nested}
+use Rattle.statements.proofs.PlannedLaws.{takes_most}
+use Rattle.statements.proofs.RowPlanLaws.{scope_nested}
 use borrow.Author.Rules.{rules}
 use Rattle.statements.proofs.scope.visit_scope.Statement.{statement}
 use Rattle.statements.proofs.scope.visit_scope.Tie as tie
 
-scope-at-requires : tie.Need-scope-at-requires
-scope-at-requires c κs = search rules
+scope_at_requires : tie.Need-scope-at-requires
+scope_at_requires c κs = search rules
 
-unless-scheduled-requires : tie.Need-unless-scheduled-requires
-unless-scheduled-requires c κs = search rules
+unless_scheduled_requires : tie.Need-unless-scheduled-requires
+unless_scheduled_requires c κs = search rules
 
-scheduled-at-requires : tie.Need-scheduled-at-requires
-scheduled-at-requires c κs = search rules
+scheduled_at_requires : tie.Need-scheduled-at-requires
+scheduled_at_requires c κs = search rules
 
-enclose-requires : tie.Need-enclose-requires
-enclose-requires c κs =
+enclose_requires : tie.Need-enclose-requires
+enclose_requires c κs =
     let labelled : tie.After-unless-scheduled = search in
     let read : tie.After-scope-at = search in
     let start : tie.Start = search in
-    let most = takes-most start.args.scheduled.now start.args.catch-handlers.now read.scope-at.result.fallthrough
-    labelled.unless-scheduled.ensures (omega (arith, read.scope-at.ensures.named.1, read.scope-at.ensures.few)) in
+    let most = takes_most start.args.scheduled.now start.args.catch_handlers.now read.scope_at.result.fallthrough
+    labelled.unless_scheduled.ensures (omega (arith, read.scope_at.ensures.named.1, read.scope_at.ensures.few)) in
     search rules
 
-with-scope-requires : tie.Need-with-scope-requires
-with-scope-requires c κs = search rules
+with_scope_requires : tie.Need-with-scope-requires
+with_scope_requires c κs = search rules
 
 returns : tie.Need-returns
 returns c =
@@ -33,15 +33,15 @@ returns c =
     let labelled : tie.After-unless-scheduled = search in
     let read : tie.After-scope-at = search in
     let start : tie.Start = search in
-    scope-nested start.pre.0 read.scope-at.ensures labelled.unless-scheduled.ensures busy.scheduled-at.ensures inner.enclose.ensures c.with-scope.ensures
+    scope_nested start.pre.0 read.scope_at.ensures labelled.unless_scheduled.ensures busy.scheduled_at.ensures inner.enclose.ensures c.with_scope.ensures
 
-pub visit-scope-spec : {M : Type 1} → statement M
-visit-scope-spec =
+pub visit_scope_spec : {M : Type 1} → statement M
+visit_scope_spec =
     tie.close
     (tie.spec
-    scope-at-requires
-    unless-scheduled-requires
-    scheduled-at-requires
-    enclose-requires
-    with-scope-requires
+    scope_at_requires
+    unless_scheduled_requires
+    scheduled_at_requires
+    enclose_requires
+    with_scope_requires
     returns)

@@ -5,40 +5,40 @@ use Rattle.statements.proofs.search.aim_at.Tie as tie
 enum_told : tie.Need-enum-told
 enum_told c = search rules
 
-enum-told-2 : tie.Need-enum-told-2
-enum-told-2 c = search rules
+enum_told_2 : tie.Need-enum-told-2
+enum_told_2 c = search rules
 
-break-aim-requires : tie.Need-break-aim-requires
-break-aim-requires c κs = search rules
+break_aim_requires : tie.Need-break-aim-requires
+break_aim_requires c κs = search rules
 
-enum-told-3 : tie.Need-enum-told-3
-enum-told-3 c = search rules
+enum_told_3 : tie.Need-enum-told-3
+enum_told_3 c = search rules
 
-continue-aim-requires : tie.Need-continue-aim-requires
-continue-aim-requires c κs = search rules
+continue_aim_requires : tie.Need-continue-aim-requires
+continue_aim_requires c κs = search rules
 
 returns : tie.Need-returns
 returns c = search rules
 
-returns-2 : tie.Need-returns-2
-returns-2 c =
+returns_2 : tie.Need-returns-2
+returns_2 c =
     let told : tie.After-enum-told2 = search in
-    rw told.enum-told2.given.1 c.break-aim.ensures
+    rw told.enum_told2.given.1 c.break_aim.ensures
 
-returns-3 : tie.Need-returns-3
-returns-3 c =
+returns_3 : tie.Need-returns-3
+returns_3 c =
     let told : tie.After-enum-told3 = search in
-    rw told.enum-told3.given.1 c.continue-aim.ensures
+    rw told.enum_told3.given.1 c.continue_aim.ensures
 
-pub aim-at-spec : {M : Type 1} → statement M
-aim-at-spec =
+pub aim_at_spec : {M : Type 1} → statement M
+aim_at_spec =
     tie.close
     (tie.spec
     enum_told
-    enum-told-2
-    break-aim-requires
-    enum-told-3
-    continue-aim-requires
+    enum_told_2
+    break_aim_requires
+    enum_told_3
+    continue_aim_requires
     returns
-    returns-2
-    returns-3)
+    returns_2
+    returns_3)

@@ -4,35 +4,35 @@ use borrow.Author.Rules.{rules}
 use Rattle.statements.proofs.search.block_jump.Statement.{statement}
 use Rattle.statements.proofs.search.block_jump.Tie as tie
 
-code-at-requires : tie.Need-code-at-requires
-code-at-requires c κs = search rules
+code_at_requires : tie.Need-code-at-requires
+code_at_requires c κs = search rules
 
-goto-jump-requires : tie.Need-goto-jump-requires
-goto-jump-requires c κs = search rules
+goto_jump_requires : tie.Need-goto-jump-requires
+goto_jump_requires c κs = search rules
 
-branch-jump-requires : tie.Need-branch-jump-requires
-branch-jump-requires c κs = search rules
+branch_jump_requires : tie.Need-branch-jump-requires
+branch_jump_requires c κs = search rules
 
 returns : tie.Need-returns
-returns c = c.goto-jump.ensures _ _
+returns c = c.goto_jump.ensures _ _
 
-returns-2 : tie.Need-returns-2
-returns-2 c = search rules
+returns_2 : tie.Need-returns-2
+returns_2 c = search rules
 
-returns-3 : tie.Need-returns-3
-returns-3 c =
-    let at-code-at : tie.After-code-at = search in
+returns_3 : tie.Need-returns-3
+returns_3 c =
+    let at_code_at : tie.After-code-at = search in
     let start : tie.Start = search in
     let pre = start.pre in
-    no_jump _ _ _ _ pre.0 pre.1 (λ e. c.match.rest.0.1 (at-code-at.code-at.ensures ∙ e)) (λ e. c.match.rest.1 (at-code-at.code-at.ensures ∙ e))
+    no_jump _ _ _ _ pre.0 pre.1 (λ e. c.match.rest.0.1 (at_code_at.code_at.ensures ∙ e)) (λ e. c.match.rest.1 (at_code_at.code_at.ensures ∙ e))
 
-pub block-jump-spec : {M : Type 1} → statement M
-block-jump-spec =
+pub block_jump_spec : {M : Type 1} → statement M
+block_jump_spec =
     tie.close
     (tie.spec
-    code-at-requires
-    goto-jump-requires
-    branch-jump-requires
+    code_at_requires
+    goto_jump_requires
+    branch_jump_requires
     returns
-    returns-2
-    returns-3)
+    returns_2
+    returns_3)

@@ -6,40 +6,40 @@ use Rattle.statements.proofs.search.meets.Tie as tie
 enum_told : tie.Need-enum-told
 enum_told c = search rules
 
-enum-known-jump : tie.Need-enum-known-jump
-enum-known-jump c = search rules
+enum_known_jump : tie.Need-enum-known-jump
+enum_known_jump c = search rules
 
-block-requires : tie.Need-block-requires
-block-requires c κs = search rules
+block_requires : tie.Need-block-requires
+block_requires c κs = search rules
 
-enum-known-jump-2 : tie.Need-enum-known-jump-2
-enum-known-jump-2 c = search rules
+enum_known_jump_2 : tie.Need-enum-known-jump-2
+enum_known_jump_2 c = search rules
 
-continues-at-requires : tie.Need-continues-at-requires
-continues-at-requires c κs = search rules
+continues_at_requires : tie.Need-continues-at-requires
+continues_at_requires c κs = search rules
 
 returns : tie.Need-returns
 returns c = search rules
 
-returns-2 : tie.Need-returns-2
-returns-2 c =
-    let at-jump : tie.After-jump = search in
-    rw (at-jump.jump.given.1, ← c.block.ensures) refl
+returns_2 : tie.Need-returns-2
+returns_2 c =
+    let at_jump : tie.After-jump = search in
+    rw (at_jump.jump.given.1, ← c.block.ensures) refl
 
-returns-3 : tie.Need-returns-3
-returns-3 c =
-    let at-jump2 : tie.After-jump2 = search in
-    rw at-jump2.jump2.given.1 c.continues-at.ensures
+returns_3 : tie.Need-returns-3
+returns_3 c =
+    let at_jump2 : tie.After-jump2 = search in
+    rw at_jump2.jump2.given.1 c.continues_at.ensures
 
-pub meets-spec : {M : Type 1} → statement M
-meets-spec =
+pub meets_spec : {M : Type 1} → statement M
+meets_spec =
     tie.close
     (tie.spec
     enum_told
-    enum-known-jump
-    block-requires
-    enum-known-jump-2
-    continues-at-requires
+    enum_known_jump
+    block_requires
+    enum_known_jump_2
+    continues_at_requires
     returns
-    returns-2
-    returns-3)
+    returns_2
+    returns_3)

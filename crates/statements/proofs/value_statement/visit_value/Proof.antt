@@ -1,39 +1,39 @@
 use native.Mathlib.Omega.{arith}
-use Rattle.statements.proofs.LoopLaws.{fallthrough-few, value-scheduled}
-use Rattle.statements.proofs.PlannedLaws.{takes-most}
+use Rattle.statements.proofs.LoopLaws.{fallthrough_few, value_scheduled}
+use Rattle.statements.proofs.PlannedLaws.{takes_most}
 use borrow.Author.Rules.{rules}
 use Rattle.statements.proofs.value_statement.visit_value.Statement.{statement}
 use Rattle.statements.proofs.value_statement.visit_value.Tie as tie
 
-fallthrough-at-requires : tie.Need-fallthrough-at-requires
-fallthrough-at-requires c κs = search rules
+fallthrough_at_requires : tie.Need-fallthrough-at-requires
+fallthrough_at_requires c κs = search rules
 
-unless-scheduled-requires : tie.Need-unless-scheduled-requires
-unless-scheduled-requires c κs =
+unless_scheduled_requires : tie.Need-unless-scheduled-requires
+unless_scheduled_requires c κs =
     let start : tie.Start = search in
-    fallthrough-few start.pre.0 c.fallthrough-at.ensures
+    fallthrough_few start.pre.0 c.fallthrough_at.ensures
 
-entries-of-requires : tie.Need-entries-of-requires
-entries-of-requires c κs = search rules
+entries_of_requires : tie.Need-entries-of-requires
+entries_of_requires c κs = search rules
 
-frame-of-requires : tie.Need-frame-of-requires
-frame-of-requires c κs = search rules
+frame_of_requires : tie.Need-frame-of-requires
+frame_of_requires c κs = search rules
 
-add-make-values : tie.Need-overflow-add-make-values
-add-make-values c =
+add_make_values : tie.Need-overflow-add-make-values
+add_make_values c =
     let start : tie.Start = search in
     omega (arith, start.pre.0.depth)
 
-schedule-if-requires : tie.Need-schedule-if-requires
-schedule-if-requires c κs =
+schedule_if_requires : tie.Need-schedule-if-requires
+schedule_if_requires c κs =
     let taken : tie.After-unless-scheduled = search in
     let read : tie.After-fallthrough-at = search in
     let start : tie.Start = search in
-    takes-most start.args.scheduled.now start.args.catch-handlers.now read.fallthrough-at.result taken.unless-scheduled.ensures
-    (fallthrough-few start.pre.0 read.fallthrough-at.ensures)
+    takes_most start.args.scheduled.now start.args.catch_handlers.now read.fallthrough_at.result taken.unless_scheduled.ensures
+    (fallthrough_few start.pre.0 read.fallthrough_at.ensures)
 
-make-values-requires : tie.Need-make-values-requires
-make-values-requires c κs = search rules
+make_values_requires : tie.Need-make-values-requires
+make_values_requires c κs = search rules
 
 returns : tie.Need-returns
 returns c =
@@ -43,18 +43,18 @@ returns c =
     let taken : tie.After-unless-scheduled = search in
     let read : tie.After-fallthrough-at = search in
     let start : tie.Start = search in
-    value-scheduled start.pre.0 read.fallthrough-at.ensures
-    (rw (scheduling.schedule-if.ensures, framing.frame-of.ensures, counting.entries-of.ensures, taken.unless-scheduled.ensures) at c.make-values.ensures)
+    value_scheduled start.pre.0 read.fallthrough_at.ensures
+    (rw (scheduling.schedule_if.ensures, framing.frame_of.ensures, counting.entries_of.ensures, taken.unless_scheduled.ensures) at c.make_values.ensures)
 
-pub visit-value-spec : {M : Type 1} → statement M
-visit-value-spec =
+pub visit_value_spec : {M : Type 1} → statement M
+visit_value_spec =
     tie.close
     (tie.spec
-    fallthrough-at-requires
-    unless-scheduled-requires
-    entries-of-requires
-    frame-of-requires
-    add-make-values
-    schedule-if-requires
-    make-values-requires
+    fallthrough_at_requires
+    unless_scheduled_requires
+    entries_of_requires
+    frame_of_requires
+    add_make_values
+    schedule_if_requires
+    make_values_requires
     returns)

@@ -1,37 +1,37 @@
 use borrow.Author.Rules.{rules}
-use Rattle.statements.proofs.LoopLaws.{while-missing, while-scheduled}
+use Rattle.statements.proofs.LoopLaws.{while_missing, while_scheduled}
 use Rattle.statements.proofs.while_loop.visit_while.Statement.{statement}
 use Rattle.statements.proofs.while_loop.visit_while.Tie as tie
 
-while-at-requires : tie.Need-while-at-requires
-while-at-requires c κs = search rules
+while_at_requires : tie.Need-while-at-requires
+while_at_requires c κs = search rules
 
-code-at-requires : tie.Need-code-at-requires
-code-at-requires c κs = search rules
+code_at_requires : tie.Need-code-at-requires
+code_at_requires c κs = search rules
 
-refuse-requires : tie.Need-refuse-requires
-refuse-requires c κs = search rules
+refuse_requires : tie.Need-refuse-requires
+refuse_requires c κs = search rules
 
 returns : tie.Need-returns
-returns c = search while-missing
+returns c = search while_missing
 
-unless-unreachable-requires : tie.Need-unless-unreachable-requires
-unless-unreachable-requires c κs = search rules
+unless_unreachable_requires : tie.Need-unless-unreachable-requires
+unless_unreachable_requires c κs = search rules
 
-schedule-loop-requires : tie.Need-schedule-loop-requires
-schedule-loop-requires c κs = search rules
+schedule_loop_requires : tie.Need-schedule-loop-requires
+schedule_loop_requires c κs = search rules
 
-returns-2 : tie.Need-returns-2
-returns-2 c = search while-scheduled
+returns_2 : tie.Need-returns-2
+returns_2 c = search while_scheduled
 
-pub visit-while-spec : {M : Type 1} → statement M
-visit-while-spec =
+pub visit_while_spec : {M : Type 1} → statement M
+visit_while_spec =
     tie.close
     (tie.spec
-    while-at-requires
-    code-at-requires
-    refuse-requires
+    while_at_requires
+    code_at_requires
+    refuse_requires
     returns
-    unless-unreachable-requires
-    schedule-loop-requires
-    returns-2)
+    unless_unreachable_requires
+    schedule_loop_requires
+    returns_2)

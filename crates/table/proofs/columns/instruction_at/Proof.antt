@@ -3,27 +3,27 @@ use Rattle.table.proofs.ColumnLaws.{instructs}
 use Rattle.table.proofs.columns.instruction_at.Statement.{statement}
 use Rattle.table.proofs.columns.instruction_at.Tie as tie
 
-instruction-word-requires : tie.Need-instruction-word-requires
-instruction-word-requires c κs = search rules
+instruction_word_requires : tie.Need-instruction-word-requires
+instruction_word_requires c κs = search rules
 
-instruction-word-requires-2 : tie.Need-instruction-word-requires-2
-instruction-word-requires-2 c κs = search rules
+instruction_word_requires_2 : tie.Need-instruction-word-requires-2
+instruction_word_requires_2 c κs = search rules
 
-instruction-word-requires-3 : tie.Need-instruction-word-requires-3
-instruction-word-requires-3 c κs = search rules
+instruction_word_requires_3 : tie.Need-instruction-word-requires-3
+instruction_word_requires_3 c κs = search rules
 
-instruction-word-requires-4 : tie.Need-instruction-word-requires-4
-instruction-word-requires-4 c κs = search rules
+instruction_word_requires_4 : tie.Need-instruction-word-requires-4
+instruction_word_requires_4 c κs = search rules
 
 returns : tie.Need-returns
 returns c = search instructs
 
-pub instruction-at-spec : {M : Type 1} → statement M
-instruction-at-spec =
+pub instruction_at_spec : {M : Type 1} → statement M
+instruction_at_spec =
     tie.close
     (tie.spec
-    instruction-word-requires
-    instruction-word-requires-2
-    instruction-word-requires-3
-    instruction-word-requires-4
+    instruction_word_requires
+    instruction_word_requires_2
+    instruction_word_requires_3
+    instruction_word_requires_4
     returns)

@@ -3,14 +3,14 @@ use Rattle.table.proofs.ColumnLaws.{spans}
 use Rattle.table.proofs.columns.span_at.Statement.{statement}
 use Rattle.table.proofs.columns.span_at.Tie as tie
 
-block-word-requires : tie.Need-block-word-requires
-block-word-requires c κs = search rules
+block_word_requires : tie.Need-block-word-requires
+block_word_requires c κs = search rules
 
-block-word-requires-2 : tie.Need-block-word-requires-2
-block-word-requires-2 c κs = search rules
+block_word_requires_2 : tie.Need-block-word-requires-2
+block_word_requires_2 c κs = search rules
 
 returns : tie.Need-returns
 returns c = search spans
 
-pub span-at-spec : {M : Type 1} → statement M
-span-at-spec = tie.close (tie.spec block-word-requires block-word-requires-2 returns)
+pub span_at_spec : {M : Type 1} → statement M
+span_at_spec = tie.close (tie.spec block_word_requires block_word_requires_2 returns)

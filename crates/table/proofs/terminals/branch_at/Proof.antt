@@ -1,25 +1,25 @@
 use borrow.Author.Rules.{rules}
-use Rattle.table.proofs.TerminalLaws.{branch-ends}
+use Rattle.table.proofs.TerminalLaws.{branch_ends}
 use Rattle.table.proofs.terminals.branch_at.Statement.{statement}
 use Rattle.table.proofs.terminals.branch_at.Tie as tie
 
-block-word-requires : tie.Need-block-word-requires
-block-word-requires c κs = search rules
+block_word_requires : tie.Need-block-word-requires
+block_word_requires c κs = search rules
 
-block-word-requires-2 : tie.Need-block-word-requires-2
-block-word-requires-2 c κs = search rules
+block_word_requires_2 : tie.Need-block-word-requires-2
+block_word_requires_2 c κs = search rules
 
-block-word-requires-3 : tie.Need-block-word-requires-3
-block-word-requires-3 c κs = search rules
+block_word_requires_3 : tie.Need-block-word-requires-3
+block_word_requires_3 c κs = search rules
 
 returns : tie.Need-returns
-returns c = search branch-ends
+returns c = search branch_ends
 
-pub branch-at-spec : {M : Type 1} → statement M
-branch-at-spec =
+pub branch_at_spec : {M : Type 1} → statement M
+branch_at_spec =
     tie.close
     (tie.spec
-    block-word-requires
-    block-word-requires-2
-    block-word-requires-3
+    block_word_requires
+    block_word_requires_2
+    block_word_requires_3
     returns)

@@ -1,29 +1,29 @@
 use borrow.Author.Rules.{rules}
-use Rattle.table.proofs.TerminalLaws.{for-of-ends}
+use Rattle.table.proofs.TerminalLaws.{for_of_ends}
 use Rattle.table.proofs.terminals.for_of_at.Statement.{statement}
 use Rattle.table.proofs.terminals.for_of_at.Tie as tie
 
-block-word-requires : tie.Need-block-word-requires
-block-word-requires c κs = search rules
+block_word_requires : tie.Need-block-word-requires
+block_word_requires c κs = search rules
 
-block-word-requires-2 : tie.Need-block-word-requires-2
-block-word-requires-2 c κs = search rules
+block_word_requires_2 : tie.Need-block-word-requires-2
+block_word_requires_2 c κs = search rules
 
-block-word-requires-3 : tie.Need-block-word-requires-3
-block-word-requires-3 c κs = search rules
+block_word_requires_3 : tie.Need-block-word-requires-3
+block_word_requires_3 c κs = search rules
 
-block-word-requires-4 : tie.Need-block-word-requires-4
-block-word-requires-4 c κs = search rules
+block_word_requires_4 : tie.Need-block-word-requires-4
+block_word_requires_4 c κs = search rules
 
 returns : tie.Need-returns
-returns c = search for-of-ends
+returns c = search for_of_ends
 
-pub for-of-at-spec : {M : Type 1} → statement M
-for-of-at-spec =
+pub for_of_at_spec : {M : Type 1} → statement M
+for_of_at_spec =
     tie.close
     (tie.spec
-    block-word-requires
-    block-word-requires-2
-    block-word-requires-3
-    block-word-requires-4
+    block_word_requires
+    block_word_requires_2
+    block_word_requires_3
+    block_word_requires_4
     returns)

@@ -1,21 +1,21 @@
 use borrow.Author.Rules.{rules}
-use Rattle.table.proofs.TerminalLaws.{goto-ends}
+use Rattle.table.proofs.TerminalLaws.{goto_ends}
 use Rattle.table.proofs.terminals.goto_at.Statement.{statement}
 use Rattle.table.proofs.terminals.goto_at.Tie as tie
 
-block-word-requires : tie.Need-block-word-requires
-block-word-requires c κs = search rules
+block_word_requires : tie.Need-block-word-requires
+block_word_requires c κs = search rules
 
-block-word-requires-2 : tie.Need-block-word-requires-2
-block-word-requires-2 c κs = search rules
+block_word_requires_2 : tie.Need-block-word-requires-2
+block_word_requires_2 c κs = search rules
 
 returns : tie.Need-returns
-returns c = search goto-ends
+returns c = search goto_ends
 
-pub goto-at-spec : {M : Type 1} → statement M
-goto-at-spec =
+pub goto_at_spec : {M : Type 1} → statement M
+goto_at_spec =
     tie.close
     (tie.spec
-    block-word-requires
-    block-word-requires-2
+    block_word_requires
+    block_word_requires_2
     returns)

@@ -1,25 +1,25 @@
 use borrow.Author.Rules.{rules}
-use Rattle.table.proofs.TerminalLaws.{logical-ends}
+use Rattle.table.proofs.TerminalLaws.{logical_ends}
 use Rattle.table.proofs.terminals.logical_at.Statement.{statement}
 use Rattle.table.proofs.terminals.logical_at.Tie as tie
 
-block-word-requires : tie.Need-block-word-requires
-block-word-requires c κs = search rules
+block_word_requires : tie.Need-block-word-requires
+block_word_requires c κs = search rules
 
-block-word-requires-2 : tie.Need-block-word-requires-2
-block-word-requires-2 c κs = search rules
+block_word_requires_2 : tie.Need-block-word-requires-2
+block_word_requires_2 c κs = search rules
 
-block-word-requires-3 : tie.Need-block-word-requires-3
-block-word-requires-3 c κs = search rules
+block_word_requires_3 : tie.Need-block-word-requires-3
+block_word_requires_3 c κs = search rules
 
 returns : tie.Need-returns
-returns c = search logical-ends
+returns c = search logical_ends
 
-pub logical-at-spec : {M : Type 1} → statement M
-logical-at-spec =
+pub logical_at_spec : {M : Type 1} → statement M
+logical_at_spec =
     tie.close
     (tie.spec
-    block-word-requires
-    block-word-requires-2
-    block-word-requires-3
+    block_word_requires
+    block_word_requires_2
+    block_word_requires_3
     returns)

@@ -1,17 +1,17 @@
 use borrow.Author.Rules.{rules}
-use Rattle.table.proofs.TerminalLaws.{maybe-throw-ends}
+use Rattle.table.proofs.TerminalLaws.{maybe_throw_ends}
 use Rattle.table.proofs.terminals.maybe_throw_at.Statement.{statement}
 use Rattle.table.proofs.terminals.maybe_throw_at.Tie as tie
 
-block-word-requires : tie.Need-block-word-requires
-block-word-requires c κs = search rules
+block_word_requires : tie.Need-block-word-requires
+block_word_requires c κs = search rules
 
 returns : tie.Need-returns
-returns c = search maybe-throw-ends
+returns c = search maybe_throw_ends
 
-pub maybe-throw-at-spec : {M : Type 1} → statement M
-maybe-throw-at-spec =
+pub maybe_throw_at_spec : {M : Type 1} → statement M
+maybe_throw_at_spec =
     tie.close
     (tie.spec
-    block-word-requires
+    block_word_requires
     returns)

@@ -3,27 +3,27 @@ use Rattle.table.proofs.TerminalLaws.{scope_ends}
 use Rattle.table.proofs.terminals.scope_at.Statement.{statement}
 use Rattle.table.proofs.terminals.scope_at.Tie as tie
 
-block-word-requires : tie.Need-block-word-requires
-block-word-requires c κs = search rules
+block_word_requires : tie.Need-block-word-requires
+block_word_requires c κs = search rules
 
-block-word-requires-2 : tie.Need-block-word-requires-2
-block-word-requires-2 c κs = search rules
+block_word_requires_2 : tie.Need-block-word-requires-2
+block_word_requires_2 c κs = search rules
 
-block-word-requires-3 : tie.Need-block-word-requires-3
-block-word-requires-3 c κs = search rules
+block_word_requires_3 : tie.Need-block-word-requires-3
+block_word_requires_3 c κs = search rules
 
-block-word-requires-4 : tie.Need-block-word-requires-4
-block-word-requires-4 c κs = search rules
+block_word_requires_4 : tie.Need-block-word-requires-4
+block_word_requires_4 c κs = search rules
 
 returns : tie.Need-returns
 returns c = search scope_ends
 
-pub scope-at-spec : {M : Type 1} → statement M
-scope-at-spec =
+pub scope_at_spec : {M : Type 1} → statement M
+scope_at_spec =
     tie.close
     (tie.spec
-    block-word-requires
-    block-word-requires-2
-    block-word-requires-3
-    block-word-requires-4
+    block_word_requires
+    block_word_requires_2
+    block_word_requires_3
+    block_word_requires_4
     returns)

@@ -1,21 +1,21 @@
 use borrow.Author.Rules.{rules}
-use Rattle.table.proofs.TerminalLaws.{ternary-ends}
+use Rattle.table.proofs.TerminalLaws.{ternary_ends}
 use Rattle.table.proofs.terminals.ternary_at.Statement.{statement}
 use Rattle.table.proofs.terminals.ternary_at.Tie as tie
 
-block-word-requires : tie.Need-block-word-requires
-block-word-requires c κs = search rules
+block_word_requires : tie.Need-block-word-requires
+block_word_requires c κs = search rules
 
-block-word-requires-2 : tie.Need-block-word-requires-2
-block-word-requires-2 c κs = search rules
+block_word_requires_2 : tie.Need-block-word-requires-2
+block_word_requires_2 c κs = search rules
 
 returns : tie.Need-returns
-returns c = search ternary-ends
+returns c = search ternary_ends
 
-pub ternary-at-spec : {M : Type 1} → statement M
-ternary-at-spec =
+pub ternary_at_spec : {M : Type 1} → statement M
+ternary_at_spec =
     tie.close
     (tie.spec
-    block-word-requires
-    block-word-requires-2
+    block_word_requires
+    block_word_requires_2
     returns)

@@ -1,7 +1,7 @@
 -- `table::words::block_word` meets its contract.
 use native.Mathlib.Omega.{arith}
 use borrow.Author.Rules.{rules}
-use Rattle.table.specs.Words.{wordsNeeded, identifiersBegin, placesBegin, casesBegin, instructionsBegin, blocksBegin, blockWord, word}
+use Rattle.table.specs.Words.{words_needed, identifiers_begin, places_begin, cases_begin, instructions_begin, blocks_begin, block_word, word}
 use Rattle.table.proofs.words.block_word.Statement.{statement}
 use Rattle.table.proofs.words.block_word.Tie as tie
 
@@ -11,23 +11,23 @@ mul_at c = search rules
 add_at : tie.Need-overflow-add-at
 add_at c = search rules
 
-add-at-2 : tie.Need-overflow-add-at-2
-add-at-2 c = search rules
+add_at_2 : tie.Need-overflow-add-at-2
+add_at_2 c = search rules
 
-cast-at : tie.Need-overflow-cast-at
-cast-at c = search rules
+cast_at : tie.Need-overflow-cast-at
+cast_at c = search rules
 
-mul-result : tie.Need-overflow-mul-result
-mul-result c = search rules
+mul_result : tie.Need-overflow-mul-result
+mul_result c = search rules
 
-shared-slice-read-result : tie.Need-shared-slice-read-result
-unfolding wordsNeeded identifiersBegin placesBegin casesBegin instructionsBegin blocksBegin
-shared-slice-read-result c = omega arith
+shared_slice_read_result : tie.Need-shared-slice-read-result
+unfolding words_needed identifiers_begin places_begin cases_begin instructions_begin blocks_begin
+shared_slice_read_result c = omega arith
 
 returns : tie.Need-returns
-unfolding blockWord word blocksBegin
+unfolding block_word word blocks_begin
 returns c = search rules
 
-pub block-word-spec : {M : Type 1} → statement M
-block-word-spec =
-    tie.close (tie.spec mul_at add_at add-at-2 cast-at mul-result shared-slice-read-result returns)
+pub block_word_spec : {M : Type 1} → statement M
+block_word_spec =
+    tie.close (tie.spec mul_at add_at add_at_2 cast_at mul_result shared_slice_read_result returns)

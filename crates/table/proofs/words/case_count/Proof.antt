@@ -1,15 +1,15 @@
 -- `table::words::case_count` meets its contract.
 use borrow.Author.Rules.{rules}
-use Rattle.table.specs.Words.{caseCount, word}
+use Rattle.table.specs.Words.{case_count, word}
 use Rattle.table.proofs.words.case_count.Statement.{statement}
 use Rattle.table.proofs.words.case_count.Tie as tie
 
-shared-slice-read-result : tie.Need-shared-slice-read-result
-shared-slice-read-result c = search rules
+shared_slice_read_result : tie.Need-shared-slice-read-result
+shared_slice_read_result c = search rules
 
 returns : tie.Need-returns
-unfolding caseCount word
+unfolding case_count word
 returns c = search rules
 
-pub case-count-spec : {M : Type 1} → statement M
-case-count-spec = tie.close (tie.spec shared-slice-read-result returns)
+pub case_count_spec : {M : Type 1} → statement M
+case_count_spec = tie.close (tie.spec shared_slice_read_result returns)

@@ -1,12 +1,12 @@
 -- `table::words::case_word` meets its contract.
 use native.Mathlib.Omega.{arith}
 use borrow.Author.Rules.{rules}
-use Rattle.table.specs.Words.{wordsNeeded, identifiersBegin, placesBegin, caseWord, word}
+use Rattle.table.specs.Words.{words_needed, identifiers_begin, places_begin, case_word, word}
 use Rattle.table.proofs.words.case_word.Statement.{statement}
 use Rattle.table.proofs.words.case_word.Tie as tie
 
-cases-begin-requires : tie.Need-cases-begin-requires
-cases-begin-requires c κs = search rules
+cases_begin_requires : tie.Need-cases-begin-requires
+cases_begin_requires c κs = search rules
 
 mul_at : tie.Need-overflow-mul-at
 mul_at c = search rules
@@ -14,34 +14,34 @@ mul_at c = search rules
 add_at : tie.Need-overflow-add-at
 add_at c = search rules
 
-add-at-2 : tie.Need-overflow-add-at-2
-add-at-2 c = search rules
+add_at_2 : tie.Need-overflow-add-at-2
+add_at_2 c = search rules
 
-cast-at : tie.Need-overflow-cast-at
-cast-at c = search rules
+cast_at : tie.Need-overflow-cast-at
+cast_at c = search rules
 
-mul-result : tie.Need-overflow-mul-result
-mul-result c = search rules
+mul_result : tie.Need-overflow-mul-result
+mul_result c = search rules
 
-shared-slice-read-result : tie.Need-shared-slice-read-result
-unfolding wordsNeeded identifiersBegin placesBegin
-shared-slice-read-result c = omega arith
+shared_slice_read_result : tie.Need-shared-slice-read-result
+unfolding words_needed identifiers_begin places_begin
+shared_slice_read_result c = omega arith
 
 returns : tie.Need-returns
-unfolding caseWord word
+unfolding case_word word
 returns c =
-    let at-cases-begin : tie.After-cases-begin = search in
-    rw at-cases-begin.cases_begin.ensures.0
+    let at_cases_begin : tie.After-cases-begin = search in
+    rw at_cases_begin.cases_begin_lem.ensures.0
 
-pub case-word-spec : {M : Type 1} → statement M
-case-word-spec =
+pub case_word_spec : {M : Type 1} → statement M
+case_word_spec =
     tie.close
     (tie.spec
-    cases-begin-requires
+    cases_begin_requires
     mul_at
     add_at
-    add-at-2
-    cast-at
-    mul-result
-    shared-slice-read-result
+    add_at_2
+    cast_at
+    mul_result
+    shared_slice_read_result
     returns)

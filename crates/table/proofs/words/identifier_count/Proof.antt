@@ -1,15 +1,15 @@
 -- `table::words::identifier_count` meets its contract.
 use borrow.Author.Rules.{rules}
-use Rattle.table.specs.Words.{identifierCount, word}
+use Rattle.table.specs.Words.{identifier_count, word}
 use Rattle.table.proofs.words.identifier_count.Statement.{statement}
 use Rattle.table.proofs.words.identifier_count.Tie as tie
 
-shared-slice-read-result : tie.Need-shared-slice-read-result
-shared-slice-read-result c = search rules
+shared_slice_read_result : tie.Need-shared-slice-read-result
+shared_slice_read_result c = search rules
 
 returns : tie.Need-returns
-unfolding identifierCount word
+unfolding identifier_count word
 returns c = search rules
 
-pub identifier-count-spec : {M : Type 1} → statement M
-identifier-count-spec = tie.close (tie.spec shared-slice-read-result returns)
+pub identifier_count_spec : {M : Type 1} → statement M
+identifier_count_spec = tie.close (tie.spec shared_slice_read_result returns)

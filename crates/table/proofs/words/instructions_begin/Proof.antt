@@ -1,22 +1,22 @@
 -- `table::words::instructions_begin` meets its contract.
 use native.Mathlib.Omega.{arith}
 use borrow.Author.Rules.{rules}
-use Rattle.table.specs.Words.{instructionsBegin, blocksBegin}
+use Rattle.table.specs.Words.{instructions_begin, blocks_begin}
 use Rattle.table.proofs.words.instructions_begin.Statement.{statement}
 use Rattle.table.proofs.words.instructions_begin.Tie as tie
 
-block-count-requires : tie.Need-block-count-requires
-block-count-requires c κs = search rules
+block_count_requires : tie.Need-block-count-requires
+block_count_requires c κs = search rules
 
-mul-result : tie.Need-overflow-mul-result
-mul-result c = search rules
+mul_result : tie.Need-overflow-mul-result
+mul_result c = search rules
 
-add-result : tie.Need-overflow-add-result
-add-result c = search rules
+add_result : tie.Need-overflow-add-result
+add_result c = search rules
 
 returns : tie.Need-returns
-unfolding instructionsBegin blocksBegin
+unfolding instructions_begin blocks_begin
 returns c = omega arith
 
-pub instructions-begin-spec : {M : Type 1} → statement M
-instructions-begin-spec = tie.close (tie.spec block-count-requires mul-result add-result returns)
+pub instructions_begin_spec : {M : Type 1} → statement M
+instructions_begin_spec = tie.close (tie.spec block_count_requires mul_result add_result returns)

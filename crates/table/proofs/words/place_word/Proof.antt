@@ -1,33 +1,33 @@
 -- `table::words::place_word` meets its contract.
 use native.Mathlib.Omega.{arith}
 use borrow.Author.Rules.{rules}
-use Rattle.table.specs.Words.{wordsNeeded, identifiersBegin, placeWord, word}
+use Rattle.table.specs.Words.{words_needed, identifiers_begin, place_word, word}
 use Rattle.table.proofs.words.place_word.Statement.{statement}
 use Rattle.table.proofs.words.place_word.Tie as tie
 
-places-begin-requires : tie.Need-places-begin-requires
-places-begin-requires c κs = search rules
+places_begin_requires : tie.Need-places-begin-requires
+places_begin_requires c κs = search rules
 
 add_at : tie.Need-overflow-add-at
 add_at c = search rules
 
-cast-at : tie.Need-overflow-cast-at
-cast-at c = search rules
+cast_at : tie.Need-overflow-cast-at
+cast_at c = search rules
 
-mul-result : tie.Need-overflow-mul-result
-mul-result c = search rules
+mul_result : tie.Need-overflow-mul-result
+mul_result c = search rules
 
-shared-slice-read-result : tie.Need-shared-slice-read-result
-unfolding wordsNeeded identifiersBegin
-shared-slice-read-result c = omega arith
+shared_slice_read_result : tie.Need-shared-slice-read-result
+unfolding words_needed identifiers_begin
+shared_slice_read_result c = omega arith
 
 returns : tie.Need-returns
-unfolding placeWord word
+unfolding place_word word
 returns c =
-    let at-places-begin : tie.After-places-begin = search in
-    rw at-places-begin.places-begin.ensures.0
+    let at_places_begin : tie.After-places-begin = search in
+    rw at_places_begin.places_begin.ensures.0
 
-pub place-word-spec : {M : Type 1} → statement M
-place-word-spec =
+pub place_word_spec : {M : Type 1} → statement M
+place_word_spec =
     tie.close
-    (tie.spec places-begin-requires add_at cast-at mul-result shared-slice-read-result returns)
+    (tie.spec places_begin_requires add_at cast_at mul_result shared_slice_read_result returns)

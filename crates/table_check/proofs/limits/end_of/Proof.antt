@@ -6,8 +6,8 @@ use Rattle.table_check.proofs.limits.end_of.Tie as tie
 returns : tie.Need-returns
 returns c = rw (le-leb _ _ c.if1.true)
 
-returns-2 : tie.Need-returns-2
-returns-2 c = rw (lt-leb _ _ c.if1.false)
+returns_2 : tie.Need-returns-2
+returns_2 c = rw (lt-leb _ _ c.if1.false)
 
-pub end-of-spec : {M : Type 1} → statement M
-end-of-spec = tie.close (tie.spec returns returns-2)
+pub end_of_spec : {M : Type 1} → statement M
+end_of_spec = tie.close (tie.spec returns returns_2)

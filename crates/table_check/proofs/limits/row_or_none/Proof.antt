@@ -6,8 +6,8 @@ use Rattle.table_check.proofs.limits.row_or_none.Tie as tie
 returns : tie.Need-returns
 returns c = rw (eq-eqb _ 65535 c.if1.true)
 
-returns-2 : tie.Need-returns-2
-returns-2 c = rw (ne_eqb _ 65535 c.if1.false)
+returns_2 : tie.Need-returns-2
+returns_2 c = rw (ne_eqb _ 65535 c.if1.false)
 
-pub row-or-none-spec : {M : Type 1} → statement M
-row-or-none-spec = tie.close (tie.spec returns returns-2)
+pub row_or_none_spec : {M : Type 1} → statement M
+row_or_none_spec = tie.close (tie.spec returns returns_2)

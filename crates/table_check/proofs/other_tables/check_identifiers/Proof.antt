@@ -3,76 +3,76 @@ use Prim.Native.Nat.{◌+◌, ◌-◌, ◌≤◌}
 use mathlib.Core.Path.{◌≡◌, refl, sym, ◌∙◌}
 use native.Mathlib.Omega.{arith}
 use borrow.Author.Rules.{rules}
-use Rattle.table.specs.Words.{identifierWord, identifiersBegin, identifierCount}
-use Rattle.table.specs.Check.{identifierRules, rowsVerdict}
-use Rattle.table_check.proofs.RowLaws.{rest-first, rest-last, rest-on, rest-off}
+use Rattle.table.specs.Words.{identifier_word, identifiers_begin, identifier_count}
+use Rattle.table.specs.Check.{identifier_rules, rows_verdict}
+use Rattle.table_check.proofs.RowLaws.{rest_first, rest_last, rest_on, rest_off}
 use Rattle.table_check.proofs.other_tables.check_identifiers.Statement.{statement}
 use Rattle.table_check.proofs.other_tables.check_identifiers.Tie as tie
 
-abbrev invariant-loop : tie.invariant-loop
-invariant-loop words begin rows row₀ row =
-    (rowsVerdict words (identifierRules words) (identifiersBegin words) 0 (identifierCount words) ≡ rowsVerdict words (identifierRules words)
-    (identifiersBegin words + row) row (identifierCount words - row)) × (row ≤ identifierCount words)
+abbrev invariant_loop : tie.invariant_loop
+invariant_loop words begin rows row₀ row =
+    (rows_verdict words (identifier_rules words) (identifiers_begin words) 0 (identifier_count words) ≡ rows_verdict words (identifier_rules words)
+    (identifiers_begin words + row) row (identifier_count words - row)) × (row ≤ identifier_count words)
 
-abbrev decreases-loop : tie.decreases-loop
-decreases-loop words begin rows row₀ row = identifierCount words - row
+abbrev decreases_loop : tie.decreases_loop
+decreases_loop words begin rows row₀ row = identifier_count words - row
 
-identifiers-begin-requires : tie.Need-identifiers-begin-requires invariant-loop decreases-loop
-identifiers-begin-requires c κs = search rules
+identifiers_begin_requires : tie.Need-identifiers-begin-requires invariant_loop decreases_loop
+identifiers_begin_requires c κs = search rules
 
-identifier-count-requires : tie.Need-identifier-count-requires invariant-loop decreases-loop
-identifier-count-requires c κs = search rules
+identifier_count_requires : tie.Need-identifier-count-requires invariant_loop decreases_loop
+identifier_count_requires c κs = search rules
 
-loop-holds : tie.Need-loop-init invariant-loop decreases-loop
-unfolding identifierRules
-loop-holds c = (rest-first _ _ _ _, omega arith)
+loop_holds : tie.Need-loop-init invariant_loop decreases_loop
+unfolding identifier_rules
+loop_holds c = (rest_first _ _ _ _, omega arith)
 
-identifier-word-requires : tie.Need-identifier-word-requires invariant-loop decreases-loop
-identifier-word-requires c κs = search rules
+identifier_word_requires : tie.Need-identifier-word-requires invariant_loop decreases_loop
+identifier_word_requires c κs = search rules
 
-add-t7 : tie.Need-overflow-add-t7 invariant-loop decreases-loop
-add-t7 c = omega arith
+add_t7 : tie.Need-overflow-add-t7 invariant_loop decreases_loop
+add_t7 c = omega arith
 
-returns : tie.Need-returns invariant-loop decreases-loop
-unfolding identifierWord identifierRules
+returns : tie.Need-returns invariant_loop decreases_loop
+unfolding identifier_word identifier_rules
 returns c =
-    let at-identifier-word : tie.After-identifier-word invariant-loop decreases-loop = search in
-    let at-loop : tie.At-loop invariant-loop decreases-loop = search in
-    let at-identifiers-begin : tie.After-identifiers-begin invariant-loop decreases-loop = search in
-    rest-off _ _ _ _ _ (omega arith) at-identifier-word.identifier-word.ensures refl c.if1.true at-identifiers-begin.identifiers-begin.ensures.0 ∙ sym at-loop.loop.inv.0
+    let at_identifier_word : tie.After-identifier-word invariant_loop decreases_loop = search in
+    let at_loop : tie.At-loop invariant_loop decreases_loop = search in
+    let at_identifiers_begin : tie.After-identifiers-begin invariant_loop decreases_loop = search in
+    rest_off _ _ _ _ _ (omega arith) at_identifier_word.identifier_word.ensures refl c.if1.true at_identifiers_begin.identifiers_begin.ensures.0 ∙ sym at_loop.loop.inv.0
 
-add-identifier : tie.Need-overflow-add-identifier invariant-loop decreases-loop
-add-identifier c = omega arith
+add_identifier : tie.Need-overflow-add-identifier invariant_loop decreases_loop
+add_identifier c = omega arith
 
-loop-less : tie.Need-loop-smaller invariant-loop decreases-loop
-loop-less c = omega arith
+loop_less : tie.Need-loop-smaller invariant_loop decreases_loop
+loop_less c = omega arith
 
-loop-again : tie.Need-loop-preserved invariant-loop decreases-loop
-unfolding identifierWord identifierRules
-loop-again c =
-    let at-identifier-word : tie.After-identifier-word invariant-loop decreases-loop = search in
-    let at-loop : tie.At-loop invariant-loop decreases-loop = search in
-    (at-loop.loop.inv.0 ∙ rest-on _ _ _ _ _ (omega arith) at-identifier-word.identifier-word.ensures refl c.if1.false, omega arith)
+loop_again : tie.Need-loop-preserved invariant_loop decreases_loop
+unfolding identifier_word identifier_rules
+loop_again c =
+    let at_identifier_word : tie.After-identifier-word invariant_loop decreases_loop = search in
+    let at_loop : tie.At-loop invariant_loop decreases_loop = search in
+    (at_loop.loop.inv.0 ∙ rest_on _ _ _ _ _ (omega arith) at_identifier_word.identifier_word.ensures refl c.if1.false, omega arith)
 
-returns-2 : tie.Need-returns-2 invariant-loop decreases-loop
-unfolding identifierRules
-returns-2 c =
-    let at-loop : tie.At-loop invariant-loop decreases-loop = search in
-    sym (at-loop.loop.inv.0 ∙ rest-last _ _ _ _ _ (omega arith))
+returns_2 : tie.Need-returns-2 invariant_loop decreases_loop
+unfolding identifier_rules
+returns_2 c =
+    let at_loop : tie.At-loop invariant_loop decreases_loop = search in
+    sym (at_loop.loop.inv.0 ∙ rest_last _ _ _ _ _ (omega arith))
 
-pub check-identifiers-spec : {M : Type 1} → statement M
-check-identifiers-spec =
+pub check_identifiers_spec : {M : Type 1} → statement M
+check_identifiers_spec =
     tie.close
     (tie.spec
-    invariant-loop
-    decreases-loop
-    identifiers-begin-requires
-    identifier-count-requires
-    loop-holds
-    identifier-word-requires
-    add-t7
+    invariant_loop
+    decreases_loop
+    identifiers_begin_requires
+    identifier_count_requires
+    loop_holds
+    identifier_word_requires
+    add_t7
     returns
-    add-identifier
-    loop-less
-    loop-again
-    returns-2)
+    add_identifier
+    loop_less
+    loop_again
+    returns_2)

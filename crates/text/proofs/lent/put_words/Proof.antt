@@ -8,7 +8,7 @@ use native.Mathlib.Numerals.{add-one}
 use lib.ListN.{length-set}
 use lib.Seq.{take-suc, take-length}
 use Rattle.text.specs.Lent.{Holds}
-use Rattle.text.proofs.LentLaws.{holds-none, holds-put}
+use Rattle.text.proofs.LentLaws.{holds_none, holds_put}
 use Rattle.text.proofs.lent.put_words.Statement.{statement}
 use Rattle.text.proofs.lent.put_words.Tie as tie
 
@@ -18,74 +18,74 @@ record Run (words₀ source words : List ℕ) (i : ℕ) : Type 0 where
   long : length words ≡ length words₀
   holds : Holds words i (take i source)
 
-abbrev invariant-loop : tie.invariant-loop
-invariant-loop words₀ source i₀ words i = Run words₀ source words i
+abbrev invariant_loop : tie.invariant_loop
+invariant_loop words₀ source i₀ words i = Run words₀ source words i
 
-abbrev decreases-loop : tie.decreases-loop
-decreases-loop words₀ source i₀ words i = length source - i
+abbrev decreases_loop : tie.decreases_loop
+decreases_loop words₀ source i₀ words i = length source - i
 
-loop-holds : tie.Need-loop-init invariant-loop decreases-loop
-loop-holds c =
-    let start : tie.Start invariant-loop decreases-loop = search in
-    record { most = omega arith; long = refl; holds = holds-none start.args.words.now }
+loop_holds : tie.Need-loop-init invariant_loop decreases_loop
+loop_holds c =
+    let start : tie.Start invariant_loop decreases_loop = search in
+    record { most = omega arith; long = refl; holds = holds_none start.args.words.now }
 
-mul-put-word : tie.Need-overflow-mul-put-word invariant-loop decreases-loop
-mul-put-word c = search rules
+mul_put_word : tie.Need-overflow-mul-put-word invariant_loop decreases_loop
+mul_put_word c = search rules
 
-shared-slice-read-put-word : tie.Need-shared-slice-read-put-word invariant-loop decreases-loop
-shared-slice-read-put-word c = search rules
+shared_slice_read_put_word : tie.Need-shared-slice-read-put-word invariant_loop decreases_loop
+shared_slice_read_put_word c = search rules
 
-put-word-requires : tie.Need-put-word-requires invariant-loop decreases-loop
-put-word-requires c κs = search rules
+put_word_requires : tie.Need-put-word-requires invariant_loop decreases_loop
+put_word_requires c κs = search rules
 
-add-i : tie.Need-overflow-add-i invariant-loop decreases-loop
-add-i c = search rules
+add_i : tie.Need-overflow-add-i invariant_loop decreases_loop
+add_i c = search rules
 
-loop-less : tie.Need-loop-smaller invariant-loop decreases-loop
-loop-less c = omega arith
+loop_less : tie.Need-loop-smaller invariant_loop decreases_loop
+loop_less c = omega arith
 
-loop-again : tie.Need-loop-preserved invariant-loop decreases-loop
-loop-again c =
-    let at-put-word : tie.After-put-word invariant-loop decreases-loop = search in
-    let at-loop-test : tie.In-loop invariant-loop decreases-loop = search in
-    let at-loop : tie.At-loop invariant-loop decreases-loop = search in
-    let at_entry : tie.Start invariant-loop decreases-loop = search in
-    let I = at-loop.loop.inv in
-    let e = at-put-word.put_word.ensures in
+loop_again : tie.Need-loop-preserved invariant_loop decreases_loop
+loop_again c =
+    let at_put_word : tie.After-put-word invariant_loop decreases_loop = search in
+    let at_loop_test : tie.In-loop invariant_loop decreases_loop = search in
+    let at_loop : tie.At-loop invariant_loop decreases_loop = search in
+    let at_entry : tie.Start invariant_loop decreases_loop = search in
+    let I = at_loop.loop.inv in
+    let e = at_put_word.put_word.ensures in
     record {
-      most = omega (arith, at-loop-test.loop-test.taken);
+      most = omega (arith, at_loop_test.loop_test.taken);
       long = rw e (simp length-set I.long);
       holds =
-          rw (e, add-one at-loop.loop.i, take-suc at_entry.args.source.now at-loop.loop.i 0 at-loop-test.loop-test.taken)
-          (rw (add-one at-loop.loop.i) at (holds-put at-loop.loop.words at-loop.loop.i (get_or at_entry.args.source.now at-loop.loop.i 0) _
+          rw (e, add-one at_loop.loop.i, take-suc at_entry.args.source.now at_loop.loop.i 0 at_loop_test.loop_test.taken)
+          (rw (add-one at_loop.loop.i) at (holds_put at_loop.loop.words at_loop.loop.i (get_or at_entry.args.source.now at_loop.loop.i 0) _
           I.holds));
     }
 
-same_length : tie.Need-same-length invariant-loop decreases-loop
+same_length : tie.Need-same-length invariant_loop decreases_loop
 same_length c =
-    let at-loop : tie.At-loop invariant-loop decreases-loop = search in
-    at-loop.loop.inv.long
+    let at_loop : tie.At-loop invariant_loop decreases_loop = search in
+    at_loop.loop.inv.long
 
-returns : tie.Need-returns invariant-loop decreases-loop
+returns : tie.Need-returns invariant_loop decreases_loop
 returns c =
-    let at-loop : tie.At-loop invariant-loop decreases-loop = search in
-    let at_entry : tie.Start invariant-loop decreases-loop = search in
-    let I = at-loop.loop.inv in
-    let e : at-loop.loop.i ≡ length at_entry.args.source.now = omega (arith, I.most, c.loop-test.false) in
+    let at_loop : tie.At-loop invariant_loop decreases_loop = search in
+    let at_entry : tie.Start invariant_loop decreases_loop = search in
+    let I = at_loop.loop.inv in
+    let e : at_loop.loop.i ≡ length at_entry.args.source.now = omega (arith, I.most, c.loop_test.false) in
     rw (take-length at_entry.args.source.now) at (rw e at I.holds)
 
-pub put-words-spec : {M : Type 1} → statement M
-put-words-spec =
+pub put_words_spec : {M : Type 1} → statement M
+put_words_spec =
     tie.close
     (tie.spec
-    invariant-loop
-    decreases-loop
-    loop-holds
-    mul-put-word
-    shared-slice-read-put-word
-    put-word-requires
-    add-i
-    loop-less
-    loop-again
+    invariant_loop
+    decreases_loop
+    loop_holds
+    mul_put_word
+    shared_slice_read_put_word
+    put_word_requires
+    add_i
+    loop_less
+    loop_again
     same_length
     returns)

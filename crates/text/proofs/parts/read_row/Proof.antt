@@ -10,8 +10,8 @@ use native.Mathlib.Nat.{sub-zero}
 use lib.ListN.{length-set, length-append}
 use Rattle.text.specs.Form.{Form, row}
 use Rattle.text.specs.Steps.{At}
-use Rattle.text.proofs.LentLaws.{holds-put}
-use Rattle.text.proofs.PartLaws.{row_open, row_done, row-refused, row_at}
+use Rattle.text.proofs.LentLaws.{holds_put}
+use Rattle.text.proofs.PartLaws.{row_open, row_done, row_refused, row_at}
 use Rattle.text.proofs.parts.read_row.Statement.{statement}
 use Rattle.text.proofs.parts.read_row.Tie as tie
 
@@ -26,15 +26,15 @@ record Run (file : List ℕ) (width : ℕ) (words₀ : List ℕ) (at₀ count₀
   here : (root : Form) (before : List ℕ) (next : List ℕ → Form) → At root file words₀ at₀ count₀ before (row width [] next)
       → At root file words at count (before ++ numbers) (row (width - i) numbers next)
 
-abbrev invariant-loop : tie.invariant-loop
-invariant-loop file width words₀ at₀ count₀ i₀ words at count i = Run file width words₀ at₀ count₀ words at count i
+abbrev invariant_loop : tie.invariant_loop
+invariant_loop file width words₀ at₀ count₀ i₀ words at count i = Run file width words₀ at₀ count₀ words at count i
 
-abbrev decreases-loop : tie.decreases-loop
-decreases-loop file width words₀ at₀ count₀ i₀ words at count i = width - i
+abbrev decreases_loop : tie.decreases_loop
+decreases_loop file width words₀ at₀ count₀ i₀ words at count i = width - i
 
-loop-holds : tie.Need-loop-init invariant-loop decreases-loop
-loop-holds c =
-    let at_entry : tie.Start invariant-loop decreases-loop = search in
+loop_holds : tie.Need-loop-init invariant_loop decreases_loop
+loop_holds c =
+    let at_entry : tie.Start invariant_loop decreases_loop = search in
     record {
       most = omega arith;
       near = at_entry.pre.within;
@@ -45,107 +45,107 @@ loop-holds c =
       here = λ root before next h. rw (append-nil before, sub-zero at_entry.args.width) h;
     }
 
-add-read-number : tie.Need-overflow-add-read-number invariant-loop decreases-loop
-add-read-number c = search rules
+add_read_number : tie.Need-overflow-add-read-number invariant_loop decreases_loop
+add_read_number c = search rules
 
-read-number-requires : tie.Need-read-number-requires invariant-loop decreases-loop
-read-number-requires c κs = search rules
+read_number_requires : tie.Need-read-number-requires invariant_loop decreases_loop
+read_number_requires c κs = search rules
 
-cursor-refused-requires : tie.Need-cursor-refused-requires invariant-loop decreases-loop
-cursor-refused-requires c κs = search rules
+cursor_refused_requires : tie.Need-cursor-refused-requires invariant_loop decreases_loop
+cursor_refused_requires c κs = search rules
 
-same_length : tie.Need-same-length invariant-loop decreases-loop
+same_length : tie.Need-same-length invariant_loop decreases_loop
 same_length c =
-    let at-loop : tie.At-loop invariant-loop decreases-loop = search in
-    at-loop.loop.inv.long
+    let at_loop : tie.At-loop invariant_loop decreases_loop = search in
+    at_loop.loop.inv.long
 
-returns : tie.Need-returns invariant-loop decreases-loop
+returns : tie.Need-returns invariant_loop decreases_loop
 returns c =
-    let at-if1 : tie.Then1 invariant-loop decreases-loop = search in
-    let at-read-number : tie.After-read-number invariant-loop decreases-loop = search in
-    let at-loop-test : tie.In-loop invariant-loop decreases-loop = search in
-    let at-loop : tie.At-loop invariant-loop decreases-loop = search in
-    let I = at-loop.loop.inv in
-    let N = at-read-number.read_number.ensures in
-    row-refused c.cursor-refused.ensures N.within
-    (λ root before next h. N.stopped root _ _ (rw (row_open _ _ _ next at-loop-test.loop-test.taken) at (I.here root before next h).reached)
-    at-if1.if1.taken)
+    let at_if1 : tie.Then1 invariant_loop decreases_loop = search in
+    let at_read_number : tie.After-read-number invariant_loop decreases_loop = search in
+    let at_loop_test : tie.In-loop invariant_loop decreases_loop = search in
+    let at_loop : tie.At-loop invariant_loop decreases_loop = search in
+    let I = at_loop.loop.inv in
+    let N = at_read_number.read_number.ensures in
+    row_refused c.cursor_refused.ensures N.within
+    (λ root before next h. N.stopped root _ _ (rw (row_open _ _ _ next at_loop_test.loop_test.taken) at (I.here root before next h).reached)
+    at_if1.if1.taken)
 
-put-word-requires : tie.Need-put-word-requires invariant-loop decreases-loop
-put-word-requires c κs = search rules
+put_word_requires : tie.Need-put-word-requires invariant_loop decreases_loop
+put_word_requires c κs = search rules
 
-add-count : tie.Need-overflow-add-count invariant-loop decreases-loop
-add-count c = search rules
+add_count : tie.Need-overflow-add-count invariant_loop decreases_loop
+add_count c = search rules
 
-add-i : tie.Need-overflow-add-i invariant-loop decreases-loop
-add-i c = search rules
+add_i : tie.Need-overflow-add-i invariant_loop decreases_loop
+add_i c = search rules
 
-loop-less : tie.Need-loop-smaller invariant-loop decreases-loop
-loop-less c = omega arith
+loop_less : tie.Need-loop-smaller invariant_loop decreases_loop
+loop_less c = omega arith
 
-loop-again : tie.Need-loop-preserved invariant-loop decreases-loop
-loop-again c =
-    let at-put-word : tie.After-put-word invariant-loop decreases-loop = search in
-    let at-if1 : tie.Else1 invariant-loop decreases-loop = search in
-    let at-read-number : tie.After-read-number invariant-loop decreases-loop = search in
-    let at-loop-test : tie.In-loop invariant-loop decreases-loop = search in
-    let at-loop : tie.At-loop invariant-loop decreases-loop = search in
-    let I = at-loop.loop.inv in
-    let N = at-read-number.read_number.ensures in
-    let n = at-read-number.read_number.result.value in
+loop_again : tie.Need-loop-preserved invariant_loop decreases_loop
+loop_again c =
+    let at_put_word : tie.After-put-word invariant_loop decreases_loop = search in
+    let at_if1 : tie.Else1 invariant_loop decreases_loop = search in
+    let at_read_number : tie.After-read-number invariant_loop decreases_loop = search in
+    let at_loop_test : tie.In-loop invariant_loop decreases_loop = search in
+    let at_loop : tie.At-loop invariant_loop decreases_loop = search in
+    let I = at_loop.loop.inv in
+    let N = at_read_number.read_number.ensures in
+    let n = at_read_number.read_number.result.value in
     record {
-      most = omega (arith, at-loop-test.loop-test.taken);
+      most = omega (arith, at_loop_test.loop_test.taken);
       near = N.within;
-      few = omega (arith, I.few, N.long at-if1.if1.left);
-      long = rw at-put-word.put_word.ensures (simp length-set I.long);
+      few = omega (arith, I.few, N.long at_if1.if1.left);
+      long = rw at_put_word.put_word.ensures (simp length-set I.long);
       numbers = I.numbers ++ (n ∷ []);
       many = length-append I.numbers (n ∷ []) ∙ ap (λ (k : ℕ). k + 1) I.many;
       here = λ root before next h.
           let a = I.here root before next h in
           rw (sym (append_assoc before I.numbers (n ∷ []))) (record {
-            reached = N.reached root _ _ (rw (row_open _ _ _ next at-loop-test.loop-test.taken) at a.reached) at-if1.if1.left;
-            holds = rw at-put-word.put_word.ensures (holds-put _ _ _ _ a.holds);
+            reached = N.reached root _ _ (rw (row_open _ _ _ next at_loop_test.loop_test.taken) at a.reached) at_if1.if1.left;
+            holds = rw at_put_word.put_word.ensures (holds_put _ _ _ _ a.holds);
           });
     }
 
-cursor-at-requires : tie.Need-cursor-at-requires invariant-loop decreases-loop
-cursor-at-requires c κs = search rules
+cursor_at_requires : tie.Need-cursor-at-requires invariant_loop decreases_loop
+cursor_at_requires c κs = search rules
 
-same-length-2 : tie.Need-same-length-2 invariant-loop decreases-loop
-same-length-2 c =
-    let at-loop : tie.At-loop invariant-loop decreases-loop = search in
-    at-loop.loop.inv.long
+same_length_2 : tie.Need-same-length-2 invariant_loop decreases_loop
+same_length_2 c =
+    let at_loop : tie.At-loop invariant_loop decreases_loop = search in
+    at_loop.loop.inv.long
 
-returns-2 : tie.Need-returns-2 invariant-loop decreases-loop
-returns-2 c =
-    let at-loop-test : tie.After-loop invariant-loop decreases-loop = search in
-    let at-loop : tie.At-loop invariant-loop decreases-loop = search in
-    let I = at-loop.loop.inv in
-    row_at c.cursor-at.ensures I.near I.few (λ root before next h.
+returns_2 : tie.Need-returns-2 invariant_loop decreases_loop
+returns_2 c =
+    let at_loop_test : tie.After-loop invariant_loop decreases_loop = search in
+    let at_loop : tie.At-loop invariant_loop decreases_loop = search in
+    let I = at_loop.loop.inv in
+    row_at c.cursor_at.ensures I.near I.few (λ root before next h.
     let a = I.here root before next h in
     record {
       numbers = I.numbers;
-      long = omega (arith, I.many, I.most, at-loop-test.loop-test.left);
-      at = record { reached = rw (row_done _ at-loop.loop.i _ next at-loop-test.loop-test.left) at a.reached; holds = a.holds };
+      long = omega (arith, I.many, I.most, at_loop_test.loop_test.left);
+      at = record { reached = rw (row_done _ at_loop.loop.i _ next at_loop_test.loop_test.left) at a.reached; holds = a.holds };
     })
 
-pub read-row-spec : {M : Type 1} → statement M
-read-row-spec =
+pub read_row_spec : {M : Type 1} → statement M
+read_row_spec =
     tie.close
     (tie.spec
-    invariant-loop
-    decreases-loop
-    loop-holds
-    add-read-number
-    read-number-requires
-    cursor-refused-requires
+    invariant_loop
+    decreases_loop
+    loop_holds
+    add_read_number
+    read_number_requires
+    cursor_refused_requires
     same_length
     returns
-    put-word-requires
-    add-count
-    add-i
-    loop-less
-    loop-again
-    cursor-at-requires
-    same-length-2
-    returns-2)
+    put_word_requires
+    add_count
+    add_i
+    loop_less
+    loop_again
+    cursor_at_requires
+    same_length_2
+    returns_2)

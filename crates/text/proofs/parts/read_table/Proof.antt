@@ -1,34 +1,34 @@
 use borrow.Author.Rules.{rules}
 use Rattle.text.specs.Form.{table}
-use Rattle.text.proofs.PartLaws.{names-part, part_then, part-stops}
+use Rattle.text.proofs.PartLaws.{names_part, part_then, part_stops}
 use Rattle.text.proofs.parts.read_table.Statement.{statement}
 use Rattle.text.proofs.parts.read_table.Tie as tie
 
-read-names-requires : tie.Need-read-names-requires
-read-names-requires c κs = search rules
+read_names_requires : tie.Need-read-names-requires
+read_names_requires c κs = search rules
 
 returns : tie.Need-returns
 unfolding table
 returns c =
-    let at-read-names : tie.After-read-names = search in
-    part-stops (names-part _ at-read-names.read_names.ensures) c.if1.true
+    let at_read_names : tie.After-read-names = search in
+    part_stops (names_part _ at_read_names.read_names.ensures) c.if1.true
 
-read-rows-requires : tie.Need-read-rows-requires
-read-rows-requires c κs =
-    let at-read-names : tie.After-read-names = search in
-    at-read-names.read_names.ensures.near
+read_rows_requires : tie.Need-read-rows-requires
+read_rows_requires c κs =
+    let at_read_names : tie.After-read-names = search in
+    at_read_names.read_names.ensures.near
 
 same_length : tie.Need-same-length
 same_length c = search rules
 
-returns-2 : tie.Need-returns-2
+returns_2 : tie.Need-returns-2
 unfolding table
-returns-2 c =
-    let at-read-rows : tie.After-read-rows = search in
-    let at-if1 : tie.Else1 = search in
-    let at-read-names : tie.After-read-names = search in
-    part_then (names-part _ at-read-names.read_names.ensures) at-if1.if1.left at-read-rows.read-rows.ensures
+returns_2 c =
+    let at_read_rows : tie.After-read-rows = search in
+    let at_if1 : tie.Else1 = search in
+    let at_read_names : tie.After-read-names = search in
+    part_then (names_part _ at_read_names.read_names.ensures) at_if1.if1.left at_read_rows.read_rows.ensures
 
-pub read-table-spec : {M : Type 1} → statement M
-read-table-spec =
-    tie.close (tie.spec read-names-requires returns read-rows-requires same_length returns-2)
+pub read_table_spec : {M : Type 1} → statement M
+read_table_spec =
+    tie.close (tie.spec read_names_requires returns read_rows_requires same_length returns_2)

@@ -1,10 +1,10 @@
 use borrow.Author.Rules.{rules}
-use Rattle.text.proofs.PlacedLaws.{refused-placing}
+use Rattle.text.proofs.PlacedLaws.{refused_placing}
 use Rattle.text.proofs.placed.refuse.Statement.{statement}
 use Rattle.text.proofs.placed.refuse.Tie as tie
 
-clear-bytes-requires : tie.Need-clear-bytes-requires
-clear-bytes-requires c κs = search rules
+clear_bytes_requires : tie.Need-clear-bytes-requires
+clear_bytes_requires c κs = search rules
 
 same_length : tie.Need-same-length
 same_length c = search rules
@@ -13,7 +13,7 @@ returns : tie.Need-returns
 returns c =
     let cleared : tie.After-clear-bytes = search in
     let start : tie.Start = search in
-    refused-placing _ _ start.args.text.now _ cleared.clear-bytes.ensures
+    refused_placing _ _ start.args.text.now _ cleared.clear_bytes.ensures
 
-pub refuse-spec : {M : Type 1} → statement M
-refuse-spec = tie.close (tie.spec clear-bytes-requires same_length returns)
+pub refuse_spec : {M : Type 1} → statement M
+refuse_spec = tie.close (tie.spec clear_bytes_requires same_length returns)

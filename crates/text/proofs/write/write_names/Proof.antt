@@ -10,7 +10,7 @@ use native.Mathlib.Nat.{add-zero, add_assoc}
 use lib.ListN.{length-set}
 use lib.Seq.{take-suc, take_all}
 use Rattle.text.specs.Printed.{Wrote}
-use Rattle.text.proofs.WriteLaws.{wrote_none, wrote-byte, wrote_then}
+use Rattle.text.proofs.WriteLaws.{wrote_none, wrote_byte, wrote_then}
 use Rattle.text.proofs.write.write_names.Statement.{statement}
 use Rattle.text.proofs.write.write_names.Tie as tie
 
@@ -20,91 +20,91 @@ record Run (out₀ : List ℕ) (start : ℕ) (names out : List ℕ) (i : ℕ) : 
   long : length out ≡ length out₀
   wrote : Wrote out₀ start (take i names) out (start + i)
 
-abbrev invariant-loop : tie.invariant-loop
-invariant-loop out₀ start names i₀ out i = Run out₀ start names out i
+abbrev invariant_loop : tie.invariant_loop
+invariant_loop out₀ start names i₀ out i = Run out₀ start names out i
 
-abbrev decreases-loop : tie.decreases-loop
-decreases-loop out₀ start names i₀ out i = length names - i
+abbrev decreases_loop : tie.decreases_loop
+decreases_loop out₀ start names i₀ out i = length names - i
 
-loop-holds : tie.Need-loop-init invariant-loop decreases-loop
-loop-holds c =
-    let start : tie.Start invariant-loop decreases-loop = search in
+loop_holds : tie.Need-loop-init invariant_loop decreases_loop
+loop_holds c =
+    let start : tie.Start invariant_loop decreases_loop = search in
     record { most = omega arith; long = refl; wrote = rw (add-zero start.args.start) (wrote_none _ _) }
 
-add-put-byte : tie.Need-overflow-add-put-byte invariant-loop decreases-loop
-add-put-byte c =
-    let at-loop : tie.At-loop invariant-loop decreases-loop = search in
-    let at_entry : tie.Start invariant-loop decreases-loop = search in
-    omega (arith, at_entry.pre, at-loop.loop.inv.most)
+add_put_byte : tie.Need-overflow-add-put-byte invariant_loop decreases_loop
+add_put_byte c =
+    let at_loop : tie.At-loop invariant_loop decreases_loop = search in
+    let at_entry : tie.Start invariant_loop decreases_loop = search in
+    omega (arith, at_entry.pre, at_loop.loop.inv.most)
 
-shared-slice-read-put-byte : tie.Need-shared-slice-read-put-byte invariant-loop decreases-loop
-shared-slice-read-put-byte c = search rules
+shared_slice_read_put_byte : tie.Need-shared-slice-read-put-byte invariant_loop decreases_loop
+shared_slice_read_put_byte c = search rules
 
-put-byte-requires : tie.Need-put-byte-requires invariant-loop decreases-loop
-put-byte-requires c κs = search rules
+put_byte_requires : tie.Need-put-byte-requires invariant_loop decreases_loop
+put_byte_requires c κs = search rules
 
-add-i : tie.Need-overflow-add-i invariant-loop decreases-loop
-add-i c = search rules
+add_i : tie.Need-overflow-add-i invariant_loop decreases_loop
+add_i c = search rules
 
-loop-less : tie.Need-loop-smaller invariant-loop decreases-loop
-loop-less c = omega arith
+loop_less : tie.Need-loop-smaller invariant_loop decreases_loop
+loop_less c = omega arith
 
-loop-again : tie.Need-loop-preserved invariant-loop decreases-loop
-loop-again c =
-    let at-put-byte : tie.After-put-byte invariant-loop decreases-loop = search in
-    let at-loop-test : tie.In-loop invariant-loop decreases-loop = search in
-    let at-loop : tie.At-loop invariant-loop decreases-loop = search in
-    let at_entry : tie.Start invariant-loop decreases-loop = search in
-    let I = at-loop.loop.inv in
-    let e = at-put-byte.put_byte.ensures in
+loop_again : tie.Need-loop-preserved invariant_loop decreases_loop
+loop_again c =
+    let at_put_byte : tie.After-put-byte invariant_loop decreases_loop = search in
+    let at_loop_test : tie.In-loop invariant_loop decreases_loop = search in
+    let at_loop : tie.At-loop invariant_loop decreases_loop = search in
+    let at_entry : tie.Start invariant_loop decreases_loop = search in
+    let I = at_loop.loop.inv in
+    let e = at_put_byte.put_byte.ensures in
     let names = at_entry.args.names.now in
     record {
-      most = omega (arith, at-loop-test.loop-test.taken);
+      most = omega (arith, at_loop_test.loop_test.taken);
       long = rw e (simp length-set I.long);
       wrote =
           rw (
             e,
-            add-one at-loop.loop.i,
-            take-suc names at-loop.loop.i 0 at-loop-test.loop-test.taken,
-            ← (add-one at-loop.loop.i),
-            sym (add_assoc at_entry.args.start at-loop.loop.i 1),
+            add-one at_loop.loop.i,
+            take-suc names at_loop.loop.i 0 at_loop_test.loop_test.taken,
+            ← (add-one at_loop.loop.i),
+            sym (add_assoc at_entry.args.start at_loop.loop.i 1),
           )
-          (wrote_then I.wrote (wrote-byte _ _ _));
+          (wrote_then I.wrote (wrote_byte _ _ _));
     }
 
-add-result : tie.Need-overflow-add-result invariant-loop decreases-loop
-add-result c =
-    let at-loop : tie.At-loop invariant-loop decreases-loop = search in
-    let at_entry : tie.Start invariant-loop decreases-loop = search in
-    omega (arith, at_entry.pre, at-loop.loop.inv.most)
+add_result : tie.Need-overflow-add-result invariant_loop decreases_loop
+add_result c =
+    let at_loop : tie.At-loop invariant_loop decreases_loop = search in
+    let at_entry : tie.Start invariant_loop decreases_loop = search in
+    omega (arith, at_entry.pre, at_loop.loop.inv.most)
 
-same_length : tie.Need-same-length invariant-loop decreases-loop
+same_length : tie.Need-same-length invariant_loop decreases_loop
 same_length c =
-    let at-loop : tie.At-loop invariant-loop decreases-loop = search in
-    at-loop.loop.inv.long
+    let at_loop : tie.At-loop invariant_loop decreases_loop = search in
+    at_loop.loop.inv.long
 
-returns : tie.Need-returns invariant-loop decreases-loop
+returns : tie.Need-returns invariant_loop decreases_loop
 returns c =
-    let at-loop : tie.At-loop invariant-loop decreases-loop = search in
-    let at_entry : tie.Start invariant-loop decreases-loop = search in
-    let I = at-loop.loop.inv in
+    let at_loop : tie.At-loop invariant_loop decreases_loop = search in
+    let at_entry : tie.Start invariant_loop decreases_loop = search in
+    let I = at_loop.loop.inv in
     let names = at_entry.args.names.now in
-    let e : take at-loop.loop.i names ≡ names = take_all at-loop.loop.i names c.loop-test.false in
+    let e : take at_loop.loop.i names ≡ names = take_all at_loop.loop.i names c.loop_test.false in
     rw e at I.wrote
 
-pub write-names-spec : {M : Type 1} → statement M
-write-names-spec =
+pub write_names_spec : {M : Type 1} → statement M
+write_names_spec =
     tie.close
     (tie.spec
-    invariant-loop
-    decreases-loop
-    loop-holds
-    add-put-byte
-    shared-slice-read-put-byte
-    put-byte-requires
-    add-i
-    loop-less
-    loop-again
-    add-result
+    invariant_loop
+    decreases_loop
+    loop_holds
+    add_put_byte
+    shared_slice_read_put_byte
+    put_byte_requires
+    add_i
+    loop_less
+    loop_again
+    add_result
     same_length
     returns)

@@ -1,73 +1,73 @@
 use borrow.Author.Rules.{rules}
 use native.Mathlib.Omega.{arith}
 use mathlib.Core.List.{[], ◌∷◌}
-use Rattle.text.proofs.WriteLaws.{wrote_then, wrote-some, wrote-all, line-most, printed-refused, printed-accepted}
+use Rattle.text.proofs.WriteLaws.{wrote_then, wrote_some, wrote_all, line_most, printed_refused, printed_accepted}
 use Rattle.text.proofs.write.write_result.Statement.{statement}
 use Rattle.text.proofs.write.write_result.Tie as tie
 
-slice-aggregate-write-names : tie.Need-slice-aggregate-write-names
-slice-aggregate-write-names c = search rules
+slice_aggregate_write_names : tie.Need-slice-aggregate-write-names
+slice_aggregate_write_names c = search rules
 
-write-names-requires : tie.Need-write-names-requires
-write-names-requires c κs = search rules
+write_names_requires : tie.Need-write-names-requires
+write_names_requires c κs = search rules
 
-slice-aggregate-write-line : tie.Need-slice-aggregate-write-line
-slice-aggregate-write-line c = search rules
+slice_aggregate_write_line : tie.Need-slice-aggregate-write-line
+slice_aggregate_write_line c = search rules
 
-write-line-requires : tie.Need-write-line-requires
-write-line-requires c κs = search rules
+write_line_requires : tie.Need-write-line-requires
+write_line_requires c κs = search rules
 
 same_length : tie.Need-same-length
 same_length c = search rules
 
 returns : tie.Need-returns
 returns c =
-    let at-write-line : tie.After-write-line = search in
-    let at-write-names : tie.After-write-names = search in
-    rw (printed-refused _ _ _ _ _ c.if1.true) (wrote-all (wrote_then at-write-names.write-names.ensures at-write-line.write-line.ensures))
+    let at_write_line : tie.After-write-line = search in
+    let at_write_names : tie.After-write-names = search in
+    rw (printed_refused _ _ _ _ _ c.if1.true) (wrote_all (wrote_then at_write_names.write_names.ensures at_write_line.write_line.ensures))
 
-slice-aggregate-write-names-2 : tie.Need-slice-aggregate-write-names-2
-slice-aggregate-write-names-2 c = search rules
+slice_aggregate_write_names_2 : tie.Need-slice-aggregate-write-names-2
+slice_aggregate_write_names_2 c = search rules
 
-write-names-requires-2 : tie.Need-write-names-requires-2
-write-names-requires-2 c κs =
-    let at-write-line : tie.After-write-line = search in
-    let at-write-names : tie.After-write-names = search in
+write_names_requires_2 : tie.Need-write-names-requires-2
+write_names_requires_2 c κs =
+    let at_write_line : tie.After-write-line = search in
+    let at_write_names : tie.After-write-names = search in
     let at_entry : tie.Start = search in
     let f = at_entry.fits in
     let a = at_entry.args in
-    let l = line-most (a.code ∷ a.at ∷ a.rows ∷ a.visits ∷ []) (f.code.fits, (f.at.fits, (f.rows.fits, (f.visits.fits, tt)))) in
-    omega (arith, l, at-write-names.write-names.ensures.long, at-write-line.write-line.ensures.long)
+    let l = line_most (a.code ∷ a.at ∷ a.rows ∷ a.visits ∷ []) (f.code.fits, (f.at.fits, (f.rows.fits, (f.visits.fits, tt)))) in
+    omega (arith, l, at_write_names.write_names.ensures.long, at_write_line.write_line.ensures.long)
 
-write-rows-requires : tie.Need-write-rows-requires
-write-rows-requires c κs = search rules
+write_rows_requires : tie.Need-write-rows-requires
+write_rows_requires c κs = search rules
 
-same-length-2 : tie.Need-same-length-2
-same-length-2 c = search rules
+same_length_2 : tie.Need-same-length-2
+same_length_2 c = search rules
 
-returns-2 : tie.Need-returns-2
-returns-2 c =
-    let at-write-rows : tie.After-write-rows = search in
-    let at-write-names2 : tie.After-write-names2 = search in
-    let at-if1 : tie.Else1 = search in
-    let at-write-line : tie.After-write-line = search in
-    let at-write-names : tie.After-write-names = search in
+returns_2 : tie.Need-returns-2
+returns_2 c =
+    let at_write_rows : tie.After-write-rows = search in
+    let at_write_names2 : tie.After-write-names2 = search in
+    let at_if1 : tie.Else1 = search in
+    let at_write_line : tie.After-write-line = search in
+    let at_write_names : tie.After-write-names = search in
     let at_entry : tie.Start = search in
-    rw (printed-accepted _ _ _ _ at_entry.args.tree.now at-if1.if1.left)
-    (wrote-some at-write-names.write-names.ensures (wrote-some at-write-line.write-line.ensures (wrote-some at-write-names2.write-names2.ensures at-write-rows.write-rows.ensures)))
+    rw (printed_accepted _ _ _ _ at_entry.args.tree.now at_if1.if1.left)
+    (wrote_some at_write_names.write_names.ensures (wrote_some at_write_line.write_line.ensures (wrote_some at_write_names2.write_names2.ensures at_write_rows.write_rows.ensures)))
 
-pub write-result-spec : {M : Type 1} → statement M
-write-result-spec =
+pub write_result_spec : {M : Type 1} → statement M
+write_result_spec =
     tie.close
     (tie.spec
-    slice-aggregate-write-names
-    write-names-requires
-    slice-aggregate-write-line
-    write-line-requires
+    slice_aggregate_write_names
+    write_names_requires
+    slice_aggregate_write_line
+    write_line_requires
     same_length
     returns
-    slice-aggregate-write-names-2
-    write-names-requires-2
-    write-rows-requires
-    same-length-2
-    returns-2)
+    slice_aggregate_write_names_2
+    write_names_requires_2
+    write_rows_requires
+    same_length_2
+    returns_2)

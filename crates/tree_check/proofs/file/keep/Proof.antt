@@ -1,14 +1,14 @@
 -- `tree_check::file::keep` meets its contract.
-use Rattle.tree_check.proofs.FileLaws.{kept_word, kept-none}
+use Rattle.tree_check.proofs.FileLaws.{kept_word, kept_none}
 use borrow.Author.Rules.{rules}
 use Rattle.tree_check.proofs.file.keep.Statement.{statement}
 use Rattle.tree_check.proofs.file.keep.Tie as tie
 
-put-word-requires : tie.Need-put-word-requires
-put-word-requires c κs = search rules
+put_word_requires : tie.Need-put-word-requires
+put_word_requires c κs = search rules
 
-add-result : tie.Need-overflow-add-result
-add-result c = search rules
+add_result : tie.Need-overflow-add-result
+add_result c = search rules
 
 same_length : tie.Need-same-length
 same_length c = search rules
@@ -19,10 +19,10 @@ returns c =
     let ended : tie.Then1 = search in
     kept_word _ _ ended.if1.taken stored.put_word.ensures
 
-returns-2 : tie.Need-returns-2
-returns-2 c =
+returns_2 : tie.Need-returns-2
+returns_2 c =
     let other : tie.Else1 = search in
-    kept-none _ _ _ other.if1.left
+    kept_none _ _ _ other.if1.left
 
 pub keep_spec : {M : Type 1} → statement M
-keep_spec = tie.close (tie.spec put-word-requires add-result same_length returns returns-2)
+keep_spec = tie.close (tie.spec put_word_requires add_result same_length returns returns_2)

@@ -2,68 +2,68 @@
 use Prim.Native.Nat.{◌-◌}
 use borrow.Author.Rules.{rules}
 use lib.ListN.{length}
-use Rattle.tree_check.proofs.FileLaws.{Matching, matching-start, file-short, names-differ, names-agree, names-end}
+use Rattle.tree_check.proofs.FileLaws.{Matching, matching_start, file_short, names_differ, names_agree, names_end}
 use Rattle.tree_check.proofs.file.names_end.Statement.{statement}
 use Rattle.tree_check.proofs.file.names_end.Tie as tie
 
-abbrev invariant-loop : tie.invariant-loop
-invariant-loop file names i₀ i = Matching names file i
+abbrev invariant_loop : tie.invariant_loop
+invariant_loop file names i₀ i = Matching names file i
 
-abbrev decreases-loop : tie.decreases-loop
-decreases-loop file names i₀ i = length names - i
+abbrev decreases_loop : tie.decreases_loop
+decreases_loop file names i₀ i = length names - i
 
-loop-holds : tie.Need-loop-init invariant-loop decreases-loop
-loop-holds c = matching-start _ _
+loop_holds : tie.Need-loop-init invariant_loop decreases_loop
+loop_holds c = matching_start _ _
 
-returns : tie.Need-returns invariant-loop decreases-loop
+returns : tie.Need-returns invariant_loop decreases_loop
 returns c =
-    let at-loop : tie.At-loop invariant-loop decreases-loop = search in
-    file-short _ _ _ at-loop.loop.inv c.if1.true
+    let at_loop : tie.At-loop invariant_loop decreases_loop = search in
+    file_short _ _ _ at_loop.loop.inv c.if1.true
 
-shared-slice-read-if2 : tie.Need-shared-slice-read-if2 invariant-loop decreases-loop
-shared-slice-read-if2 c = search rules
+shared_slice_read_if2 : tie.Need-shared-slice-read-if2 invariant_loop decreases_loop
+shared_slice_read_if2 c = search rules
 
-shared-slice-read-if2-2 : tie.Need-shared-slice-read-if2-2 invariant-loop decreases-loop
-shared-slice-read-if2-2 c = search rules
+shared_slice_read_if2_2 : tie.Need-shared-slice-read-if2-2 invariant_loop decreases_loop
+shared_slice_read_if2_2 c = search rules
 
-returns-2 : tie.Need-returns-2 invariant-loop decreases-loop
-returns-2 c =
-    let inside : tie.Else1 invariant-loop decreases-loop = search in
-    let turn : tie.In-loop invariant-loop decreases-loop = search in
-    let at-loop : tie.At-loop invariant-loop decreases-loop = search in
-    names-differ _ _ _ at-loop.loop.inv turn.loop-test.taken inside.if1.left c.if2.true
+returns_2 : tie.Need-returns-2 invariant_loop decreases_loop
+returns_2 c =
+    let inside : tie.Else1 invariant_loop decreases_loop = search in
+    let turn : tie.In-loop invariant_loop decreases_loop = search in
+    let at_loop : tie.At-loop invariant_loop decreases_loop = search in
+    names_differ _ _ _ at_loop.loop.inv turn.loop_test.taken inside.if1.left c.if2.true
 
-add-i : tie.Need-overflow-add-i invariant-loop decreases-loop
-add-i c = search rules
+add_i : tie.Need-overflow-add-i invariant_loop decreases_loop
+add_i c = search rules
 
-loop-less : tie.Need-loop-smaller invariant-loop decreases-loop
-loop-less c = search rules
+loop_less : tie.Need-loop-smaller invariant_loop decreases_loop
+loop_less c = search rules
 
-loop-again : tie.Need-loop-preserved invariant-loop decreases-loop
-loop-again c =
-    let same : tie.Else2 invariant-loop decreases-loop = search in
-    let inside : tie.Else1 invariant-loop decreases-loop = search in
-    let turn : tie.In-loop invariant-loop decreases-loop = search in
-    let at-loop : tie.At-loop invariant-loop decreases-loop = search in
-    names-agree _ _ _ at-loop.loop.inv turn.loop-test.taken inside.if1.left same.if2.left
+loop_again : tie.Need-loop-preserved invariant_loop decreases_loop
+loop_again c =
+    let same : tie.Else2 invariant_loop decreases_loop = search in
+    let inside : tie.Else1 invariant_loop decreases_loop = search in
+    let turn : tie.In-loop invariant_loop decreases_loop = search in
+    let at_loop : tie.At-loop invariant_loop decreases_loop = search in
+    names_agree _ _ _ at_loop.loop.inv turn.loop_test.taken inside.if1.left same.if2.left
 
-returns-3 : tie.Need-returns-3 invariant-loop decreases-loop
-returns-3 c =
-    let at-loop : tie.At-loop invariant-loop decreases-loop = search in
-    names-end _ _ _ at-loop.loop.inv c.loop-test.false
+returns_3 : tie.Need-returns-3 invariant_loop decreases_loop
+returns_3 c =
+    let at_loop : tie.At-loop invariant_loop decreases_loop = search in
+    names_end _ _ _ at_loop.loop.inv c.loop_test.false
 
-pub names-end-spec : {M : Type 1} → statement M
-names-end-spec =
+pub names_end_spec : {M : Type 1} → statement M
+names_end_spec =
     tie.close
     (tie.spec
-    invariant-loop
-    decreases-loop
-    loop-holds
+    invariant_loop
+    decreases_loop
+    loop_holds
     returns
-    shared-slice-read-if2
-    shared-slice-read-if2-2
-    returns-2
-    add-i
-    loop-less
-    loop-again
-    returns-3)
+    shared_slice_read_if2
+    shared_slice_read_if2_2
+    returns_2
+    add_i
+    loop_less
+    loop_again
+    returns_3)

@@ -1,51 +1,51 @@
 -- `tree_check::file::write_check` meets its contract.
 use mathlib.Core.List.{[]}
-use Rattle.text.proofs.LentLaws.{holds-none}
-use Rattle.text.proofs.WriteLaws.{wrote_then, wrote-all}
-use Rattle.tree_check.specs.Prints.{printedCheck}
-use Rattle.tree_check.proofs.FileLaws.{check-written}
+use Rattle.text.proofs.LentLaws.{holds_none}
+use Rattle.text.proofs.WriteLaws.{wrote_then, wrote_all}
+use Rattle.tree_check.specs.Prints.{printed_check}
+use Rattle.tree_check.proofs.FileLaws.{check_written}
 use borrow.Author.Rules.{rules}
 use Rattle.tree_check.proofs.file.write_check.Statement.{statement}
 use Rattle.tree_check.proofs.file.write_check.Tie as tie
 
-slice-aggregate-write-names : tie.Need-slice-aggregate-write-names
-slice-aggregate-write-names c = search rules
+slice_aggregate_write_names : tie.Need-slice-aggregate-write-names
+slice_aggregate_write_names c = search rules
 
-write-names-requires : tie.Need-write-names-requires
-write-names-requires c κs = search rules
+write_names_requires : tie.Need-write-names-requires
+write_names_requires c κs = search rules
 
-slice-aggregate-write-line : tie.Need-slice-aggregate-write-line
-slice-aggregate-write-line c = search rules
+slice_aggregate_write_line : tie.Need-slice-aggregate-write-line
+slice_aggregate_write_line c = search rules
 
-write-line-requires : tie.Need-write-line-requires
-write-line-requires c κs = search rules
+write_line_requires : tie.Need-write-line-requires
+write_line_requires c κs = search rules
 
-finish-text-requires : tie.Need-finish-text-requires
-finish-text-requires c κs = search rules
+finish_text_requires : tie.Need-finish-text-requires
+finish_text_requires c κs = search rules
 
 same_length : tie.Need-same-length
 same_length c = search rules
 
 returns : tie.Need-returns
-unfolding printedCheck
+unfolding printed_check
 returns c =
     let finished : tie.After-finish-text = search in
     let line : tie.After-write-line = search in
     let names : tie.After-write-names = search in
     let start : tie.Start = search in
-    let held = wrote-all (wrote_then names.write-names.ensures line.write-line.ensures) [] (holds-none _) in
-    rw (← names.write-names.kept.0, ← line.write-line.kept.0)
-    (check-written start.args.code start.args.at start.fits.code.fits start.fits.at.fits
-    (finished.finish-text.ensures.0 _ held) (finished.finish-text.ensures.1 _ held))
+    let held = wrote_all (wrote_then names.write_names.ensures line.write_line.ensures) [] (holds_none _) in
+    rw (← names.write_names.kept.0, ← line.write_line.kept.0)
+    (check_written start.args.code start.args.at start.fits.code.fits start.fits.at.fits
+    (finished.finish_text.ensures.0 _ held) (finished.finish_text.ensures.1 _ held))
 
-pub write-check-spec : {M : Type 1} → statement M
-write-check-spec =
+pub write_check_spec : {M : Type 1} → statement M
+write_check_spec =
     tie.close
     (tie.spec
-    slice-aggregate-write-names
-    write-names-requires
-    slice-aggregate-write-line
-    write-line-requires
-    finish-text-requires
+    slice_aggregate_write_names
+    write_names_requires
+    slice_aggregate_write_line
+    write_line_requires
+    finish_text_requires
     same_length
     returns)

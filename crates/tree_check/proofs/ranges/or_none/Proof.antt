@@ -6,8 +6,8 @@ use Rattle.tree_check.proofs.ranges.or_none.Tie as tie
 returns : tie.Need-returns
 returns c = rw (eq-eqb _ 65535 c.if1.taken)
 
-returns-2 : tie.Need-returns-2
-returns-2 c = rw (ne_eqb _ 65535 c.if1.left)
+returns_2 : tie.Need-returns-2
+returns_2 c = rw (ne_eqb _ 65535 c.if1.left)
 
-pub or-none-spec : {M : Type 1} → statement M
-or-none-spec = tie.close (tie.spec returns returns-2)
+pub or_none_spec : {M : Type 1} → statement M
+or_none_spec = tie.close (tie.spec returns returns_2)

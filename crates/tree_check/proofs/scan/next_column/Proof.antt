@@ -4,18 +4,18 @@ use borrow.Author.Rules.{rules}
 use Rattle.tree_check.proofs.scan.next_column.Statement.{statement}
 use Rattle.tree_check.proofs.scan.next_column.Tie as tie
 
-add-result : tie.Need-overflow-add-result
-add-result c = search rules
+add_result : tie.Need-overflow-add-result
+add_result c = search rules
 
 returns : tie.Need-returns
 returns c =
     let last : tie.Then1 = search in
     rw (eq-eqb _ _ last.if1.taken)
 
-returns-2 : tie.Need-returns-2
-returns-2 c =
+returns_2 : tie.Need-returns-2
+returns_2 c =
     let other : tie.Else1 = search in
     rw (ne_eqb _ _ other.if1.left)
 
-pub next-column-spec : {M : Type 1} → statement M
-next-column-spec = tie.close (tie.spec add-result returns returns-2)
+pub next_column_spec : {M : Type 1} → statement M
+next_column_spec = tie.close (tie.spec add_result returns returns_2)

@@ -8,26 +8,26 @@ use Rattle.tree_check.proofs.words.word.Reads as reads
 use Rattle.tree_check.proofs.words.word.Lts as lts
 
 -- src/words.rt:11:10
-mul-result : tie.Need-overflow-mul-result
-mul-result c = search rules
+mul_result : tie.Need-overflow-mul-result
+mul_result c = search rules
 
 -- src/words.rt:11:10
-add-result : tie.Need-overflow-add-result
-add-result c = search rules
+add_result : tie.Need-overflow-add-result
+add_result c = search rules
 
 -- src/words.rt:11:5
-mul-result-2 : tie.Need-overflow-mul-result-2
-mul-result-2 c = search rules
+mul_result_2 : tie.Need-overflow-mul-result-2
+mul_result_2 c = search rules
 
 -- src/words.rt:11:5
-shared-slice-read-result : tie.Need-shared-slice-read-result
-shared-slice-read-result c = search rules
+shared_slice_read_result : tie.Need-shared-slice-read-result
+shared_slice_read_result c = search rules
 
 -- src/words.rt:7:1
 returns : tie.Need-returns
 unfolding word_at
 returns c = refl
 
-pub word-spec : {M : Type 1} → statement M
-word-spec =
-    tie.close (tie.spec mul-result add-result mul-result-2 shared-slice-read-result returns)
+pub word_spec : {M : Type 1} → statement M
+word_spec =
+    tie.close (tie.spec mul_result add_result mul_result_2 shared_slice_read_result returns)

@@ -8,5 +8,5 @@ use Rattle.tree_run.proofs.file.lent_answers.Tie as tie
 returns : tie.Need-returns
 returns c = sym (length-replicate {A = ℕ} 262144 0)
 
-pub lent-answers-spec : {M : Type 1} → statement M
-lent-answers-spec = tie.close (tie.spec returns)
+pub lent_answers_spec : {M : Type 1} → statement M
+lent_answers_spec = tie.close (tie.spec returns)

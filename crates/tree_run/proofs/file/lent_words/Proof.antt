@@ -8,5 +8,5 @@ use Rattle.tree_run.proofs.file.lent_words.Tie as tie
 returns : tie.Need-returns
 returns c = sym (length-replicate {A = ℕ} 12288 0)
 
-pub lent-words-spec : {M : Type 1} → statement M
-lent-words-spec = tie.close (tie.spec returns)
+pub lent_words_spec : {M : Type 1} → statement M
+lent_words_spec = tie.close (tie.spec returns)

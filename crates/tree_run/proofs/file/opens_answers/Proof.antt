@@ -6,8 +6,8 @@ use Rattle.tree_run.proofs.file.opens_answers.Tie as tie
 returns : tie.Need-returns
 returns c = rw (lt-leb 13 _ c.if1.true)
 
-returns-2 : tie.Need-returns-2
-returns-2 c = rw (le-leb 13 _ c.if1.false)
+returns_2 : tie.Need-returns-2
+returns_2 c = rw (le-leb 13 _ c.if1.false)
 
-pub opens-answers-spec : {M : Type 1} → statement M
-opens-answers-spec = tie.close (tie.spec returns returns-2)
+pub opens_answers_spec : {M : Type 1} → statement M
+opens_answers_spec = tie.close (tie.spec returns returns_2)

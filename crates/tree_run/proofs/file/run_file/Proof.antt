@@ -1,36 +1,36 @@
 -- `tree_run::file::run_file` meets its contract.
 use native.Mathlib.Omega.{arith}
 use mathlib.Core.Path.{sym}
-use Rattle.tree_run.proofs.PrintLaws.{number-within, run-printed}
+use Rattle.tree_run.proofs.PrintLaws.{number_within, run_printed}
 use borrow.Author.Rules.{rules}
 use Rattle.tree_run.proofs.file.run_file.Statement.{statement}
 use Rattle.tree_run.proofs.file.run_file.Tie as tie
 
-lent-rows-requires : tie.Need-lent-rows-requires
-lent-rows-requires c κs = search rules
+lent_rows_requires : tie.Need-lent-rows-requires
+lent_rows_requires c κs = search rules
 
-slice-aggregate-run-bytes : tie.Need-slice-aggregate-run-bytes
-slice-aggregate-run-bytes c = search rules
+slice_aggregate_run_bytes : tie.Need-slice-aggregate-run-bytes
+slice_aggregate_run_bytes c = search rules
 
-run-bytes-requires : tie.Need-run-bytes-requires
-run-bytes-requires c κs = search rules
+run_bytes_requires : tie.Need-run-bytes-requires
+run_bytes_requires c κs = search rules
 
-cast-number : tie.Need-overflow-cast-number
-cast-number c =
+cast_number : tie.Need-overflow-cast-number
+cast_number c =
     let ran : tie.After-run-bytes = search in
     let lent : tie.After-lent-rows = search in
-    let few = number-within _ _ ran.run-bytes.ensures in
-    omega (arith, few, ran.run-bytes.kept.1.0, lent.lent_rows.ensures)
+    let few = number_within _ _ ran.run_bytes.ensures in
+    omega (arith, few, ran.run_bytes.kept.1.0, lent.lent_rows.ensures)
 
-slice-aggregate-write-run : tie.Need-slice-aggregate-write-run
-slice-aggregate-write-run c = search rules
+slice_aggregate_write_run : tie.Need-slice-aggregate-write-run
+slice_aggregate_write_run c = search rules
 
-write-run-requires : tie.Need-write-run-requires
-write-run-requires c κs =
+write_run_requires : tie.Need-write-run-requires
+write_run_requires c κs =
     let ran : tie.After-run-bytes = search in
     let lent : tie.After-lent-rows = search in
-    let few = number-within _ _ ran.run-bytes.ensures in
-    omega (arith, few, ran.run-bytes.kept.1.0, lent.lent_rows.ensures)
+    let few = number_within _ _ ran.run_bytes.ensures in
+    omega (arith, few, ran.run_bytes.kept.1.0, lent.lent_rows.ensures)
 
 same_length : tie.Need-same-length
 same_length c = search rules
@@ -40,17 +40,17 @@ returns c =
     let written : tie.After-write-run = search in
     let ran : tie.After-run-bytes = search in
     let lent : tie.After-lent-rows = search in
-    run-printed _ (sym lent.lent_rows.ensures) ran.run-bytes.ensures written.write-run.ensures
+    run_printed _ (sym lent.lent_rows.ensures) ran.run_bytes.ensures written.write_run.ensures
 
-pub run-file-spec : {M : Type 1} → statement M
-run-file-spec =
+pub run_file_spec : {M : Type 1} → statement M
+run_file_spec =
     tie.close
     (tie.spec
-    lent-rows-requires
-    slice-aggregate-run-bytes
-    run-bytes-requires
-    cast-number
-    slice-aggregate-write-run
-    write-run-requires
+    lent_rows_requires
+    slice_aggregate_run_bytes
+    run_bytes_requires
+    cast_number
+    slice_aggregate_write_run
+    write_run_requires
     same_length
     returns)

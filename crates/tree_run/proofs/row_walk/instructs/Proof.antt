@@ -7,11 +7,11 @@ use borrow.Author.Rules.{rules}
 use Rattle.tree_run.proofs.row_walk.instructs.Statement.{statement}
 use Rattle.tree_run.proofs.row_walk.instructs.Tie as tie
 
-false-true : false ≡ true → ⊥
-false-true e = let z : ◌≡◌ {A = ℕ} 0 1 = cc in omega arith
+false_true : false ≡ true → ⊥
+false_true e = let z : ◌≡◌ {A = ℕ} 0 1 = cc in omega arith
 
-word-requires : tie.Need-word-requires
-word-requires c κs = search rules
+word_requires : tie.Need-word-requires
+word_requires c κs = search rules
 
 returns : tie.Need-returns
 returns c =
@@ -19,8 +19,8 @@ returns c =
     let into : tie.Then1 = search in
     λ e. (into.if1.taken, sym read.word.ensures ∙ eqb-true _ 4 e)
 
-returns-2 : tie.Need-returns-2
-returns-2 c = λ e. absurd (false-true e)
+returns_2 : tie.Need-returns-2
+returns_2 c = λ e. absurd (false_true e)
 
-pub instructs-spec : {M : Type 1} → statement M
-instructs-spec = tie.close (tie.spec word-requires returns returns-2)
+pub instructs_spec : {M : Type 1} → statement M
+instructs_spec = tie.close (tie.spec word_requires returns returns_2)

@@ -1,16 +1,16 @@
 use mathlib.Core.Path.{refl}
-use Rattle.tree_runs.specs.Links.{plainsFrom}
-use Rattle.tree_run.specs.Abstraction.{actOf}
+use Rattle.tree_runs.specs.Links.{plains_from}
+use Rattle.tree_run.specs.Abstraction.{act_of}
 use borrow.Author.Rules.{rules}
 use Rattle.tree_run.proofs.turns.choosing.Statement.{statement}
 use Rattle.tree_run.proofs.turns.choosing.Tie as tie
 
-enter-requires : tie.Need-enter-requires
-enter-requires c κs = search rules
+enter_requires : tie.Need-enter-requires
+enter_requires c κs = search rules
 
 returns : tie.Need-returns
-unfolding actOf plainsFrom
+unfolding act_of plains_from
 returns c = λ words t. refl
 
-pub choosing-spec : {M : Type 1} → statement M
-choosing-spec = tie.close (tie.spec enter-requires returns)
+pub choosing_spec : {M : Type 1} → statement M
+choosing_spec = tie.close (tie.spec enter_requires returns)

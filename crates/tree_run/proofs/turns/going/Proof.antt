@@ -1,14 +1,14 @@
-use Rattle.tree_runs.specs.Links.{plainsFrom}
+use Rattle.tree_runs.specs.Links.{plains_from}
 use borrow.Author.Rules.{rules}
 use Rattle.tree_run.proofs.turns.going.Statement.{statement}
 use Rattle.tree_run.proofs.turns.going.Tie as tie
 
-performing-requires : tie.Need-performing-requires
-performing-requires c κs = search rules
+performing_requires : tie.Need-performing-requires
+performing_requires c κs = search rules
 
 returns : tie.Need-returns
-unfolding plainsFrom
+unfolding plains_from
 returns c = c.performing.ensures
 
-pub going-spec : {M : Type 1} → statement M
-going-spec = tie.close (tie.spec performing-requires returns)
+pub going_spec : {M : Type 1} → statement M
+going_spec = tie.close (tie.spec performing_requires returns)

@@ -1,11 +1,11 @@
 use mathlib.Core.Path.{refl}
-use Rattle.tree_run.specs.Abstraction.{nextIn}
+use Rattle.tree_run.specs.Abstraction.{next_in}
 use Rattle.tree_run.proofs.turns.next_at.Statement.{statement}
 use Rattle.tree_run.proofs.turns.next_at.Tie as tie
 
 returns : tie.Need-returns
-unfolding nextIn
+unfolding next_in
 returns c = refl
 
-pub next-at-spec : {M : Type 1} → statement M
-next-at-spec = tie.close (tie.spec returns)
+pub next_at_spec : {M : Type 1} → statement M
+next_at_spec = tie.close (tie.spec returns)

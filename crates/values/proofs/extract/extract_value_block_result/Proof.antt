@@ -1,19 +1,19 @@
-use Rattle.values.proofs.MetLaws.{accepted, met-wrap}
-use Rattle.values.proofs.ExtractLaws.{extract-many}
+use Rattle.values.proofs.MetLaws.{accepted, met_wrap}
+use Rattle.values.proofs.ExtractLaws.{extract_many}
 use Rattle.definition.specs.Result.{◌>>=◌}
 use native.Mathlib.Omega.{arith}
 use borrow.Author.Rules.{rules}
 use Rattle.values.proofs.extract.extract_value_block_result.Statement.{statement}
 use Rattle.values.proofs.extract.extract_value_block_result.Tie as tie
 
-put-instructions-requires : tie.Need-put-instructions-requires
-put-instructions-requires c κs = search rules
+put_instructions_requires : tie.Need-put-instructions-requires
+put_instructions_requires c κs = search rules
 
-add-final-value : tie.Need-overflow-add-final-value
-add-final-value c = search rules
+add_final_value : tie.Need-overflow-add-final-value
+add_final_value c = search rules
 
-final-value-requires : tie.Need-final-value-requires
-final-value-requires c κs =
+final_value_requires : tie.Need-final-value-requires
+final_value_requires c κs =
     let put : tie.After-put-instructions = search in
     let start : tie.Start = search in
     let fit = start.pre.0 in (
@@ -21,24 +21,24 @@ final-value-requires c κs =
         promise = fit.promise;
         at = fit.at;
         visits = fit.visits;
-        room = omega (arith, put.put-instructions.ensures.more, fit.room, start.pre.1, fit.promise.sized.limited.instructions);
+        room = omega (arith, put.put_instructions.ensures.more, fit.room, start.pre.1, fit.promise.sized.limited.instructions);
       },
       start.pre.1,
     )
 
-wrap-with-sequence-requires : tie.Need-wrap-with-sequence-requires
-wrap-with-sequence-requires c κs =
+wrap_with_sequence_requires : tie.Need-wrap-with-sequence-requires
+wrap_with_sequence_requires c κs =
     let made : tie.After-final-value = search in
     let put : tie.After-put-instructions = search in
     let start : tie.Start = search in
-    let value = made.final_value.ensures in
+    let value = made.final_value_lem.ensures in
     let found = value.found (accepted value) in
     let limits = start.pre.0.promise.sized.limited in
     record {
       code = accepted value;
       few = omega (arith, start.pre.1, limits.instructions);
       more = omega (arith, found.more);
-      room = omega (arith, value.numbers, put.put-instructions.ensures.more, start.pre, limits.instructions);
+      room = omega (arith, value.numbers, put.put_instructions.ensures.more, start.pre, limits.instructions);
     }
 
 same_length : tie.Need-same-length
@@ -51,19 +51,19 @@ returns c =
     let made : tie.After-final-value = search in
     let put : tie.After-put-instructions = search in
     let start : tie.Start = search in
-    let value = made.final_value.ensures in
-    let w = wrapped.wrap-with-sequence.ensures in
-    rw (extract-many start.args.words.now start.args.block start.args.first start.args.more start.args.tally.visits)
-    (met-wrap start.args.first start.args.more put.put-instructions.ensures value (accepted value) w
-    (omega (arith, value.numbers, w.visits, w.most, put.put-instructions.ensures.more, start.pre.1, start.pre.0.promise.sized.limited.instructions)))
+    let value = made.final_value_lem.ensures in
+    let w = wrapped.wrap_with_sequence.ensures in
+    rw (extract_many start.args.words.now start.args.block start.args.first start.args.more start.args.tally.visits)
+    (met_wrap start.args.first start.args.more put.put_instructions.ensures value (accepted value) w
+    (omega (arith, value.numbers, w.visits, w.most, put.put_instructions.ensures.more, start.pre.1, start.pre.0.promise.sized.limited.instructions)))
 
-pub extract-value-block-result-spec : {M : Type 1} → statement M
-extract-value-block-result-spec =
+pub extract_value_block_result_spec : {M : Type 1} → statement M
+extract_value_block_result_spec =
     tie.close
     (tie.spec
-    put-instructions-requires
-    add-final-value
-    final-value-requires
-    wrap-with-sequence-requires
+    put_instructions_requires
+    add_final_value
+    final_value_requires
+    wrap_with_sequence_requires
     same_length
     returns)

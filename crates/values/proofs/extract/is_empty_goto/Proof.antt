@@ -1,20 +1,20 @@
-use Rattle.values.proofs.ExtractLaws.{goto-full, goto-empty}
+use Rattle.values.proofs.ExtractLaws.{goto_full, goto_empty}
 use borrow.Author.Rules.{rules}
 use Rattle.values.proofs.extract.is_empty_goto.Statement.{statement}
 use Rattle.values.proofs.extract.is_empty_goto.Tie as tie
 
-block-at-requires : tie.Need-block-at-requires
-block-at-requires c κs = search rules
+block_at_requires : tie.Need-block-at-requires
+block_at_requires c κs = search rules
 
 returns : tie.Need-returns
-returns c = search goto-full
+returns c = search goto_full
 
-code-at-requires : tie.Need-code-at-requires
-code-at-requires c κs = search rules
+code_at_requires : tie.Need-code-at-requires
+code_at_requires c κs = search rules
 
-returns-2 : tie.Need-returns-2
-returns-2 c = search goto-empty
+returns_2 : tie.Need-returns-2
+returns_2 c = search goto_empty
 
-pub is-empty-goto-spec : {M : Type 1} → statement M
-is-empty-goto-spec =
-    tie.close (tie.spec block-at-requires returns code-at-requires returns-2)
+pub is_empty_goto_spec : {M : Type 1} → statement M
+is_empty_goto_spec =
+    tie.close (tie.spec block_at_requires returns code_at_requires returns_2)

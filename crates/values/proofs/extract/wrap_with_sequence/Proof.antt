@@ -18,26 +18,26 @@ returns c =
       most = omega arith;
     }
 
-put-row-requires : tie.Need-put-row-requires
-put-row-requires c κs = search rules
+put_row_requires : tie.Need-put-row-requires
+put_row_requires c κs = search rules
 
-add-t9 : tie.Need-overflow-add-t9
-add-t9 c = search rules
+add_t9 : tie.Need-overflow-add-t9
+add_t9 c = search rules
 
-add-t10 : tie.Need-overflow-add-t10
-add-t10 c = search rules
+add_t10 : tie.Need-overflow-add-t10
+add_t10 c = search rules
 
-found-requires : tie.Need-found-requires
-found-requires c κs = search rules
+found_requires : tie.Need-found-requires
+found_requires c κs = search rules
 
 same_length : tie.Need-same-length
 same_length c = search rules
 
-returns-2 : tie.Need-returns-2
-returns-2 c =
+returns_2 : tie.Need-returns-2
+returns_2 c =
     let put : tie.After-put-row = search in
     let some : tie.Else1 = search in
-    let seq = put.put-row.ensures in
+    let seq = put.put_row.ensures in
     rw c.found.ensures (record {
       code = refl;
       same = λ v. rw seq.visits;
@@ -48,7 +48,7 @@ returns-2 c =
       most = omega (arith, seq.rows);
     })
 
-pub wrap-with-sequence-spec : {M : Type 1} → statement M
-wrap-with-sequence-spec =
+pub wrap_with_sequence_spec : {M : Type 1} → statement M
+wrap_with_sequence_spec =
     tie.close
-    (tie.spec returns put-row-requires add-t9 add-t10 found-requires same_length returns-2)
+    (tie.spec returns put_row_requires add_t9 add_t10 found_requires same_length returns_2)

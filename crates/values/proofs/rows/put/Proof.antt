@@ -2,11 +2,11 @@ use borrow.Author.Rules.{rules}
 use Rattle.values.proofs.rows.put.Statement.{statement}
 use Rattle.values.proofs.rows.put.Tie as tie
 
-put-at-requires : tie.Need-put-at-requires
-put-at-requires c κs = search rules
+put_at_requires : tie.Need-put-at-requires
+put_at_requires c κs = search rules
 
-add-result : tie.Need-overflow-add-result
-add-result c = search rules
+add_result : tie.Need-overflow-add-result
+add_result c = search rules
 
 same_length : tie.Need-same-length
 same_length c = search rules
@@ -15,4 +15,4 @@ returns : tie.Need-returns
 returns c = search rules
 
 pub put_spec : {M : Type 1} → statement M
-put_spec = tie.close (tie.spec put-at-requires add-result same_length returns)
+put_spec = tie.close (tie.spec put_at_requires add_result same_length returns)

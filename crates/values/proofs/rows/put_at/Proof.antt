@@ -7,59 +7,59 @@ use Rattle.values.specs.Rows.{placed}
 use Rattle.values.proofs.rows.put_at.Statement.{statement}
 use Rattle.values.proofs.rows.put_at.Tie as tie
 
-mul-i : tie.Need-overflow-mul-i
-mul-i c = search rules
+mul_i : tie.Need-overflow-mul-i
+mul_i c = search rules
 
-mul-buffer : tie.Need-overflow-mul-buffer
-mul-buffer c = search rules
+mul_buffer : tie.Need-overflow-mul-buffer
+mul_buffer c = search rules
 
-slice-write-buffer : tie.Need-slice-write-buffer
-slice-write-buffer c = search rules
+slice_write_buffer : tie.Need-slice-write-buffer
+slice_write_buffer c = search rules
 
-add-buffer : tie.Need-overflow-add-buffer
-add-buffer c = search rules
+add_buffer : tie.Need-overflow-add-buffer
+add_buffer c = search rules
 
-mul-buffer-2 : tie.Need-overflow-mul-buffer-2
-mul-buffer-2 c = search rules
+mul_buffer_2 : tie.Need-overflow-mul-buffer-2
+mul_buffer_2 c = search rules
 
-slice-write-buffer-2 : tie.Need-slice-write-buffer-2
-slice-write-buffer-2 c = simp length-set (omega arith)
+slice_write_buffer_2 : tie.Need-slice-write-buffer-2
+slice_write_buffer_2 c = simp length-set (omega arith)
 
-add-buffer-2 : tie.Need-overflow-add-buffer-2
-add-buffer-2 c = search rules
+add_buffer_2 : tie.Need-overflow-add-buffer-2
+add_buffer_2 c = search rules
 
-mul-buffer-3 : tie.Need-overflow-mul-buffer-3
-mul-buffer-3 c = search rules
+mul_buffer_3 : tie.Need-overflow-mul-buffer-3
+mul_buffer_3 c = search rules
 
-slice-write-buffer-3 : tie.Need-slice-write-buffer-3
-slice-write-buffer-3 c = simp length-set (omega arith)
+slice_write_buffer_3 : tie.Need-slice-write-buffer-3
+slice_write_buffer_3 c = simp length-set (omega arith)
 
-add-buffer-3 : tie.Need-overflow-add-buffer-3
-add-buffer-3 c = search rules
+add_buffer_3 : tie.Need-overflow-add-buffer-3
+add_buffer_3 c = search rules
 
-mul-buffer-4 : tie.Need-overflow-mul-buffer-4
-mul-buffer-4 c = search rules
+mul_buffer_4 : tie.Need-overflow-mul-buffer-4
+mul_buffer_4 c = search rules
 
-slice-write-buffer-4 : tie.Need-slice-write-buffer-4
-slice-write-buffer-4 c = simp length-set (omega arith)
+slice_write_buffer_4 : tie.Need-slice-write-buffer-4
+slice_write_buffer_4 c = simp length-set (omega arith)
 
-add-buffer-4 : tie.Need-overflow-add-buffer-4
-add-buffer-4 c = search rules
+add_buffer_4 : tie.Need-overflow-add-buffer-4
+add_buffer_4 c = search rules
 
-mul-buffer-5 : tie.Need-overflow-mul-buffer-5
-mul-buffer-5 c = search rules
+mul_buffer_5 : tie.Need-overflow-mul-buffer-5
+mul_buffer_5 c = search rules
 
-slice-write-buffer-5 : tie.Need-slice-write-buffer-5
-slice-write-buffer-5 c = simp length-set (omega arith)
+slice_write_buffer_5 : tie.Need-slice-write-buffer-5
+slice_write_buffer_5 c = simp length-set (omega arith)
 
-add-buffer-5 : tie.Need-overflow-add-buffer-5
-add-buffer-5 c = search rules
+add_buffer_5 : tie.Need-overflow-add-buffer-5
+add_buffer_5 c = search rules
 
-mul-buffer-6 : tie.Need-overflow-mul-buffer-6
-mul-buffer-6 c = search rules
+mul_buffer_6 : tie.Need-overflow-mul-buffer-6
+mul_buffer_6 c = search rules
 
-slice-write-buffer-6 : tie.Need-slice-write-buffer-6
-slice-write-buffer-6 c = simp length-set (omega arith)
+slice_write_buffer_6 : tie.Need-slice-write-buffer-6
+slice_write_buffer_6 c = simp length-set (omega arith)
 
 same_length : tie.Need-same-length
 same_length c = search rules
@@ -68,32 +68,32 @@ returns : tie.Need-returns
 unfolding placed
 returns c = simp (lt-ltb _ _ c.if1.true, towards_suc)
 
-returns-2 : tie.Need-returns-2
+returns_2 : tie.Need-returns-2
 unfolding placed
-returns-2 c = simp (le-ltb _ _ c.if1.false)
+returns_2 c = simp (le-ltb _ _ c.if1.false)
 
-pub put-at-spec : {M : Type 1} → statement M
-put-at-spec =
+pub put_at_spec : {M : Type 1} → statement M
+put_at_spec =
     tie.close
     (tie.spec
-    mul-i
-    mul-buffer
-    slice-write-buffer
-    add-buffer
-    mul-buffer-2
-    slice-write-buffer-2
-    add-buffer-2
-    mul-buffer-3
-    slice-write-buffer-3
-    add-buffer-3
-    mul-buffer-4
-    slice-write-buffer-4
-    add-buffer-4
-    mul-buffer-5
-    slice-write-buffer-5
-    add-buffer-5
-    mul-buffer-6
-    slice-write-buffer-6
+    mul_i
+    mul_buffer
+    slice_write_buffer
+    add_buffer
+    mul_buffer_2
+    slice_write_buffer_2
+    add_buffer_2
+    mul_buffer_3
+    slice_write_buffer_3
+    add_buffer_3
+    mul_buffer_4
+    slice_write_buffer_4
+    add_buffer_4
+    mul_buffer_5
+    slice_write_buffer_5
+    add_buffer_5
+    mul_buffer_6
+    slice_write_buffer_6
     same_length
     returns
-    returns-2)
+    returns_2)

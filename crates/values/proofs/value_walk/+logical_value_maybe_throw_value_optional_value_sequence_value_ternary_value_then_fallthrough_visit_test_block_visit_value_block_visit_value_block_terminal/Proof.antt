@@ -11,8 +11,8 @@ mod VisitValueBlock
 mod VisitValueBlockTerminal
 use Rattle.values.proofs.value_walk.+logical_value_maybe_throw_value_optional_value_sequence_value_ternary_value_then_fallthrough_visit_test_block_visit_value_block_visit_value_block_terminal.{statement}
 use Rattle.values.proofs.value_walk.+logical_value_maybe_throw_value_optional_value_sequence_value_ternary_value_then_fallthrough_visit_test_block_visit_value_block_visit_value_block_terminal.Tie.{close}
-use Rattle.values.proofs.value_walk.+logical_value_maybe_throw_value_optional_value_sequence_value_ternary_value_then_fallthrough_visit_test_block_visit_value_block_visit_value_block_terminal.Proof.Base.{μ-logical-value, μ-maybe-throw-value, μ-optional-value, μ-sequence-value, μ-ternary-value}
-use Rattle.values.proofs.value_walk.+logical_value_maybe_throw_value_optional_value_sequence_value_ternary_value_then_fallthrough_visit_test_block_visit_value_block_visit_value_block_terminal.Proof.Base.{μ-then-fallthrough, μ-visit-test-block, μ-visit-value-block, μ-visit-value-block-terminal}
+use Rattle.values.proofs.value_walk.+logical_value_maybe_throw_value_optional_value_sequence_value_ternary_value_then_fallthrough_visit_test_block_visit_value_block_visit_value_block_terminal.Proof.Base.{μ_logical_value, μ_maybe_throw_value, μ_optional_value, μ_sequence_value, μ_ternary_value}
+use Rattle.values.proofs.value_walk.+logical_value_maybe_throw_value_optional_value_sequence_value_ternary_value_then_fallthrough_visit_test_block_visit_value_block_visit_value_block_terminal.Proof.Base.{μ_then_fallthrough, μ_visit_test_block, μ_visit_value_block, μ_visit_value_block_terminal}
 use Rattle.values.proofs.value_walk.+logical_value_maybe_throw_value_optional_value_sequence_value_ternary_value_then_fallthrough_visit_test_block_visit_value_block_visit_value_block_terminal.Proof.LogicalValue as logical-value
 use Rattle.values.proofs.value_walk.+logical_value_maybe_throw_value_optional_value_sequence_value_ternary_value_then_fallthrough_visit_test_block_visit_value_block_visit_value_block_terminal.Proof.MaybeThrowValue as maybe-throw-value
 use Rattle.values.proofs.value_walk.+logical_value_maybe_throw_value_optional_value_sequence_value_ternary_value_then_fallthrough_visit_test_block_visit_value_block_visit_value_block_terminal.Proof.OptionalValue as optional-value
@@ -23,24 +23,24 @@ use Rattle.values.proofs.value_walk.+logical_value_maybe_throw_value_optional_va
 use Rattle.values.proofs.value_walk.+logical_value_maybe_throw_value_optional_value_sequence_value_ternary_value_then_fallthrough_visit_test_block_visit_value_block_visit_value_block_terminal.Proof.VisitValueBlock as visit-value-block
 use Rattle.values.proofs.value_walk.+logical_value_maybe_throw_value_optional_value_sequence_value_ternary_value_then_fallthrough_visit_test_block_visit_value_block_visit_value_block_terminal.Proof.VisitValueBlockTerminal as visit-value-block-terminal
 
-pub +logical-value-maybe-throw-value-optional-value-sequence-value-ternary-value-then-fallthrough-visit-test-block-visit-value-block-visit-value-block-terminal-spec : {M : Type 1} → statement M
-+logical-value-maybe-throw-value-optional-value-sequence-value-ternary-value-then-fallthrough-visit-test-block-visit-value-block-visit-value-block-terminal-spec =
+pub +logical_value_maybe_throw_value_optional_value_sequence_value_ternary_value_then_fallthrough_visit_test_block_visit_value_block_visit_value_block_terminal_spec : {M : Type 1} → statement M
++logical_value_maybe_throw_value_optional_value_sequence_value_ternary_value_then_fallthrough_visit_test_block_visit_value_block_visit_value_block_terminal_spec =
     close
-    μ-logical-value
-    μ-maybe-throw-value
-    μ-optional-value
-    μ-sequence-value
-    μ-ternary-value
-    μ-then-fallthrough
-    μ-visit-test-block
-    μ-visit-value-block
-    μ-visit-value-block-terminal
-    logical-value.closed
-    maybe-throw-value.closed
-    optional-value.closed
-    sequence-value.closed
-    ternary-value.closed
-    then-fallthrough.closed
-    visit-test-block.closed
-    visit-value-block.closed
-    visit-value-block-terminal.closed
+    μ_logical_value
+    μ_maybe_throw_value
+    μ_optional_value
+    μ_sequence_value
+    μ_ternary_value
+    μ_then_fallthrough
+    μ_visit_test_block
+    μ_visit_value_block
+    μ_visit_value_block_terminal
+    logical_value.closed
+    maybe_throw_value.closed
+    optional_value.closed
+    sequence_value.closed
+    ternary_value.closed
+    then_fallthrough.closed
+    visit_test_block.closed
+    visit_value_block.closed
+    visit_value_block_terminal.closed
