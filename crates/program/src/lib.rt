@@ -9,7 +9,7 @@ use std::io::{IsTerminal, Read};
 use text::write::Written;
 
 // The number of bytes read. After a failed read they may not be the whole input.
-#[derive(Drop)]
+#[derive(Clone, Copy)]
 pub struct Input {
     pub count: usize,
     pub failed: bool,

@@ -8,7 +8,7 @@ ghost use Rattle.table_cases.specs.Text.{Read, Line};
 use program::read_input;
 use std::io;
 
-#[derive(Drop)]
+#[derive(Clone, Copy)]
 pub struct Parsed {
     pub value: u64,
     pub end: usize,
@@ -50,7 +50,7 @@ fn fill(words: &mut [u32], from: usize, word: u32, times: u64) -> usize
     i
 }
 
-#[derive(Drop)]
+#[derive(Clone, Copy)]
 pub struct Listed {
     pub len: usize,
     pub end: usize,
@@ -80,7 +80,7 @@ fn list(text: &[u8], from: usize, words: &mut [u32]) -> Listed
     Listed { len, end }
 }
 
-#[derive(Drop)]
+#[derive(Clone, Copy)]
 pub struct Tally {
     pub lists: u64,
     pub differences: u64,

@@ -12,14 +12,14 @@ use std::io;
 use walk::Outcome;
 
 // A number, and where the next one begins.
-#[derive(Drop)]
+#[derive(Clone, Copy)]
 struct Number {
     value: u32,
     next: usize,
 }
 
 // Whether a vector came out as it should, and where the next one begins.
-#[derive(Drop)]
+#[derive(Clone, Copy)]
 struct Replayed {
     same: bool,
     next: usize,
