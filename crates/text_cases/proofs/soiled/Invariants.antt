@@ -1,5 +1,4 @@
-use Prim.Native.Nat.{◌-◌}
-use lib.ListN.{length}
+use Rattle.std.proofs.Common.{length, ◌-◌}
 use Rattle.text_cases.proofs.soiled.Given as goal
 
 abbrev pub invariant-loop-i : goal.invariant-loop-i

@@ -1,6 +1,6 @@
-use Prim.Native.Nat.{ℕ}
-use mathlib.Core.Path.{sym}
-use lib.ListN.{length-replicate}
+-- Given by hand: a tactic would count the zeros.
+use Rattle.std.proofs.Common.{ℕ, sym}
+use Rattle.std.proofs.lemmas.List.{length-replicate}
 use Rattle.vectors.proofs.file_bytes.Goals as goal
 
 pub returns : goal.returns
