@@ -1,3 +1,5 @@
+use mathlib.Core.Path.{ap}
+use mathlib.Core.Bool.{not}
 use native.Mathlib.Omega.{arith}
 use mathlib.Core.Path.{refl, sym, ◌∙◌}
 use mathlib.Core.List.{List}
@@ -20,7 +22,7 @@ case_test-requires c = c.requires.promise
 
 pub returns-then-not-case_test : goal.returns-then-not-case_test
 returns-then-not-case_test c =
-    stopped _ c.case_test.ensures c.if-not-case_test.true
+    stopped _ c.case_test.ensures (ap not c.if-not-case_test.true)
     ∙ sym (left_first (λ (ks : List ℕ). all_of ks (case_test (table_of _) c.args.proper)) c.loop-left.invariant c.loop-left-test.true c.case_at-case.ensures)
 
 pub overflow_add-at : goal.overflow_add-at
@@ -32,7 +34,7 @@ overflow_sub-left c = omega (arith, c.loop-left-test.true)
 pub loop-left-preserved : goal.loop-left-preserved
 loop-left-preserved c =
     left_more (λ (ks : List ℕ). all_of ks (case_test (table_of _) c.args.proper)) c.loop-left.invariant c.loop-left-test.true c.case_at-case.ensures
-    (sym (passed c.case_test.ensures c.if-not-case_test.false refl))
+    (sym (passed c.case_test.ensures (ap not c.if-not-case_test.false) refl))
 
 pub returns : goal.returns
 returns c = sym (left_none (λ (ks : List ℕ). all_of ks (case_test (table_of _) c.args.proper)) c.loop-left.invariant c.loop-left-test.false)

@@ -1,3 +1,5 @@
+use mathlib.Core.Path.{ap}
+use mathlib.Core.Bool.{not}
 use native.Mathlib.Omega.{arith}
 use Prim.Native.Nat.{◌-◌}
 use Rattle.table.specs.Table.{table_of}
@@ -12,10 +14,10 @@ pub test_by-requires : goal.test_by-requires
 test_by-requires c = record { promise = c.requires; block_bound = omega (arith, c.loop-block-test.true, c.loop-block.invariant.all) }
 
 pub returns-then-not-test_by : goal.returns-then-not-test_by
-returns-then-not-test_by c = yet_not (test_by (table_of _) c.args.law) c.loop-block.invariant c.loop-block-test.true c.test_by.ensures c.if-not-test_by.true
+returns-then-not-test_by c = yet_not (test_by (table_of _) c.args.law) c.loop-block.invariant c.loop-block-test.true c.test_by.ensures (ap not c.if-not-test_by.true)
 
 pub loop-block-preserved : goal.loop-block-preserved
-loop-block-preserved c = yet_more (test_by (table_of _) c.args.law) c.loop-block.invariant c.loop-block-test.true c.test_by.ensures c.if-not-test_by.false
+loop-block-preserved c = yet_more (test_by (table_of _) c.args.law) c.loop-block.invariant c.loop-block-test.true c.test_by.ensures (ap not c.if-not-test_by.false)
 
 pub returns : goal.returns
 returns c = yet_all (test_by (table_of _) c.args.law) c.loop-block.invariant c.loop-block-test.false
