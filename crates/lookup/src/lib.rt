@@ -5,7 +5,7 @@ ghost use Rattle.std.specs.Prelude.{◌≡◌, ◌+◌, ◌*◌, ◌≤◌, leng
 ghost use Rattle.lookup.specs.Lookup.{lines_read, line_word, first_with, part_of, refusal, found, looked};
 
 // Code (0 found), at, and the part of the tree buffer: from the word `begin` to before the word `end`.
-#[derive(Clone, Copy)]
+#[derive(Drop)]
 pub struct Found {
     pub code: u32,
     pub at: u32,
@@ -14,7 +14,7 @@ pub struct Found {
 }
 
 // What a search for a label gives.
-#[derive(Clone, Copy)]
+#[derive(Drop)]
 pub enum Line {
     At(usize),
     Nowhere,
@@ -108,7 +108,8 @@ pub fn lookup<'a>(
 }
 
 // The same for callers in C or Rust: the code, the place, and the bounds of the part.
-pub fn tree_lookup(
+#[unsafe(no_mangle)]
+pub extern "C" fn tree_lookup(
     index: &[u32],
     lines: u32,
     label: u32,

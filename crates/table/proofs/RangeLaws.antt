@@ -48,8 +48,6 @@ each P o [] (r ∷ rs) h n = elim h [ ]
 each P o (t ∷ ts) [] h n = elim h [ ]
 each P o (t ∷ ts) (r ∷ rs) (h and hs) zero = h
 each P o (t ∷ ts) (r ∷ rs) (h and hs) (suc n) = each P o ts rs hs n
-each P o [] (r ∷ rs) h n = elim h [ ]
-each P o (t ∷ ts) [] h n = elim h [ ]
 
 -- columns that fit the rules of a code give a terminal in range
 module _ (ws : List ℕ) (code a b c d e : ℕ) where
