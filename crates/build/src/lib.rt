@@ -1,4 +1,6 @@
 // build_reactive_function: words of a block table in, rows of the tree and lines of its index (M-101) out, or a refusal with its place.
+#![tactic(auto)]
+
 pub mod file;
 
 ghost use Rattle.std.specs.Prelude.{◌≡◌, length};

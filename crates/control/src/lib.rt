@@ -5,6 +5,8 @@
 // local and back, and of the stack's array it leaves two things to its caller, one line each: `schedule` gives the entry that went on in `pushed`, to be stored at
 // `len - 1`, and `unschedule` is handed the entry that its caller reads there. For the same reason each step writes `len`, and the scalars stand between the
 // arrays. (docs/PERFORMANCE.md has the times.)
+#![tactic(auto)]
+
 pub mod around;
 pub mod rule;
 
@@ -23,7 +25,7 @@ pub fn block_id(block: u32) -> u16
 }
 
 // What an entry of the control stack stands for. A loop's `block` is its fallthrough.
-#[derive(Drop)]
+#[derive(Clone, Copy)]
 pub enum ControlFlowTarget {
     If {
         block: u16,
@@ -42,14 +44,14 @@ pub enum ControlFlowTarget {
 }
 
 // `owns_loop`: the target is a loop, and its loop block was free before.
-#[derive(Drop)]
+#[derive(Clone, Copy)]
 pub struct Entry {
     pub id: u16,
     pub target: ControlFlowTarget,
     pub owns_loop: bool,
 }
 
-#[derive(Drop)]
+#[derive(Clone, Copy)]
 pub enum ReactiveTerminalTargetKind {
     Implicit,
     Labeled,
@@ -57,21 +59,21 @@ pub enum ReactiveTerminalTargetKind {
 }
 
 // What a jump resolves to: the entry that was found, the jump's kind, and how many loops lie above that entry.
-#[derive(Drop)]
+#[derive(Clone, Copy)]
 pub struct Resolution {
     pub entry: Entry,
     pub kind: ReactiveTerminalTargetKind,
     pub loops: u32,
 }
 
-#[derive(Drop)]
+#[derive(Clone, Copy)]
 pub enum Resolved {
     Nothing,
     Found(Resolution),
 }
 
 // `pushed` is the entry that went on last. `refused` is 15 where `schedule` refused it (or 90, which never occurs). The walk ends with such a Context.
-#[derive(Drop)]
+#[derive(Clone, Copy)]
 pub struct Context {
     pub emitted: [bool; 1024],
     pub catch_handlers: [bool; 1024],

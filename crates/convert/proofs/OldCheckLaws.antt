@@ -319,9 +319,9 @@ module _ (old : List ℕ) (shaped : Shaped (layout Old) old) where
     block_back k q =
         sym (place_block (block_count old) (instruction_count old) (6 + b * 11 + k) (omega arith) (omega arith)) ∙ omega arith
 
-    block_rules : block_rules new b ≡ old_block_rules old b ++ (last_rule (eqb (old_block_word old b 2) 0) (old_block_word old b 9) ∷ [])
+    block_rules_lem : block_rules new b ≡ old_block_rules old b ++ (last_rule (eqb (old_block_word old b 2) 0) (old_block_word old b 9) ∷ [])
     unfolding block_word old_block_word blocks_begin
-    block_rules =
+    block_rules_lem =
         new_rules new b
         ∙ rw (
           block_same 2 (omega arith),
@@ -344,7 +344,7 @@ module _ (old : List ℕ) (shaped : Shaped (layout Old) old) where
     block_moved : row_verdict old (6 + b * 10) (old_block_rules old b) ≡ moved back (row_verdict new (6 + b * 11) (block_rules new b))
     block_moved =
         row_moved old new back (6 + b * 10) (6 + b * 11) (old_block_rules old b) (λ k q. block_same k (rw (old_block_width old b) at q)) (λ k q. block_back k (rw (old_block_width old b) at q))
-        ∙ ap (moved back) (sym (row_more new (6 + b * 11) (old_block_rules old b) _ block_fits) ∙ ap (row_verdict new (6 + b * 11)) (sym block_rules))
+        ∙ ap (moved back) (sym (row_more new (6 + b * 11) (old_block_rules old b) _ block_fits) ∙ ap (row_verdict new (6 + b * 11)) (sym block_rules_lem))
 
   -- ---- the instructions
 
@@ -373,9 +373,9 @@ module _ (old : List ℕ) (shaped : Shaped (layout Old) old) where
     instruction_back k q =
         sym (place_instruction (block_count old) (instruction_count old) (from + i * 7 + k) (omega arith) (omega arith) (omega arith)) ∙ omega arith
 
-    instruction_rules : instruction_rules new i ≡ old_instruction_rules old i ++ (end_of (old_instruction_word old i 5) ∷ [])
+    instruction_rules_lem : instruction_rules new i ≡ old_instruction_rules old i ++ (end_of (old_instruction_word old i 5) ∷ [])
     unfolding instruction_rules instruction_word old_instruction_rules old_instruction_word
-    instruction_rules = rw (begin, instruction_same 2 (omega arith), instruction_same 5 (omega arith), operands_same (word old (from_old + i * 6 + 2)), place_is)
+    instruction_rules_lem = rw (begin, instruction_same 2 (omega arith), instruction_same 5 (omega arith), operands_same (word old (from_old + i * 6 + 2)), place_is)
 
     instruction_fits : row_verdict new (from + i * 7) (old_instruction_rules old i) ≡ accepted
         → fits (end_of (old_instruction_word old i 5)) (word new (from + i * 7 + length (old_instruction_rules old i))) ≡ true
@@ -388,7 +388,7 @@ module _ (old : List ℕ) (shaped : Shaped (layout Old) old) where
     instruction_moved =
         row_moved old new back (from_old + i * 6) (from + i * 7) (old_instruction_rules old i) (λ k q. instruction_same k (rw (old_instruction_width old i) at q))
         (λ k q. instruction_back k (rw (old_instruction_width old i) at q))
-        ∙ ap (moved back) (sym (row_more new (from + i * 7) (old_instruction_rules old i) _ instruction_fits) ∙ ap (row_verdict new (from + i * 7)) (sym instruction_rules))
+        ∙ ap (moved back) (sym (row_more new (from + i * 7) (old_instruction_rules old i) _ instruction_fits) ∙ ap (row_verdict new (from + i * 7)) (sym instruction_rules_lem))
 
   -- ---- the other tables
 

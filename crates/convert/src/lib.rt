@@ -1,4 +1,6 @@
 // M-112: old texts, with one span column, into new ones and back.
+#![tactic(auto)]
+
 pub mod file;
 mod spans;
 pub mod table_read;

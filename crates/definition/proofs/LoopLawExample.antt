@@ -38,7 +38,7 @@ use Rattle.definition.specs.Plain.{with_switch}
 use Rattle.definition.specs.PlainLoops.{PlainLoops, without_switch}
 use Rattle.definition.specs.PlainTest.{is_plain_loops}
 use Rattle.definition.specs.RunLaw.{RunLaw, Spoken, SwitchLaw}
-use Rattle.definition.proofs.LoopTest.{is_plain_loops}
+use Rattle.definition.proofs.LoopTest.{is_plain_loops_lem}
 use Rattle.definition.proofs.Example.{tree_of, Both, stop_alike, returns}
 use Rattle.definition.proofs.Accepted.{Accepted, accepted_of}
 use Rattle.definition.proofs.Steps.{true_false}
@@ -62,16 +62,16 @@ unfolding word entry_word block_count instruction_count case_count place_count i
     block_word instruction_word case_word place_word identifier_word unless_none variant_of terminal_of block_of operation_of instruction_of case_of tabulate table_of case_list
     cases_last_first stored_to_named same_identifier
 all_plain = (
-  is_plain_loops (table_of updates) without_switch refl,
-  is_plain_loops (table_of counts) without_switch refl,
-  is_plain_loops (table_of again) without_switch refl,
-  is_plain_loops (table_of does) without_switch refl,
-  is_plain_loops (table_of once) without_switch refl,
-  is_plain_loops (table_of nested) without_switch refl,
-  is_plain_loops (table_of ends) without_switch refl,
-  is_plain_loops (table_of scoped) without_switch refl,
-  is_plain_loops (table_of switches) with_switch refl,
-  is_plain_loops (table_of falls) with_switch refl,
+  is_plain_loops_lem (table_of updates) without_switch refl,
+  is_plain_loops_lem (table_of counts) without_switch refl,
+  is_plain_loops_lem (table_of again) without_switch refl,
+  is_plain_loops_lem (table_of does) without_switch refl,
+  is_plain_loops_lem (table_of once) without_switch refl,
+  is_plain_loops_lem (table_of nested) without_switch refl,
+  is_plain_loops_lem (table_of ends) without_switch refl,
+  is_plain_loops_lem (table_of scoped) without_switch refl,
+  is_plain_loops_lem (table_of switches) with_switch refl,
+  is_plain_loops_lem (table_of falls) with_switch refl,
 )
 
 -- ---- the runs, by computation: answers, rows performed, and why they stop

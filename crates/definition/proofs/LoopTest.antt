@@ -59,9 +59,9 @@ module _ (t : Table) where
   reached_all (n ∷ ns) h =
       let (q, r) = and_split (not (is_unreachable (terminal_at t n))) (all_reached t ns) h in (not_is (is_unreachable (terminal_at t n)) q, reached_all ns r)
 
-  all_reached : (ns : List ℕ) → All (Reached t) ns → all_reached t ns ≡ true
-  all_reached [] h = refl
-  all_reached (n ∷ ns) (h, k) = and_both _ _ (is_not _ h) (all_reached ns k)
+  all_reached_lem : (ns : List ℕ) → All (Reached t) ns → all_reached t ns ≡ true
+  all_reached_lem [] h = refl
+  all_reached_lem (n ∷ ns) (h, k) = and_both _ _ (is_not _ h) (all_reached_lem ns k)
 
   -- ---- what passes the test has the conditions
 
@@ -155,8 +155,8 @@ module _ (t : Table) where
         let own : Bool = last_is_own f (cases_last_first t i n) in
         drop_none f (cases_last_first t i n) (not_is own (or_else (not (is_unreachable (terminal_at t f))) (not own) (part_at b (switch x i n f) e) (ap not q)))
 
-    pub is_plain_loops : PlainLoops width t
-    is_plain_loops = record {
+    pub is_plain_loops_lem : PlainLoops width t
+    is_plain_loops_lem = record {
       ends = λ b. (passed b).code;
       no_goto_try = λ b g e. true_false (sym (part_at b (goto g Try) e));
       tests = λ b x l f k e. branch_of l f (terminal_at t x) (loop_parts b x l f k e).0;
@@ -257,7 +257,7 @@ module _ (t : Table) where
     block_passes : (b : ℕ) → loop_block_test t width b (terminal_at t b) ≡ true
     block_passes b =
         and_both _ _ (pl.ends b) (and_both _ _ (none_branches t (other_names (terminal_at t b)) (pl.names b))
-        (and_both _ _ (all_reached (entered_by (terminal_at t b)) (pl.entered b)) (and_both _ _ (part_passes b (terminal_at t b) refl)
+        (and_both _ _ (all_reached_lem (entered_by (terminal_at t b)) (pl.entered b)) (and_both _ _ (part_passes b (terminal_at t b) refl)
         (and_both _ _ (loop_passes b (loop_of (terminal_at t b)) refl) (and_both _ _ (end_passes b (fallthrough_of (terminal_at t b)) refl)
         (all_of_lem (proper_blocks_of t (terminal_at t b)) (proper_test t) (λ k q. proper_passes k (record { of = b; among = q }))))))))
 
@@ -267,4 +267,4 @@ module _ (t : Table) where
 
 -- the test holds exactly of the tables with these conditions
 pub loop_test_lem : (width : Width) (t : Table) → (is_plain_loops t width ≡ true) ↔ PlainLoops width t
-loop_test_lem width t = (λ h. is_plain_loops t width h, λ pl. plain_loops_is t width pl)
+loop_test_lem width t = (λ h. is_plain_loops_lem t width h, λ pl. plain_loops_is t width pl)

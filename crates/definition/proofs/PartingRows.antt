@@ -44,29 +44,29 @@ counted_row : (close : ℕ → Row) {n n' : ℕ} {rest rest' : List Row} → n �
 counted_row close {n} {n'} {rest} {rest'} e p = subst (λ (m : ℕ). RelabeledRows (close n ∷ rest) (close m ∷ rest')) e (the_same_row (close n) p)
 
 mutual
-  statement_rows : {s s' : Statement} {rest rest' : List Row} → Relabeled s s' → RelabeledRows rest rest' → RelabeledRows (statement_rows s rest) (statement_rows s' rest')
-  statement_rows {rest = rest} {rest' = rest'} (the_same s) r = rw (statement_append s [] rest, statement_append s [] rest') (same_before (statement_rows s []) r)
-  statement_rows (a_break target id loops) r = a_break_row target id loops r
-  statement_rows (in_if test id label true p q) r = block_rows_lem p (block_rows_lem q (the_same_row _ r))
-  statement_rows (in_if test id label false p q) r = block_rows_lem p (the_same_row _ r)
-  statement_rows (in_switch test id label p) r = cases_rows_lem p (counted_row (λ n. row 12 test n id (or_none label) 0) (cases_many p) r)
-  statement_rows (in_do_while id label test p) r = block_rows_lem p (value_before test (the_same_row _ r))
-  statement_rows (in_while id label test p) r = value_before test (block_rows_lem p (the_same_row _ r))
-  statement_rows (in_for id label init test update p) r = value_before init (value_before test (update_before update (block_rows_lem p (the_same_row _ r))))
-  statement_rows (in_for_of id label span init test p) r = value_before init (value_before test (block_rows_lem p (the_same_row _ r)))
-  statement_rows (in_for_in id label span init p) r = value_before init (block_rows_lem p (the_same_row _ r))
-  statement_rows (in_label id label p) r = block_rows_lem p (the_same_row _ r)
-  statement_rows (in_try id label binding p q) r = block_rows_lem p (block_rows_lem q (the_same_row _ r))
-  statement_rows (in_scope true scope p) r = block_rows_lem p (the_same_row _ r)
-  statement_rows (in_scope false scope p) r = block_rows_lem p (the_same_row _ r)
+  statement_rows_lem : {s s' : Statement} {rest rest' : List Row} → Relabeled s s' → RelabeledRows rest rest' → RelabeledRows (statement_rows s rest) (statement_rows s' rest')
+  statement_rows_lem {rest = rest} {rest' = rest'} (the_same s) r = rw (statement_append s [] rest, statement_append s [] rest') (same_before (statement_rows s []) r)
+  statement_rows_lem (a_break target id loops) r = a_break_row target id loops r
+  statement_rows_lem (in_if test id label true p q) r = block_rows_lem p (block_rows_lem q (the_same_row _ r))
+  statement_rows_lem (in_if test id label false p q) r = block_rows_lem p (the_same_row _ r)
+  statement_rows_lem (in_switch test id label p) r = cases_rows_lem p (counted_row (λ n. row 12 test n id (or_none label) 0) (cases_many p) r)
+  statement_rows_lem (in_do_while id label test p) r = block_rows_lem p (value_before test (the_same_row _ r))
+  statement_rows_lem (in_while id label test p) r = value_before test (block_rows_lem p (the_same_row _ r))
+  statement_rows_lem (in_for id label init test update p) r = value_before init (value_before test (update_before update (block_rows_lem p (the_same_row _ r))))
+  statement_rows_lem (in_for_of id label span init test p) r = value_before init (value_before test (block_rows_lem p (the_same_row _ r)))
+  statement_rows_lem (in_for_in id label span init p) r = value_before init (block_rows_lem p (the_same_row _ r))
+  statement_rows_lem (in_label id label p) r = block_rows_lem p (the_same_row _ r)
+  statement_rows_lem (in_try id label binding p q) r = block_rows_lem p (block_rows_lem q (the_same_row _ r))
+  statement_rows_lem (in_scope true scope p) r = block_rows_lem p (the_same_row _ r)
+  statement_rows_lem (in_scope false scope p) r = block_rows_lem p (the_same_row _ r)
 
   list_rows : {s s' : Statements} {rest rest' : List Row} → RelabeledAll s s' → RelabeledRows rest rest' → RelabeledRows (statements_rows s rest) (statements_rows s' rest')
   list_rows none_left r = r
-  list_rows (and_then p q) r = statement_rows p (list_rows q r)
+  list_rows (and_then p q) r = statement_rows_lem p (list_rows q r)
 
   block_rows_lem : {s s' : Statements} {rest rest' : List Row} → RelabeledAll s s' → RelabeledRows rest rest' → RelabeledRows (block_rows s rest) (block_rows s' rest')
   block_rows_lem none_left r = the_same_row _ r
-  block_rows_lem (and_then p q) r = statement_rows p (list_rows q (counted_row (λ n. row 9 (suc n) 0 0 0 0) (statements_many q) r))
+  block_rows_lem (and_then p q) r = statement_rows_lem p (list_rows q (counted_row (λ n. row 9 (suc n) 0 0 0 0) (statements_many q) r))
 
   cases_rows_lem : {s s' : Cases} {rest rest' : List Row} → RelabeledCases s s' → RelabeledRows rest rest' → RelabeledRows (cases_rows s rest) (cases_rows s' rest')
   cases_rows_lem no_case_left r = r

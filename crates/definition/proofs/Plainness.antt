@@ -16,7 +16,7 @@ use Rattle.definition.specs.RunLaw.{RunLaw, SwitchLaw}
 use Rattle.definition.proofs.Steps.{true_false}
 use Rattle.definition.proofs.PlainEnough.{plain_widens, plain_enough}
 use Rattle.definition.proofs.PlainTest.{is_plain_lem, plain_is}
-use Rattle.definition.proofs.LoopTest.{is_plain_loops, plain_loops_is}
+use Rattle.definition.proofs.LoopTest.{is_plain_loops_lem, plain_loops_is}
 use Rattle.definition.proofs.Law.{run_law, loops_and_switches_law}
 
 -- ---- three tests, the first that holds
@@ -66,7 +66,7 @@ module _ (t : Table) where
 
   pub spoken_of_at_all : (plainness t ≡ 0 → ⊥) → PlainLoops with_switch t
   spoken_of_at_all f =
-      is_plain_loops t with_switch (some_is (is_plain t paper_01) (is_plain t with_switch) (is_plain_loops t with_switch) f
+      is_plain_loops_lem t with_switch (some_is (is_plain t paper_01) (is_plain t with_switch) (is_plain_loops t with_switch) f
       (λ e. plain_loops_is t with_switch (plain_enough t (plain_widens t (is_plain_lem t paper_01 e))))
       (λ e. plain_loops_is t with_switch (plain_enough t (is_plain_lem t with_switch e))))
 

@@ -1,4 +1,6 @@
 // M-110: a table's blocks as a graph in DOT, the Graphviz language.
+#![tactic(auto)]
+
 pub mod file;
 mod graph;
 mod write;

@@ -1,9 +1,11 @@
 // M-101: a statement is found by its label, in the lines that the build writes beside the tree.
+#![tactic(auto)]
+
 ghost use Rattle.std.specs.Prelude.{◌≡◌, ◌+◌, ◌*◌, ◌≤◌, length};
 ghost use Rattle.lookup.specs.Lookup.{lines_read, line_word, first_with, part_of, refusal, found, looked};
 
 // Code (0 found), at, and the part of the tree buffer: from the word `begin` to before the word `end`.
-#[derive(Drop)]
+#[derive(Clone, Copy)]
 pub struct Found {
     pub code: u32,
     pub at: u32,
@@ -12,7 +14,7 @@ pub struct Found {
 }
 
 // What a search for a label gives.
-#[derive(Drop)]
+#[derive(Clone, Copy)]
 pub enum Line {
     At(usize),
     Nowhere,

@@ -1,4 +1,6 @@
 // Reads a file of the new form from standard input and prints it in the old form, with one span column, or why it is refused.
+#![tactic(auto)]
+
 use convert::file::print_old;
 use program::{printed_bytes, read_all, table_bytes, write_printed};
 

@@ -1,4 +1,6 @@
 // Reads a file of the old form, with one span column, from standard input and prints it in the new form, or why it is refused.
+#![tactic(auto)]
+
 use convert::file::print_new;
 use program::{printed_bytes, read_all, table_bytes, write_printed};
 

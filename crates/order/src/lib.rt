@@ -1,4 +1,6 @@
 // M-111: a table's blocks in walking order, and the inverse.
+#![tactic(auto)]
+
 mod block_walk;
 pub mod file;
 mod list;
@@ -20,7 +22,7 @@ use table_check::check;
 use values::rows::clear;
 
 // Code (0 accepted) and at.
-#[derive(Drop)]
+#[derive(Clone, Copy)]
 pub struct Moved {
     pub code: u32,
     pub at: u32,

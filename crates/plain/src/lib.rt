@@ -1,4 +1,6 @@
 // Which run law speaks of a table: paper 01's, M-113's, or the one with loops.
+#![tactic(auto)]
+
 mod asked;
 mod cases;
 mod facts;

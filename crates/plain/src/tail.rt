@@ -9,7 +9,7 @@ use table::columns::{block_at, instruction_at, load_local_at, operation_code_at,
 use table::words::{block_count, identifier_word, place_word};
 
 // Three answers: it is a StoreLocal; it is one to an unnamed identifier; it is a LoadLocal of its own lvalue's identifier.
-#[derive(Drop)]
+#[derive(Clone, Copy)]
 pub struct Tail {
     pub store: bool,
     pub unnamed: bool,

@@ -1,5 +1,7 @@
 // M-106: what a build gives where both buffers are large enough, from the words alone. It is the same walk with empty buffers: the walk
 // still counts rows and lines.
+#![tactic(auto)]
+
 pub mod file;
 
 ghost use Rattle.std.specs.Prelude.{◌≡◌, List, ℕ};

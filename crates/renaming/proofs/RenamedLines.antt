@@ -11,7 +11,7 @@ use Rattle.definition.specs.Tree.{Statements, done, ◌▸◌, Cases, no_cases, 
 use Rattle.definition.specs.Index.{label_of, rows_in, Labelled, labelled_by, in_parts, in_list, in_cases, labelled, Line, line_of, lines, line_words}
 use Rattle.renaming.specs.Renaming.{renamed_row, renamed_index}
 use Rattle.renaming.proofs.Alike.{Moves}
-use Rattle.renaming.proofs.Trees.{renamed_statement, renamed_statements, renamed_cases, statement_rows, block_rows_lem}
+use Rattle.renaming.proofs.Trees.{renamed_statement, renamed_statements, renamed_cases, statement_rows_lem, block_rows_lem}
 
 module _ (new : ℕ → ℕ) where
   abbrev pub renamed_line : Line → Line
@@ -59,7 +59,7 @@ module _ (new : ℕ → ℕ) where
   module _ (m : Moves new) where
     -- as many rows
     statement_size : (s : Statement) → rows_in (statement_rows (renamed_statement new s)) ≡ rows_in (statement_rows s)
-    statement_size s = ap length (statement_rows new m s []) ∙ length-map (statement_rows s []) (renamed_row new)
+    statement_size s = ap length (statement_rows_lem new m s []) ∙ length-map (statement_rows s []) (renamed_row new)
 
     block_size : (b : Statements) → rows_in (block_rows (renamed_statements new b)) ≡ rows_in (block_rows b)
     block_size b = ap length (block_rows_lem new m b []) ∙ length-map (block_rows b []) (renamed_row new)

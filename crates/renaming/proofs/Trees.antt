@@ -49,22 +49,22 @@ module _ (new : ℕ → ℕ) (m : Moves new) where
   label_same (some b) = refl
 
   mutual
-    value_rows : (v : Value) (after : List Row) → value_rows v (renamed_rows after) ≡ renamed_rows (value_rows v after)
-    value_rows (PLAIN r) after = refl
-    value_rows (LOAD p) after = refl
-    value_rows (UNDEF s) after = refl
-    value_rows (SEQ is id v) after = ap (instructions_rows is) (value_rows v _) ∙ instructions_rows is _
-    value_rows (LOGICAL o l r) after = ap (value_rows l) (value_rows r _) ∙ value_rows l _
-    value_rows (COND x c a) after = ap (λ (z : List Row). value_rows x (value_rows c z)) (value_rows a _) ∙ (ap (value_rows x) (value_rows c _) ∙ value_rows x _)
-    value_rows (OPTIONAL f v) after = value_rows v _
+    value_rows_lem : (v : Value) (after : List Row) → value_rows v (renamed_rows after) ≡ renamed_rows (value_rows v after)
+    value_rows_lem (PLAIN r) after = refl
+    value_rows_lem (LOAD p) after = refl
+    value_rows_lem (UNDEF s) after = refl
+    value_rows_lem (SEQ is id v) after = ap (instructions_rows is) (value_rows_lem v _) ∙ instructions_rows_lem is _
+    value_rows_lem (LOGICAL o l r) after = ap (value_rows l) (value_rows_lem r _) ∙ value_rows_lem l _
+    value_rows_lem (COND x c a) after = ap (λ (z : List Row). value_rows x (value_rows c z)) (value_rows_lem a _) ∙ (ap (value_rows x) (value_rows_lem c _) ∙ value_rows_lem x _)
+    value_rows_lem (OPTIONAL f v) after = value_rows_lem v _
 
-    instructions_rows : (is : Instructions) (after : List Row) → instructions_rows is (renamed_rows after) ≡ renamed_rows (instructions_rows is after)
-    instructions_rows no_instructions after = refl
-    instructions_rows (instruction id lvalue span v rest) after = ap (λ (z : List Row). value_rows v (instr_row id lvalue span ∷ z)) (instructions_rows rest after) ∙ value_rows v _
+    instructions_rows_lem : (is : Instructions) (after : List Row) → instructions_rows is (renamed_rows after) ≡ renamed_rows (instructions_rows is after)
+    instructions_rows_lem no_instructions after = refl
+    instructions_rows_lem (instruction id lvalue span v rest) after = ap (λ (z : List Row). value_rows v (instr_row id lvalue span ∷ z)) (instructions_rows_lem rest after) ∙ value_rows_lem v _
 
   update_rows_lem : (u : Option Value) (after : List Row) → update_rows u (renamed_rows after) ≡ renamed_rows (update_rows u after)
   update_rows_lem none after = refl
-  update_rows_lem (some v) after = value_rows v after
+  update_rows_lem (some v) after = value_rows_lem v after
 
   count_same : (s : Statements) → count_statements (renamed_statements new s) ≡ count_statements s
   count_same done = refl
@@ -75,51 +75,51 @@ module _ (new : ℕ → ℕ) (m : Moves new) where
   cases_same (CASE x b rest) = ap suc (cases_same rest)
 
   mutual
-    pub statement_rows : (s : Statement) (after : List Row) → statement_rows (renamed_statement new s) (renamed_rows after) ≡ renamed_rows (statement_rows s after)
-    statement_rows (INSTR id lvalue span v) after = value_rows v _
-    statement_rows (IF x id l c true a) after =
+    pub statement_rows_lem : (s : Statement) (after : List Row) → statement_rows (renamed_statement new s) (renamed_rows after) ≡ renamed_rows (statement_rows s after)
+    statement_rows_lem (INSTR id lvalue span v) after = value_rows_lem v _
+    statement_rows_lem (IF x id l c true a) after =
         ap (λ (z : ℕ). block_rows (renamed_statements new c) (block_rows (renamed_statements new a) (row 10 x 1 id z 0 ∷ renamed_rows after))) (label_same l)
         ∙ (ap (block_rows (renamed_statements new c)) (block_rows_lem a _) ∙ block_rows_lem c _)
-    statement_rows (IF x id l c false a) after = ap (λ (z : ℕ). block_rows (renamed_statements new c) (row 10 x 0 id z 0 ∷ renamed_rows after)) (label_same l) ∙ block_rows_lem c _
-    statement_rows (SWITCH x id l k) after =
+    statement_rows_lem (IF x id l c false a) after = ap (λ (z : ℕ). block_rows (renamed_statements new c) (row 10 x 0 id z 0 ∷ renamed_rows after)) (label_same l) ∙ block_rows_lem c _
+    statement_rows_lem (SWITCH x id l k) after =
         ap (λ (z : ℕ). cases_rows (renamed_cases new k) (row 12 x z id (or_none (Option.map new l)) 0 ∷ renamed_rows after)) (cases_same k)
         ∙ (ap (λ (z : ℕ). cases_rows (renamed_cases new k) (row 12 x (count_cases k) id z 0 ∷ renamed_rows after)) (label_same l) ∙ cases_rows_lem k _)
-    statement_rows (DOWHILE id l b x) after =
+    statement_rows_lem (DOWHILE id l b x) after =
         ap (λ (z : ℕ). block_rows (renamed_statements new b) (value_rows x (row 13 id z 0 0 0 ∷ renamed_rows after))) (label_same l)
-        ∙ (ap (block_rows (renamed_statements new b)) (value_rows x _) ∙ block_rows_lem b _)
-    statement_rows (WHILE id l x b) after =
+        ∙ (ap (block_rows (renamed_statements new b)) (value_rows_lem x _) ∙ block_rows_lem b _)
+    statement_rows_lem (WHILE id l x b) after =
         ap (λ (z : ℕ). value_rows x (block_rows (renamed_statements new b) (row 14 id z 0 0 0 ∷ renamed_rows after))) (label_same l)
-        ∙ (ap (value_rows x) (block_rows_lem b _) ∙ value_rows x _)
-    statement_rows (FOR id l i x u b) after =
+        ∙ (ap (value_rows x) (block_rows_lem b _) ∙ value_rows_lem x _)
+    statement_rows_lem (FOR id l i x u b) after =
         ap (λ (z : ℕ). value_rows i (value_rows x (update_rows u (block_rows (renamed_statements new b) (row 15 id z (update_present u) 0 0 ∷ renamed_rows after))))) (label_same l)
         ∙ (ap (λ (z : List Row). value_rows i (value_rows x (update_rows u z))) (block_rows_lem b _)
-        ∙ (ap (λ (z : List Row). value_rows i (value_rows x z)) (update_rows_lem u _) ∙ (ap (value_rows i) (value_rows x _) ∙ value_rows i _)))
-    statement_rows (FOROF id l s i x b) after =
+        ∙ (ap (λ (z : List Row). value_rows i (value_rows x z)) (update_rows_lem u _) ∙ (ap (value_rows i) (value_rows_lem x _) ∙ value_rows_lem i _)))
+    statement_rows_lem (FOROF id l s i x b) after =
         ap (λ (z : ℕ). value_rows i (value_rows x (block_rows (renamed_statements new b) (for_of_row id z s ∷ renamed_rows after)))) (label_same l)
-        ∙ (ap (λ (z : List Row). value_rows i (value_rows x z)) (block_rows_lem b _) ∙ (ap (value_rows i) (value_rows x _) ∙ value_rows i _))
-    statement_rows (FORIN id l s i b) after =
+        ∙ (ap (λ (z : List Row). value_rows i (value_rows x z)) (block_rows_lem b _) ∙ (ap (value_rows i) (value_rows_lem x _) ∙ value_rows_lem i _))
+    statement_rows_lem (FORIN id l s i b) after =
         ap (λ (z : ℕ). value_rows i (block_rows (renamed_statements new b) (for_in_row id z s ∷ renamed_rows after))) (label_same l)
-        ∙ (ap (value_rows i) (block_rows_lem b _) ∙ value_rows i _)
-    statement_rows (LABEL id l b) after = ap (λ (z : ℕ). block_rows (renamed_statements new b) (row 18 id z 0 0 0 ∷ renamed_rows after)) (label_same l) ∙ block_rows_lem b _
-    statement_rows (TRY id l n b h) after =
+        ∙ (ap (value_rows i) (block_rows_lem b _) ∙ value_rows_lem i _)
+    statement_rows_lem (LABEL id l b) after = ap (λ (z : ℕ). block_rows (renamed_statements new b) (row 18 id z 0 0 0 ∷ renamed_rows after)) (label_same l) ∙ block_rows_lem b _
+    statement_rows_lem (TRY id l n b h) after =
         ap (λ (z : ℕ). block_rows (renamed_statements new b) (block_rows (renamed_statements new h) (row 19 id z (or_none n) 0 0 ∷ renamed_rows after))) (label_same l)
         ∙ (ap (block_rows (renamed_statements new b)) (block_rows_lem h _) ∙ block_rows_lem b _)
-    statement_rows (SCOPE true n b) after = block_rows_lem b _
-    statement_rows (SCOPE false n b) after = block_rows_lem b _
-    statement_rows (RETURN v id) after = refl
-    statement_rows (THROW v id) after = refl
-    statement_rows (BREAK b id k n) after = refl
-    statement_rows (CONTINUE b id k n) after = refl
+    statement_rows_lem (SCOPE true n b) after = block_rows_lem b _
+    statement_rows_lem (SCOPE false n b) after = block_rows_lem b _
+    statement_rows_lem (RETURN v id) after = refl
+    statement_rows_lem (THROW v id) after = refl
+    statement_rows_lem (BREAK b id k n) after = refl
+    statement_rows_lem (CONTINUE b id k n) after = refl
 
-    statements_rows : (s : Statements) (after : List Row) → statements_rows (renamed_statements new s) (renamed_rows after) ≡ renamed_rows (statements_rows s after)
-    statements_rows done after = refl
-    statements_rows (s ▸ rest) after = ap (statement_rows (renamed_statement new s)) (statements_rows rest after) ∙ statement_rows s _
+    statements_rows_lem : (s : Statements) (after : List Row) → statements_rows (renamed_statements new s) (renamed_rows after) ≡ renamed_rows (statements_rows s after)
+    statements_rows_lem done after = refl
+    statements_rows_lem (s ▸ rest) after = ap (statement_rows (renamed_statement new s)) (statements_rows_lem rest after) ∙ statement_rows_lem s _
 
     pub block_rows_lem : (s : Statements) (after : List Row) → block_rows (renamed_statements new s) (renamed_rows after) ≡ renamed_rows (block_rows s after)
     block_rows_lem done after = refl
     block_rows_lem (s ▸ rest) after =
         ap (λ (z : ℕ). statement_rows (renamed_statement new s) (statements_rows (renamed_statements new rest) (row 9 (suc z) 0 0 0 0 ∷ renamed_rows after))) (count_same rest)
-        ∙ (ap (statement_rows (renamed_statement new s)) (statements_rows rest _) ∙ statement_rows s _)
+        ∙ (ap (statement_rows (renamed_statement new s)) (statements_rows_lem rest _) ∙ statement_rows_lem s _)
 
     cases_rows_lem : (k : Cases) (after : List Row) → cases_rows (renamed_cases new k) (renamed_rows after) ≡ renamed_rows (cases_rows k after)
     cases_rows_lem no_cases after = refl

@@ -18,7 +18,7 @@ use table::terminals::{branch_at, for_at, if_at, scope_at, switch_at, try_at};
 use values::rows::{DOWHILE, FOR, FORIN, FOROF, IF, LABEL, PRUNED, SCOPE, SWITCH, TRY, WHILE, put};
 
 // The words of a statement's closing row; the last is 0.
-#[derive(Drop)]
+#[derive(Clone, Copy)]
 pub struct ClosingRow {
     pub op: u32,
     pub a: u32,

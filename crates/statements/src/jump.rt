@@ -10,7 +10,7 @@ use control::around::{Aim, Goal};
 use values::rows::{BREAK, CONTINUE, put};
 
 // A jump's rows and statements, or its refusal.
-#[derive(Drop)]
+#[derive(Clone, Copy)]
 pub struct Jumped {
     pub code: u32,
     pub at: u32,

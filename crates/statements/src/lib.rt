@@ -1,4 +1,5 @@
 // The statement walk, a turn at a time: a file for each arm of the Rust's visit_block, in its order; before them what they share, after them the turn.
+#![tactic(auto)]
 
 // What a turn of the walk decides: a Plan.
 pub mod plan;

@@ -14,7 +14,7 @@ use values::sequence::value_block_result_to_sequence;
 use values::value_walk::visit_value_block;
 
 // What a loop's values gave: a refusal, or the rows and visits after them.
-#[derive(Drop)]
+#[derive(Clone, Copy)]
 pub struct Values {
     pub code: u32,
     pub at: u32,
@@ -23,7 +23,7 @@ pub struct Values {
 }
 
 // A loop's blocks: its fallthrough, its label, where it continues, and its loop block.
-#[derive(Drop)]
+#[derive(Clone, Copy)]
 pub struct Loop {
     pub fallthrough: u32,
     pub label: u32,

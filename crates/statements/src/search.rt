@@ -20,7 +20,7 @@ use control::{
 use table::columns::code_at;
 use table::terminals::{branch_at, goto_at};
 
-#[derive(Drop)]
+#[derive(Clone, Copy)]
 pub enum Jump {
     Nothing,
     Break(u16),

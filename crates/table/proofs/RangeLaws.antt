@@ -46,6 +46,8 @@ each : (P : Terminal → List Rule → Type 0) → P absent [] → (ts : List Te
 each P o [] [] ends n = o
 each P o (t ∷ ts) (r ∷ rs) (h and hs) zero = h
 each P o (t ∷ ts) (r ∷ rs) (h and hs) (suc n) = each P o ts rs hs n
+each P o [] (r ∷ rs) h n = elim h [ ]
+each P o (t ∷ ts) [] h n = elim h [ ]
 
 -- columns that fit the rules of a code give a terminal in range
 module _ (ws : List ℕ) (code a b c d e : ℕ) where

@@ -1,4 +1,6 @@
 // The words of a table: the readers of its columns, which index the words by what the check promises (room `table_check`), and the check's answer.
+#![tactic(auto)]
+
 pub mod columns;
 pub mod lines;
 pub mod terminals;
@@ -8,7 +10,7 @@ ghost use Rattle.std.specs.Prelude.{◌≡◌};
 ghost use Rattle.table.specs.Answer.{verdict_of, code_of, place_of, is_accepted};
 
 // What the check finds. Paper 01's code and place of each: `verdict_of` in specs/Answer.antt.
-#[derive(Drop)]
+#[derive(Clone, Copy)]
 pub enum Checked {
     Accepted,
     WrongLength,

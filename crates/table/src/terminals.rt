@@ -7,7 +7,7 @@ ghost use Rattle.table.specs.Promise.{Promise, Ends};
 
 use crate::words::block_word;
 
-#[derive(Drop)]
+#[derive(Clone, Copy)]
 pub struct Throw {
     pub value: u32,
 }
@@ -23,7 +23,7 @@ pub fn throw_at(words: &[u32], block: u32) -> Throw
     }
 }
 
-#[derive(Drop)]
+#[derive(Clone, Copy)]
 pub struct Return {
     pub value: u32,
 }
@@ -40,7 +40,7 @@ pub fn return_at(words: &[u32], block: u32) -> Return
 }
 
 // `variant` is 0 Break, 1 Continue, 2 Try.
-#[derive(Drop)]
+#[derive(Clone, Copy)]
 pub struct Goto {
     pub block: u32,
     pub variant: u32,
@@ -58,7 +58,7 @@ pub fn goto_at(words: &[u32], block: u32) -> Goto
     }
 }
 
-#[derive(Drop)]
+#[derive(Clone, Copy)]
 pub struct If {
     pub test: u32,
     pub consequent: u32,
@@ -80,7 +80,7 @@ pub fn if_at(words: &[u32], block: u32) -> If
     }
 }
 
-#[derive(Drop)]
+#[derive(Clone, Copy)]
 pub struct Branch {
     pub test: u32,
     pub consequent: u32,
@@ -101,7 +101,7 @@ pub fn branch_at(words: &[u32], block: u32) -> Branch
 }
 
 // The cases are `number` rows from `first` on.
-#[derive(Drop)]
+#[derive(Clone, Copy)]
 pub struct Switch {
     pub test: u32,
     pub first: u32,
@@ -123,7 +123,7 @@ pub fn switch_at(words: &[u32], block: u32) -> Switch
     }
 }
 
-#[derive(Drop)]
+#[derive(Clone, Copy)]
 pub struct DoWhile {
     pub loop_block: u32,
     pub test: u32,
@@ -143,7 +143,7 @@ pub fn do_while_at(words: &[u32], block: u32) -> DoWhile
     }
 }
 
-#[derive(Drop)]
+#[derive(Clone, Copy)]
 pub struct While {
     pub test: u32,
     pub loop_block: u32,
@@ -164,7 +164,7 @@ pub fn while_at(words: &[u32], block: u32) -> While
 }
 
 // `update` is 65,535 where there is none.
-#[derive(Drop)]
+#[derive(Clone, Copy)]
 pub struct For {
     pub init: u32,
     pub test: u32,
@@ -188,7 +188,7 @@ pub fn for_at(words: &[u32], block: u32) -> For
     }
 }
 
-#[derive(Drop)]
+#[derive(Clone, Copy)]
 pub struct ForOf {
     pub init: u32,
     pub test: u32,
@@ -210,7 +210,7 @@ pub fn for_of_at(words: &[u32], block: u32) -> ForOf
     }
 }
 
-#[derive(Drop)]
+#[derive(Clone, Copy)]
 pub struct ForIn {
     pub init: u32,
     pub loop_block: u32,
@@ -231,7 +231,7 @@ pub fn for_in_at(words: &[u32], block: u32) -> ForIn
 }
 
 // `operator` is 0 or, 1 and, 2 coalesce.
-#[derive(Drop)]
+#[derive(Clone, Copy)]
 pub struct Logical {
     pub operator: u32,
     pub test: u32,
@@ -251,7 +251,7 @@ pub fn logical_at(words: &[u32], block: u32) -> Logical
     }
 }
 
-#[derive(Drop)]
+#[derive(Clone, Copy)]
 pub struct Ternary {
     pub test: u32,
     pub fallthrough: u32,
@@ -269,7 +269,7 @@ pub fn ternary_at(words: &[u32], block: u32) -> Ternary
     }
 }
 
-#[derive(Drop)]
+#[derive(Clone, Copy)]
 pub struct Optional {
     pub flag: u32,
     pub test: u32,
@@ -289,7 +289,7 @@ pub fn optional_at(words: &[u32], block: u32) -> Optional
     }
 }
 
-#[derive(Drop)]
+#[derive(Clone, Copy)]
 pub struct Label {
     pub block: u32,
     pub fallthrough: u32,
@@ -307,7 +307,7 @@ pub fn label_at(words: &[u32], block: u32) -> Label
     }
 }
 
-#[derive(Drop)]
+#[derive(Clone, Copy)]
 pub struct Sequence {
     pub block: u32,
     pub fallthrough: u32,
@@ -325,7 +325,7 @@ pub fn sequence_at(words: &[u32], block: u32) -> Sequence
     }
 }
 
-#[derive(Drop)]
+#[derive(Clone, Copy)]
 pub struct MaybeThrow {
     pub continuation: u32,
 }
@@ -342,7 +342,7 @@ pub fn maybe_throw_at(words: &[u32], block: u32) -> MaybeThrow
 }
 
 // `binding` is 65,535 where there is none.
-#[derive(Drop)]
+#[derive(Clone, Copy)]
 pub struct Try {
     pub block: u32,
     pub handler: u32,
@@ -365,7 +365,7 @@ pub fn try_at(words: &[u32], block: u32) -> Try
 }
 
 // A Scope or a PrunedScope.
-#[derive(Drop)]
+#[derive(Clone, Copy)]
 pub struct Scope {
     pub pruned: bool,
     pub block: u32,

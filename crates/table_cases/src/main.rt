@@ -1,11 +1,13 @@
 // Runs word lists through the check and compares code and place with those stored beside each list.
 // A line of the input: code, place, then the words as pairs of a value and how often it stands there. README: how the lists were made.
+#![tactic(auto)]
+
 ghost use Rattle.std.specs.Prelude.{◌<◌, ◌≤◌, ◌≡◌, length};
 ghost use Rattle.table_cases.specs.Text.{Read, Line};
 
 use libc::{STDIN_FILENO, STDOUT_FILENO};
 
-#[derive(Drop)]
+#[derive(Clone, Copy)]
 pub struct Parsed {
     pub value: u64,
     pub end: usize,
@@ -47,7 +49,7 @@ fn fill(words: &mut [u32], from: usize, word: u32, times: u64) -> usize
     i
 }
 
-#[derive(Drop)]
+#[derive(Clone, Copy)]
 pub struct Listed {
     pub len: usize,
     pub end: usize,
@@ -77,7 +79,7 @@ fn list(text: &[u8], from: usize, words: &mut [u32]) -> Listed
     Listed { len, end }
 }
 
-#[derive(Drop)]
+#[derive(Clone, Copy)]
 pub struct Tally {
     pub lists: u64,
     pub differences: u64,

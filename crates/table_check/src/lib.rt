@@ -1,4 +1,6 @@
 // Refusals 1 to 4 of paper 01.
+#![tactic(auto)]
+
 mod blocks;
 pub mod limits;
 mod other_tables;

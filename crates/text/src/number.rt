@@ -4,7 +4,7 @@ ghost use Rattle.text.specs.Form.{ending};
 ghost use Rattle.text.specs.Steps.{Digit, Extended, NumberRead, number_refused};
 
 // A number that was read, and the byte after its end; or the byte that it is refused at.
-#[derive(Drop)]
+#[derive(Clone, Copy)]
 pub struct Number {
     pub refused: bool,
     pub at: usize,

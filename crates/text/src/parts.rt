@@ -9,7 +9,7 @@ use crate::number::read_number;
 use crate::version::Version;
 
 // How far the reading has come: the next byte and the number of words so far; or the byte that it is refused at.
-#[derive(Drop)]
+#[derive(Clone, Copy)]
 pub struct Cursor {
     pub refused: bool,
     pub at: usize,

@@ -6,7 +6,7 @@ ghost use Rattle.text.specs.Placed.{refusal, placed, placing};
 use crate::lent::clear_bytes;
 
 // Code (0 accepted), at, and the number of the text's bytes.
-#[derive(Drop)]
+#[derive(Clone, Copy)]
 pub struct Placed {
     pub code: u32,
     pub at: u32,

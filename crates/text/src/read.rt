@@ -8,7 +8,7 @@ use crate::parts::read_file;
 use crate::version::Version;
 
 // What reading a file gives.
-#[derive(Drop)]
+#[derive(Clone, Copy)]
 pub enum Answer {
     // The file is in the form: the number of its words.
     Words(usize),

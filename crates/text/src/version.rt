@@ -1,5 +1,5 @@
 // The two forms of a file.
-#[derive(Drop)]
+#[derive(Clone, Copy)]
 pub enum Version {
     // Paper 01's: a span is one word.
     Old,

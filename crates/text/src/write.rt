@@ -7,7 +7,7 @@ use crate::lent::{clear_bytes, put_byte};
 use crate::number::ending_byte;
 
 // What writing a result gives.
-#[derive(Drop)]
+#[derive(Clone, Copy)]
 pub enum Written {
     // The number of bytes.
     Bytes(usize),

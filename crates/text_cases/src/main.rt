@@ -1,5 +1,7 @@
 // Reads the files of data/, from 00 on, and prints of each, in the form of a result: the code and the place of its refusal, the number of
 // its words, 1 if a word after them is not zero, and its first words as rows of six. Code 99: more words than were lent.
+#![tactic(auto)]
+
 use libc::STDOUT_FILENO;
 use text::read::Answer;
 use text::write::Written;

@@ -12,7 +12,7 @@ use text::lent::put_word;
 use text::write::{Written, finish_text, write_line, write_names};
 
 // What reading a file gives: the number of its words; or the byte that it is refused at.
-#[derive(Drop)]
+#[derive(Clone, Copy)]
 pub struct Rows {
     pub refused: bool,
     pub at: usize,

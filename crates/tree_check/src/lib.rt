@@ -1,4 +1,6 @@
 // M-100: whether a list of rows reads as one tree, and where each of its parts begins.
+#![tactic(auto)]
+
 pub mod file;
 mod parts;
 mod ranges;
@@ -13,14 +15,14 @@ use crate::ranges::in_range;
 use crate::words::word;
 
 // M-100: "At is the row, or 0 for 62"; code 0 is accepted.
-#[derive(Drop)]
+#[derive(Clone, Copy)]
 pub struct TreeChecked {
     pub code: u32,
     pub at: u32,
 }
 
 // The same, and for each row read the first row of the part that it closes; zeros follow.
-#[derive(Drop)]
+#[derive(Clone, Copy)]
 pub struct TreeRead {
     pub code: u32,
     pub at: u32,

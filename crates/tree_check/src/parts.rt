@@ -21,7 +21,7 @@ const BLOCK: u32 = 3;
 const CASE: u32 = 4;
 
 // `count` parts of the sort `first`, the latest first, and then `more` parts of the sort `then`.
-#[derive(Drop)]
+#[derive(Clone, Copy)]
 pub struct Takes {
     pub count: u32,
     pub first: u32,

@@ -8,7 +8,7 @@ ghost use Rattle.tree_check.specs.Found.{row_at};
 
 use crate::words::word;
 
-#[derive(Drop)]
+#[derive(Clone, Copy)]
 pub struct Limits {
     pub a: u32,
     pub b: u32,

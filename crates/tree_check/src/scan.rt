@@ -5,7 +5,7 @@ ghost use Rattle.tree_check.specs.Scan.{start_scan, refused_scan, next_column, f
 use text::number::{digit_value, ending_byte, extended};
 
 // How far a line has come: the column, and the value of the number that is open; `ended` where one has just ended.
-#[derive(Drop)]
+#[derive(Clone, Copy)]
 pub struct Scan {
     pub refused: bool,
     pub ended: bool,

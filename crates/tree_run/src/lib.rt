@@ -1,4 +1,6 @@
 // M-103: runs a tree on paper. Which instruction rows does it perform for given answers, and why does it stop?
+#![tactic(auto)]
+
 mod cells;
 mod completions;
 pub mod file;
@@ -19,7 +21,7 @@ use values::rows::clear;
 
 // Code 0 is a run: `number` rows were performed, and `reason` is 1 for a return, 2 for a throw, 3 for the end of the tree, 4 for no answer left.
 // Else a refusal, with its row of the tree; number and reason are 0.
-#[derive(Drop)]
+#[derive(Clone, Copy)]
 pub struct Ran {
     pub code: u32,
     pub at: u32,

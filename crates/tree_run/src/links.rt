@@ -4,7 +4,7 @@ ghost use Rattle.tree_check.specs.Found.{Begun};
 ghost use Rattle.tree_run.specs.Abstraction.{links_of, RowsLinked};
 
 // For each row three closing rows: of what it is a part of; of the part after it, or 0; and of its first part, or 0.
-#[derive(Drop)]
+#[derive(Clone, Copy)]
 pub struct Links {
     pub parent: [u32; 2048],
     pub next: [u32; 2048],

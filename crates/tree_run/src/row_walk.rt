@@ -15,14 +15,14 @@ use crate::turns::{Place, Turn, down, enter, leave, up};
 use crate::{Ran, refused, stopped};
 
 // The buffer took every row that was to be performed, and holds `number` rows now. Or it is full and cannot take the row `at`.
-#[derive(Drop)]
+#[derive(Clone, Copy)]
 pub struct Performed {
     pub full: bool,
     pub at: u32,
     pub number: usize,
 }
 
-#[derive(Drop)]
+#[derive(Clone, Copy)]
 pub struct Onward {
     pub asked: usize,
     pub place: Place,

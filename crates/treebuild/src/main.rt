@@ -1,4 +1,6 @@
 // Reads a table from standard input and prints its tree, or why there is none, to standard output.
+#![tactic(auto)]
+
 use build::file::build_file;
 use control::rule::Rule;
 use program::{printed_bytes, read_all, table_bytes, write_printed};

@@ -1,4 +1,6 @@
 // As treebuild, by the language's rule (M-102).
+#![tactic(auto)]
+
 use build::file::build_file;
 use control::rule::Rule;
 use program::{printed_bytes, read_all, table_bytes, write_printed};

@@ -1,4 +1,6 @@
 // Reads rows of a tree from standard input, checks them and prints the answer to standard output.
+#![tactic(auto)]
+
 use program::{printed_bytes, read_all, rows_bytes, write_printed};
 use tree_check::file::check_file;
 

@@ -1,4 +1,6 @@
 // Reads a table from standard input and prints its blocks as a graph in DOT, or why there is none, to standard output.
+#![tactic(auto)]
+
 use dot::file::draw_file;
 use program::{drawing_bytes, read_all, table_bytes, write_printed};
 

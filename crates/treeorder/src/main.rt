@@ -1,4 +1,6 @@
 // Reads a table from standard input and prints it with its blocks in walking order, or why it is refused, to standard output.
+#![tactic(auto)]
+
 use order::file::order_file;
 use program::{printed_bytes, read_all, table_bytes, write_printed};
 

@@ -1,4 +1,6 @@
 // Reads rows of a tree and answers from standard input, runs the tree by them and prints what it performed to standard output.
+#![tactic(auto)]
+
 use program::{printed_bytes, read_all, rows_bytes, write_printed};
 use tree_run::file::run_file;
 

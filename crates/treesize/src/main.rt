@@ -1,4 +1,6 @@
 // Reads a table from standard input and prints what its build needs, or why it is refused, to standard output.
+#![tactic(auto)]
+
 use preview::file::size_file;
 use program::{printed_bytes, read_all, table_bytes, write_printed};
 

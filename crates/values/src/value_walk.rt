@@ -153,7 +153,7 @@ pub fn visit_value_block_terminal(
 }
 
 // A test block's value, and the two ways and the span of the Branch at its end. (They are 0 where the value is refused.)
-#[derive(Drop)]
+#[derive(Clone, Copy)]
 pub struct TestBlock {
     pub test: ValueResult,
     pub consequent: u32,

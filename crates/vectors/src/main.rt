@@ -1,6 +1,8 @@
 // Replays data/vectors.bin: tables with their answers, made by the Rust (reference/vectors/README.md says the form), the samples of paper 01
 // first. Each table is built into a buffer full of sevens, and code, at, rows, visits and every word of the buffer are compared. Prints the
 // number of each vector that differs, then how many there are, how many differ, and how many bytes are left.
+#![tactic(auto)]
+
 ghost use Rattle.std.specs.Prelude.{◌≤◌, ◌<◌, ◌≡◌, length};
 
 use build::build_reactive_function;
@@ -8,14 +10,14 @@ use libc::STDOUT_FILENO;
 use walk::Outcome;
 
 // A number, and where the next one begins.
-#[derive(Drop)]
+#[derive(Clone, Copy)]
 struct Number {
     value: u32,
     next: usize,
 }
 
 // Whether a vector came out as it should, and where the next one begins.
-#[derive(Drop)]
+#[derive(Clone, Copy)]
 struct Replayed {
     same: bool,
     next: usize,

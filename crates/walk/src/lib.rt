@@ -1,4 +1,6 @@
 // The loop over the Context and the frames: `statements` plans each turn, and the loop applies the plan.
+#![tactic(auto)]
+
 mod around;
 mod frames;
 mod index;
@@ -26,7 +28,7 @@ use table::words::entry;
 
 // Paper 01, "Result and refusals": code (0 accepted), at, rows, visits; and M-101's number of lines. The walk gives it before
 // anyone tests whether the rows and the lines fit in the buffers.
-#[derive(Drop)]
+#[derive(Clone, Copy)]
 pub struct Outcome {
     pub code: u32,
     pub at: u32,
