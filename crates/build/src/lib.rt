@@ -89,8 +89,7 @@ pub fn build_language(words: &[u32], tree: &mut [u32], index: &mut [u32]) -> Out
 }
 
 // The same for callers in C or Rust: the code, and the other four words by reference.
-#[unsafe(no_mangle)]
-pub extern "C" fn reactive_build(
+pub fn reactive_build(
     words: &[u32],
     tree: &mut [u32],
     index: &mut [u32],
@@ -109,8 +108,7 @@ pub extern "C" fn reactive_build(
     built.code
 }
 
-#[unsafe(no_mangle)]
-pub extern "C" fn reactive_build_language(
+pub fn reactive_build_language(
     words: &[u32],
     tree: &mut [u32],
     index: &mut [u32],

@@ -49,6 +49,7 @@ unfolding stack_of
 stack_last entries (suc n) last h at =
     let e : suc n - 1 ≡ n = omega arith in
     rw e (ap {B = List definition.Entry} (λ (entry : Entry). entry_of entry ∷ stack_of entries n) (sym (rw e at at)))
+stack_last entries zero last h at = elim h [ ]
 
 pub stack_length : (entries : List Entry) (n : ℕ) → length (stack_of entries n) ≡ n
 unfolding stack_of

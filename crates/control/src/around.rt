@@ -19,7 +19,7 @@ use crate::{ReactiveTerminalTargetKind, Resolution, Resolved};
 use table::columns::code_at;
 
 // The sort of a statement, as a jump inside it sees it. A scope's row has no label.
-#[derive(Clone, Copy)]
+#[derive(Drop)]
 pub enum Sort {
     Loop,
     Switch,
@@ -29,7 +29,7 @@ pub enum Sort {
 
 // What is known of the statements that were passed, field by field: none of them is a loop or a switch; the first that is one of the two is a switch;
 // one has the label; how many loops it still is to the loop that a continue resolved to, 0 once that was passed; that loop has the label.
-#[derive(Clone, Copy)]
+#[derive(Clone, Copy, Drop)]
 pub struct Survey {
     pub between: bool,
     pub switch_inside: bool,
@@ -39,7 +39,7 @@ pub struct Survey {
 }
 
 // Where a jump goes: its kind by the rule, and whether it is Labeled but names no label around it.
-#[derive(Clone, Copy)]
+#[derive(Drop)]
 pub struct Goal {
     pub target: u32,
     pub kind: ReactiveTerminalTargetKind,
@@ -47,7 +47,7 @@ pub struct Goal {
     pub unnamed: bool,
 }
 
-#[derive(Clone, Copy)]
+#[derive(Drop)]
 pub enum Aim {
     Nothing,
     At(Goal),

@@ -25,7 +25,7 @@ pub fn block_id(block: u32) -> u16
 }
 
 // What an entry of the control stack stands for. A loop's `block` is its fallthrough.
-#[derive(Clone, Copy)]
+#[derive(Clone, Copy, Drop)]
 pub enum ControlFlowTarget {
     If {
         block: u16,
@@ -44,14 +44,14 @@ pub enum ControlFlowTarget {
 }
 
 // `owns_loop`: the target is a loop, and its loop block was free before.
-#[derive(Clone, Copy)]
+#[derive(Clone, Copy, Drop)]
 pub struct Entry {
     pub id: u16,
     pub target: ControlFlowTarget,
     pub owns_loop: bool,
 }
 
-#[derive(Clone, Copy)]
+#[derive(Clone, Copy, Drop)]
 pub enum ReactiveTerminalTargetKind {
     Implicit,
     Labeled,
@@ -59,21 +59,21 @@ pub enum ReactiveTerminalTargetKind {
 }
 
 // What a jump resolves to: the entry that was found, the jump's kind, and how many loops lie above that entry.
-#[derive(Clone, Copy)]
+#[derive(Clone, Copy, Drop)]
 pub struct Resolution {
     pub entry: Entry,
     pub kind: ReactiveTerminalTargetKind,
     pub loops: u32,
 }
 
-#[derive(Clone, Copy)]
+#[derive(Clone, Copy, Drop)]
 pub enum Resolved {
     Nothing,
     Found(Resolution),
 }
 
 // `pushed` is the entry that went on last. `refused` is 15 where `schedule` refused it (or 90, which never occurs). The walk ends with such a Context.
-#[derive(Clone, Copy)]
+#[derive(Drop)]
 pub struct Context {
     pub emitted: [bool; 1024],
     pub catch_handlers: [bool; 1024],

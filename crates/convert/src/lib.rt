@@ -100,8 +100,7 @@ pub fn new_to_old(file: &[u8], text: &mut [u8]) -> Placed
 }
 
 // The same for callers in C or Rust: the code, and the other two by reference.
-#[unsafe(no_mangle)]
-pub extern "C" fn table_old_to_new(
+pub fn table_old_to_new(
     file: &[u8],
     text: &mut [u8],
     at: &mut u32,
@@ -115,8 +114,7 @@ pub extern "C" fn table_old_to_new(
     converted.code
 }
 
-#[unsafe(no_mangle)]
-pub extern "C" fn table_new_to_old(
+pub fn table_new_to_old(
     file: &[u8],
     text: &mut [u8],
     at: &mut u32,

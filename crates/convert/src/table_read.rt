@@ -5,8 +5,7 @@ ghost use Rattle.convert.specs.Read.{table_read};
 use text::read::{Answer, read};
 
 // Takes any bytes and any lent words. Gives the code, and by reference its place and the number of words.
-#[unsafe(no_mangle)]
-pub extern "C" fn table_read(file: &[u8], words: &mut [u32], at: &mut u32, count: &mut usize) -> u32
+pub fn table_read(file: &[u8], words: &mut [u32], at: &mut u32, count: &mut usize) -> u32
     ensures { record { code = result; at = at.new; count = count.new; lent = words.new } ≡ table_read file.now (length words.old) }
 {
     *at = 0;

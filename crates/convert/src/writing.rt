@@ -21,8 +21,7 @@ pub fn write_table(words: &[u32], text: &mut [u8]) -> Placed
 }
 
 // The same for callers in C or Rust: the code, and the other two by reference.
-#[unsafe(no_mangle)]
-pub extern "C" fn table_write(words: &[u32], text: &mut [u8], at: &mut u32, size: &mut usize) -> u32
+pub fn table_write(words: &[u32], text: &mut [u8], at: &mut u32, size: &mut usize) -> u32
     ensures { record { code = result; at = at.new; length = size.new; buffer = text.new } ≡ table_written words.now (length text.old) }
 {
     let written = write_table(words, text);

@@ -26,8 +26,7 @@ pub fn dot(words: &[u32], text: &mut [u8]) -> Placed
 }
 
 // The same for callers in C or Rust: the code, and the other two by reference.
-#[unsafe(no_mangle)]
-pub extern "C" fn blocks_to_dot(
+pub fn blocks_to_dot(
     words: &[u32],
     text: &mut [u8],
     at: &mut u32,

@@ -1,5 +1,5 @@
 -- M-101's answers, as the paper says them: each of 42, 43 and 0 exactly where it is given, and the part within the tree buffer.
-use mathlib.Core.Path.{◌≡◌, refl, sym, ap, ◌∙◌}
+use mathlib.Core.Path.{◌≡◌, refl, ap, ◌∙◌}
 use Prim.Native.Nat.{ℕ, zero, suc, ◌+◌, ◌*◌, ◌-◌, ◌/◌, ◌≤◌, ◌<◌}
 use native.Mathlib.Omega.{arith}
 use mathlib.Core.List.{List, [], ◌∷◌}
@@ -8,7 +8,7 @@ use lib.ListN.{length, take, drop}
 use lib.Seq.{slice}
 use lib.Dec.{leb, ltb}
 use borrow.Author.Tests.{lt-ltb, le-ltb, le-leb, lt-leb, ltb-true, ltb-false, leb-true, leb-false}
-use Rattle.lookup.specs.Lookup.{lines_read, line_word, first_with, refusal, part_unless, part_of, found_at, found, Part, part_found, looked}
+use Rattle.lookup.specs.Lookup.{lines_read, line_word, first_with, refusal, part_unless, part_of, found_at, found, part_found, looked}
 use Rattle.lookup.specs.declared.Line.{Line}
 use Rattle.lookup.specs.declared.Line.TheVariants.{At, Nowhere}
 use Rattle.lookup.specs.declared.Found.{Found}

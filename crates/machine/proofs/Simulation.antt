@@ -583,11 +583,14 @@ module _ (rule : Rule) (t : Table) (d : ℕ) (inner : TraverseInside) (ws : Walk
       (visit_value_block_terminal t visit e (block_at t b).id (block_at t b).span (scheduled_if g c).visits b) (λ _ z. omega (arith, z.rises, kept_if g c))
       (terminal_took t visit (value_took t d) e (block_at t b).id (block_at t b).span (scheduled_if g c).visits b m)) (λ r p.
       sim_by _ (off_if g c.next_id (with_visits r.visits (scheduled_if g c)) ∙ pop_all_lem (schedule_ids g c.next_id) (with_visits r.visits (scheduled_if g c))
-      (unfold with_visits in tops_if g c) ∙ one g (with_visits r.visits (scheduled_if g c)))
+      (tops r) ∙ one g (with_visits r.visits (scheduled_if g c)))
       (sim_leave (INSTR r.id r.place (block_at t b).span r.value) (instr_put R r.id r.place (block_at t b).span r.value) (seen g r (omega arith))))))
     where
       g : Option ℕ
       g = unless_scheduled c f
+
+      tops : (r : ValueTerminalResult) → Tops (schedule_ids g c.next_id) (with_visits r.visits (scheduled_if g c)).stack
+      tops r = unfold with_visits in tops_if g c
 
       one : (g : Option ℕ) (z : Context) → ok (pop_all (length (schedule_ids g c.next_id)) z) ≡ ok (unscheduled_of (opens g) z)
       one none z = refl

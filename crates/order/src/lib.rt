@@ -123,8 +123,7 @@ pub fn restore(words: &[u32], old_numbers: &[u32], first_words: &mut [u32]) -> M
 }
 
 // The same for callers in C or Rust: the code, and the place by reference.
-#[unsafe(no_mangle)]
-pub extern "C" fn blocks_rearrange(
+pub fn blocks_rearrange(
     words: &[u32],
     new_words: &mut [u32],
     old_numbers: &mut [u32],
@@ -137,8 +136,7 @@ pub extern "C" fn blocks_rearrange(
     moved.code
 }
 
-#[unsafe(no_mangle)]
-pub extern "C" fn blocks_restore(
+pub fn blocks_restore(
     words: &[u32],
     old_numbers: &[u32],
     first_words: &mut [u32],

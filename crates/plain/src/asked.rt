@@ -11,7 +11,7 @@ use table::words::block_count;
 
 // In order: the second block is the fallthrough of no block but the first; the block is no While's loop block or test; it is no loop block and continues no
 // loop; it is no fallthrough; nothing but a Switch names it; no While has this test, loop block and fallthrough.
-#[derive(Clone, Copy)]
+#[derive(Clone, Copy, Drop)]
 pub enum Question {
     OnlyOf(u32, u32),
     NoWhile(u32),

@@ -8,7 +8,7 @@ ghost use Rattle.plain.specs.Facts.{facts_of, no_facts, falls_to, jumps_to, ente
 use table::words::{block_count, block_word};
 
 // `others` are the other blocks that it names. `entered` are those that it enters: for a loop, the loop block. `again` continues a loop.
-#[derive(Clone, Copy)]
+#[derive(Clone, Copy, Drop)]
 pub struct Facts {
     pub code: u32,
     pub falls: bool,

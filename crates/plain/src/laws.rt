@@ -12,7 +12,7 @@ use crate::loops::loop_block_test;
 use crate::tests::block_test;
 use table::words::{block_count, entry};
 
-#[derive(Clone, Copy)]
+#[derive(Clone, Copy, Drop)]
 pub enum Law {
     Paper01,
     Switches,

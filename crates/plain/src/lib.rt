@@ -18,8 +18,7 @@ use crate::laws::number_of;
 use table_check::check;
 
 // For callers in C or Rust: the check's code; its place is left in `at`, the law's number in `number`.
-#[unsafe(no_mangle)]
-pub extern "C" fn table_plain(words: &[u32], at: &mut u32, number: &mut u32) -> u32
+pub fn table_plain(words: &[u32], at: &mut u32, number: &mut u32) -> u32
     ensures value { (result ≡ code_of (checked words.now)) × (at.new ≡ place_of (checked words.now)) }
     ensures number_after { number.new ≡ plainness_of words.now }
 {

@@ -69,8 +69,7 @@ pub fn preview_language(words: &[u32]) -> Outcome
 }
 
 // The same for callers in C or Rust: the code, and the other four words by reference.
-#[unsafe(no_mangle)]
-pub extern "C" fn reactive_preview(
+pub fn reactive_preview(
     words: &[u32],
     at: &mut u32,
     rows: &mut u32,
@@ -87,8 +86,7 @@ pub extern "C" fn reactive_preview(
     told.code
 }
 
-#[unsafe(no_mangle)]
-pub extern "C" fn reactive_preview_language(
+pub fn reactive_preview_language(
     words: &[u32],
     at: &mut u32,
     rows: &mut u32,

@@ -74,6 +74,8 @@ module _ (n : ℕ) (new : ℕ → ℕ) (below : (b : ℕ) → b < n → new b < 
   each [] [] ends k = tt
   each (r ∷ rs) (n ∷ ns) (h and hs) zero = h
   each (r ∷ rs) (n ∷ ns) (h and hs) (suc k) = each rs ns hs k
+  each [] (n ∷ ns) h k = elim h [ ]
+  each (r ∷ rs) [] h k = elim h [ ]
 
 module _ (new old : ℕ → ℕ) (ws : List ℕ) (p : Promise ws) (g : Renaming (block_count ws) new old) where
   few : block_count ws ≤ 1024

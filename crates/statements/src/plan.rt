@@ -9,7 +9,7 @@ pub const NONE: u32 = 65535;
 
 // What the next turn does: visit a block, resume the statement whose list has ended, take a Switch's next case, take an entry off the stack, or make the
 // values of a statement that is scheduled.
-#[derive(Clone, Copy)]
+#[derive(Clone, Copy, Drop)]
 pub enum Stage {
     Visit,
     Ended,
@@ -21,7 +21,7 @@ pub enum Stage {
 
 // Where the walk stands: under `depth` frames, with `count` statements of the list in hand and `rows` rows out. `block` is the one to be visited, or the
 // body of the loop whose values are made next; NONE where that body is taken.
-#[derive(Clone, Copy)]
+#[derive(Clone, Copy, Drop)]
 pub struct Position {
     pub block: u32,
     pub depth: u32,
@@ -33,7 +33,7 @@ pub struct Position {
 
 // A statement whose nested block is still being built. `label` is the fallthrough, NONE where it is not taken. `entries` is how many entries of the stack
 // are its own. Its own rows begin at row `first`.
-#[derive(Clone, Copy)]
+#[derive(Clone, Copy, Drop)]
 pub struct Frame {
     pub block: u32,
     pub label: u32,
@@ -46,7 +46,7 @@ pub struct Frame {
 }
 
 // What a turn does to the stack.
-#[derive(Clone, Copy)]
+#[derive(Clone, Copy, Drop)]
 pub enum Change {
     Nothing,
     Schedule(ControlFlowTarget),
@@ -54,14 +54,14 @@ pub enum Change {
 }
 
 // A line of the index (M-101): the label and the first row of a statement whose closing row is put out.
-#[derive(Clone, Copy)]
+#[derive(Clone, Copy, Drop)]
 pub enum Line {
     Nothing,
     Put(u32, u32),
 }
 
 // The next position; or a refusal, if `code` is not 0. With `keep` the frame becomes the innermost one. `handler` and `scope` are marked, unless NONE.
-#[derive(Clone, Copy)]
+#[derive(Clone, Copy, Drop)]
 pub struct Plan {
     pub code: u32,
     pub at: u32,

@@ -20,7 +20,7 @@ use control::{
 use table::columns::code_at;
 use table::terminals::{branch_at, goto_at};
 
-#[derive(Clone, Copy)]
+#[derive(Clone, Copy, Drop)]
 pub enum Jump {
     Nothing,
     Break(u16),

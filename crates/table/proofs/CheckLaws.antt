@@ -8,7 +8,7 @@ use lib.ListN.{length, get_or}
 use lib.Dec.{leb}
 use borrow.Author.Tests.{lt-ltb, le-ltb, le-leb, eq-eqb, ne_eqb, leb-true}
 use Rattle.table.specs.Words.{word, entry_word, block_count, instruction_count, case_count, place_count, identifier_count, words_needed}
-use Rattle.table.specs.Check.{Verdict, accepted, refused, limits, counts_verdict, words_verdict, checked}
+use Rattle.table.specs.Check.{accepted, refused, limits, counts_verdict, words_verdict, checked}
 use Rattle.table.specs.Promise.{Limited}
 
 module _ (ws : List ℕ) where

@@ -44,6 +44,8 @@ data Each (P : Terminal → List Rule → Type 0) : List Terminal → List (List
 infixr 5 ◌and◌
 each : (P : Terminal → List Rule → Type 0) → P absent [] → (ts : List Terminal) (rs : List (List Rule)) → Each P ts rs → (n : ℕ) → P (get_or ts n absent) (get_or rs n [])
 each P o [] [] ends n = o
+each P o [] (r ∷ rs) h n = elim h [ ]
+each P o (t ∷ ts) [] h n = elim h [ ]
 each P o (t ∷ ts) (r ∷ rs) (h and hs) zero = h
 each P o (t ∷ ts) (r ∷ rs) (h and hs) (suc n) = each P o ts rs hs n
 each P o [] (r ∷ rs) h n = elim h [ ]

@@ -8,7 +8,7 @@ use lib.Dec.{eqb}
 use borrow.Author.Tests.{eqb-true, eqb-false}
 use Rattle.table.specs.Words.{block_count, place_count, case_count, block_word, code_at}
 use Rattle.table.specs.Table.{Terminal, throw, return, goto, if, branch, switch, do_while, while, for, for_of, for_in, logical, ternary, optional, label}
-use Rattle.table.specs.Table.{sequence, maybe_throw, try, scope, table_of, terminal_of, unless_none, variant_of}
+use Rattle.table.specs.Table.{sequence, maybe_throw, try, scope, terminal_of, unless_none, variant_of}
 use Rattle.table.specs.Promise.{Promise, InRange, Ends}
 use Rattle.table.proofs.RangeLaws.{in_range_lem, code_known}
 use Rattle.table.proofs.BlockLaws.{end_by}

@@ -1,9 +1,9 @@
 -- What the check's own answer means, by paper 01's numbers; and the limit that a rule is.
-use Rattle.std.specs.Prelude.{ℕ, suc, ◌-◌, List, [], ◌∷◌, Bool, true, false, cond, leb, ltb, eqb, get_or}
+use Rattle.std.specs.Prelude.{ℕ, suc, ◌-◌, List, [], ◌∷◌, Bool, true, false, cond, leb, eqb, get_or}
 use Rattle.table.specs.Words.{word, largest}
 use Rattle.table.specs.declared.Checked.{Checked}
 use Rattle.table.specs.declared.Checked.TheVariants.{Accepted, WrongLength, CountOverLimit, EntryOutOfRange, BadWord}
-use Rattle.table.specs.Check.{Verdict, accepted, refused, Rule, unused, number, row, row_or_none, rows_from, end_of, fits}
+use Rattle.table.specs.Check.{Verdict, accepted, refused, Rule, unused, number, row, row_or_none, rows_from, end_of}
 
 -- "1 under six words, at 0; 2 the first count over its limit, at its word; 1 wrong length, at 0; 3 entry not below the block count, at 0;
 -- 4 first bad word, at it"

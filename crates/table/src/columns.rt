@@ -16,7 +16,7 @@ pub fn code_at(words: &[u32], block: u32) -> u32
 }
 
 // Where a block's terminal or an instruction stands in the source. 0 and 0 is none.
-#[derive(Clone, Copy)]
+#[derive(Clone, Copy, Drop)]
 pub struct Span {
     pub from: u32,
     pub to: u32,
@@ -34,7 +34,7 @@ pub fn span_at(words: &[u32], block: u32) -> Span
 }
 
 // What a block has beside its terminal: its instructions are `count` rows from `first` on.
-#[derive(Clone, Copy)]
+#[derive(Drop)]
 pub struct BlockHead {
     pub first: u32,
     pub count: u32,
@@ -56,7 +56,7 @@ pub fn block_at(words: &[u32], block: u32) -> BlockHead
 }
 
 // What an instruction has beside its operation.
-#[derive(Clone, Copy)]
+#[derive(Drop)]
 pub struct InstructionHead {
     pub id: u32,
     pub lvalue: u32,
@@ -87,7 +87,7 @@ pub fn operation_code_at(words: &[u32], instruction: u32) -> u32
     instruction_word(words, instruction, 2)
 }
 
-#[derive(Clone, Copy)]
+#[derive(Drop)]
 pub struct LoadLocal {
     pub place: u32,
 }
@@ -103,7 +103,7 @@ pub fn load_local_at(words: &[u32], instruction: u32) -> LoadLocal
     }
 }
 
-#[derive(Clone, Copy)]
+#[derive(Drop)]
 pub struct StoreLocal {
     pub stored_to: u32,
     pub stored_value: u32,
@@ -122,7 +122,7 @@ pub fn store_local_at(words: &[u32], instruction: u32) -> StoreLocal
 }
 
 // `test` is 65,535 for the default case.
-#[derive(Clone, Copy)]
+#[derive(Drop)]
 pub struct Case {
     pub test: u32,
     pub block: u32,

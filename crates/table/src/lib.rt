@@ -10,7 +10,7 @@ ghost use Rattle.std.specs.Prelude.{◌≡◌};
 ghost use Rattle.table.specs.Answer.{verdict_of, code_of, place_of, is_accepted};
 
 // What the check finds. Paper 01's code and place of each: `verdict_of` in specs/Answer.antt.
-#[derive(Clone, Copy)]
+#[derive(Clone, Copy, Drop)]
 pub enum Checked {
     Accepted,
     WrongLength,

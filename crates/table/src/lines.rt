@@ -13,7 +13,7 @@ use crate::terminals::{
 };
 
 // Those of the case rows from `first_case` on, then the first `count` blocks.
-#[derive(Clone, Copy)]
+#[derive(Clone, Copy, Drop)]
 pub struct Named {
     pub first_case: u32,
     pub cases: u32,

@@ -5,7 +5,8 @@
 ghost use Rattle.std.specs.Prelude.{◌<◌, ◌≤◌, ◌≡◌, length};
 ghost use Rattle.table_cases.specs.Text.{Read, Line};
 
-use libc::{STDIN_FILENO, STDOUT_FILENO};
+use program::read_input;
+use std::io;
 
 #[derive(Clone, Copy)]
 pub struct Parsed {
@@ -133,13 +134,10 @@ fn no_words() -> [u32; 45200]
     [0; 45200]
 }
 
-fn main() {
+fn main(rt: HostRuntime) -> io::Result<()> {
     let mut text = text_bytes();
     let mut words = no_words();
-    let n = io::read_full(STDIN_FILENO, &mut text);
-    let tally = run(&text[..n], &mut words);
-    io::print_decimal(STDOUT_FILENO, tally.lists);
-    io::write_all(STDOUT_FILENO, b" lists, ");
-    io::print_decimal(STDOUT_FILENO, tally.differences);
-    io::write_all(STDOUT_FILENO, b" differences\n");
+    let input = read_input(&mut rt.stdin(), &mut text);
+    let Tally { lists, differences } = run(&text[..input.count], &mut words);
+    println!(rt; "{lists} lists, {differences} differences")
 }

@@ -83,8 +83,7 @@ pub fn check(words: &[u32]) -> Checked
 }
 
 // The check for callers in C or Rust: paper 01's code; its place is left in `at`.
-#[unsafe(no_mangle)]
-pub extern "C" fn table_check(words: &[u32], at: &mut u32) -> u32
+pub fn table_check(words: &[u32], at: &mut u32) -> u32
     ensures { (result ≡ code_of (checked words.now)) × (at.new ≡ place_of (checked words.now)) }
 {
     let checked = check(words);

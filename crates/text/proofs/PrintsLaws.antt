@@ -10,7 +10,7 @@ use lib.Seq.{take_at}
 use Rattle.text.specs.Layout.{Layout}
 use Rattle.text.specs.Answer.{Refusal, Answered}
 use Rattle.text.specs.Printed.{printed, tree_lines, written_of, lent_of}
-use Rattle.text.specs.Prints.{Printing, printing, file_text, PrintsWords, PrintsRefusal, Prints, WrittenText}
+use Rattle.text.specs.Prints.{printing, file_text, PrintsWords, PrintsRefusal, Prints, WrittenText}
 use Rattle.text.specs.Reading.{Reading, reads, refuses, reading}
 use Rattle.text.specs.declared.read.Answer.TheVariants.{Words}
 use Rattle.text.specs.declared.read.Answer.TheVariants as read

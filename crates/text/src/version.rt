@@ -1,5 +1,5 @@
 // The two forms of a file.
-#[derive(Clone, Copy)]
+#[derive(Clone, Copy, Drop)]
 pub enum Version {
     // Paper 01's: a span is one word.
     Old,

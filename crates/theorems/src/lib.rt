@@ -1,2 +1,3 @@
 // The final theorems, and no code: proofs/Demands.antt, then Theorems.antt.
 #![tactic(auto)]
+

@@ -116,8 +116,7 @@ pub fn check_tree(tree: &[u32]) -> TreeChecked
 }
 
 // The same for callers in C or Rust: the code, and its row in `at`.
-#[unsafe(no_mangle)]
-pub extern "C" fn tree_check(tree: &[u32], at: &mut u32) -> u32
+pub fn tree_check(tree: &[u32], at: &mut u32) -> u32
     ensures { record { code = result; at = at.new } ≡ tree_checked tree.now }
 {
     let checked = check_tree(tree);

@@ -22,7 +22,7 @@ pub const UNANSWERED: u32 = 5;
 pub const NOT_RUN: u32 = 6;
 
 // In a break or continue NONE is the empty target, and `jump` is the jump's row.
-#[derive(Clone, Copy)]
+#[derive(Clone, Copy, Drop)]
 pub struct Completion {
     pub kind: u32,
     pub target: u32,

@@ -123,8 +123,7 @@ pub fn run_tree(tree: &[u32], answers: &[u32], performed: &mut [u32]) -> Ran
 }
 
 // The same for callers in C or Rust: the code, and the other numbers behind `at`, `number` and `reason`.
-#[unsafe(no_mangle)]
-pub extern "C" fn tree_run(
+pub fn tree_run(
     tree: &[u32],
     answers: &[u32],
     performed: &mut [u32],

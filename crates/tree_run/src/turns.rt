@@ -17,14 +17,14 @@ use crate::completions::{
 };
 
 // A row or none.
-#[derive(Clone, Copy)]
+#[derive(Drop)]
 pub struct Next {
     pub found: bool,
     pub row: u32,
 }
 
 // Into a row, or out of it with a completion.
-#[derive(Clone, Copy)]
+#[derive(Clone, Copy, Drop)]
 pub struct Place {
     pub down: bool,
     pub row: u32,
@@ -36,7 +36,7 @@ pub struct Place {
 // The turn performs the rows from `from` to before `to`, then those from `more` to before `end`. Then `asks` says how it goes on:
 // 0 to `place`; 1 by an answer into `yes` or out of `row`; 2 by an answer into `yes` or into `no`;
 // 3 by an answer into one of `no` cases, the first in source order closing at `yes`, or out of `row`.
-#[derive(Clone, Copy)]
+#[derive(Clone, Copy, Drop)]
 pub struct Turn {
     pub from: u32,
     pub to: u32,

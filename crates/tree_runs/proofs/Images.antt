@@ -93,6 +93,18 @@ module _ (Im : List ℕ → List ℕ → Type 0) (im_none : Im [] []) (im_both :
       on (break x i) (break y j) both_break = unfold then_on in h
       on (continue x i) (continue y j) both_continue = unfold then_on in h
       on (stop r) (stop s) both_stop = unfold then_on in h
+      on normal (break y j) e = elim e [ ]
+      on normal (continue y j) e = elim e [ ]
+      on normal (stop s) e = elim e [ ]
+      on (break x i) normal e = elim e [ ]
+      on (break x i) (continue y j) e = elim e [ ]
+      on (break x i) (stop s) e = elim e [ ]
+      on (continue x i) normal e = elim e [ ]
+      on (continue x i) (break y j) e = elim e [ ]
+      on (continue x i) (stop s) e = elim e [ ]
+      on (stop r) normal e = elim e [ ]
+      on (stop r) (break y j) e = elim e [ ]
+      on (stop r) (continue y j) e = elim e [ ]
 
   choose_alike : (y y' n n' : Answers → Completed) → AlikeRuns Im y y' → AlikeRuns Im n n' → AlikeRuns Im (choose y n) (choose y' n')
   unfolding choose completed

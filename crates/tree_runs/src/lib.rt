@@ -1,1 +1,2 @@
 #![tactic(auto)]
+

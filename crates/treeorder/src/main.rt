@@ -4,13 +4,13 @@
 use order::file::order_file;
 use program::{printed_bytes, read_all, table_bytes, write_printed};
 
-fn main() {
+fn main(rt: HostRuntime) {
     let mut file = table_bytes();
-    let input = read_all(b"treeorder", &mut file);
+    let input = read_all(&rt, b"treeorder", &mut file);
     if input.failed {
         return;
     }
     let mut out = printed_bytes();
     let written = order_file(&file[..input.count], &mut out);
-    write_printed(b"treeorder", &out, written);
+    write_printed(&rt, b"treeorder", &out, written);
 }

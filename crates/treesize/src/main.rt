@@ -4,13 +4,13 @@
 use preview::file::size_file;
 use program::{printed_bytes, read_all, table_bytes, write_printed};
 
-fn main() {
+fn main(rt: HostRuntime) {
     let mut file = table_bytes();
-    let input = read_all(b"treesize", &mut file);
+    let input = read_all(&rt, b"treesize", &mut file);
     if input.failed {
         return;
     }
     let mut out = printed_bytes();
     let written = size_file(&file[..input.count], &mut out);
-    write_printed(b"treesize", &out, written);
+    write_printed(&rt, b"treesize", &out, written);
 }

@@ -4,7 +4,7 @@
 pub const NONE: u32 = 65535;
 
 // The rows that are out, and the visits begun.
-#[derive(Clone, Copy)]
+#[derive(Clone, Copy, Drop)]
 pub struct Tally {
     pub rows: u32,
     pub visits: u32,
@@ -12,7 +12,7 @@ pub struct Tally {
 
 // The end of a value, so that it can be flattened without reading rows back: how many SEQ rows it ends in, how many instructions they count
 // together, and the place that its innermost value loads, if it is a load (a load is one row).
-#[derive(Clone, Copy)]
+#[derive(Clone, Copy, Drop)]
 pub struct Trailing {
     pub sequences: u32,
     pub instructions: u32,
@@ -20,7 +20,7 @@ pub struct Trailing {
 }
 
 // A refusal's code and place; or code 0 and what was found. `block` is the one that the value ends in; for a value terminal it is the fallthrough.
-#[derive(Clone, Copy)]
+#[derive(Clone, Copy, Drop)]
 pub struct ValueResult {
     pub code: u32,
     pub at: u32,

@@ -6,7 +6,9 @@
 ghost use Rattle.std.specs.Prelude.{◌≤◌, ◌<◌, ◌≡◌, length};
 
 use build::build_reactive_function;
-use libc::STDOUT_FILENO;
+use program::read_input;
+use std::fs::File;
+use std::io;
 use walk::Outcome;
 
 // A number, and where the next one begins.
@@ -201,46 +203,46 @@ fn replay(
 }
 
 // The number of differences, this vector's included. A vector that differs is printed.
-fn counted(differences: u32, number: u32, same: bool) -> u32 {
+fn counted(rt: &impl Print, differences: u32, number: u32, same: bool) -> io::Result<u32> {
     if same {
-        return differences;
+        return Ok(differences);
     }
-    io::write_all(STDOUT_FILENO, b"differs: ");
-    io::print_decimal(STDOUT_FILENO, number as u64);
-    io::write_all(STDOUT_FILENO, b"\n");
+    println!(rt; "differs: {number}")?;
     if differences < 4000000000 {
-        return differences + 1;
+        return Ok(differences + 1);
     }
-    differences
+    Ok(differences)
 }
 
-fn print_counts(vectors: u32, differences: u32, length: usize, at: usize) {
+fn print_counts(
+    rt: &impl Print,
+    vectors: u32,
+    differences: u32,
+    length: usize,
+    at: usize,
+) -> io::Result<()> {
     let left = if length < at { 0 } else { length - at };
-    io::print_decimal(STDOUT_FILENO, vectors as u64);
-    io::write_all(STDOUT_FILENO, b" vectors, ");
-    io::print_decimal(STDOUT_FILENO, differences as u64);
-    io::write_all(STDOUT_FILENO, b" differences, ");
-    io::print_decimal(STDOUT_FILENO, left as u64);
-    io::write_all(STDOUT_FILENO, b" bytes left\n");
+    println!(rt; "{vectors} vectors, {differences} differences, {left} bytes left")
 }
 
 fn replay_all(
+    rt: &impl Print,
     bytes: &[u8],
     words: &mut [u32; 16384],
     tree: &mut [u32; 16384],
     expected: &mut [u32; 16384],
-) {
+) -> io::Result<()> {
     let count = number_at(bytes, 0);
     let mut at = count.next;
     let mut differences: u32 = 0;
     let mut i: u32 = 0;
     while i < count.value {
         let replayed = replay(bytes, at, words, tree, expected);
-        differences = counted(differences, i, replayed.same);
+        differences = counted(rt, differences, i, replayed.same)?;
         at = replayed.next;
         i += 1;
     }
-    print_counts(i, differences, bytes.len(), at);
+    print_counts(rt, i, differences, bytes.len(), at)
 }
 
 // Each array comes from a function whose contract tells its length alone: a proof that sees the zeros would count them.
@@ -256,18 +258,18 @@ fn no_words() -> [u32; 16384]
     [0; 16384]
 }
 
-fn main() {
-    let name = b"vectors.bin";
-    let fd = os::open_read(name);
-    if fd < 0 {
-        os::fail(name);
-        return;
-    }
+fn main(rt: HostRuntime) -> io::Result<()> {
+    let mut opened = File::open(&rt, "vectors.bin")?;
     let mut bytes = file_bytes();
-    let count = io::read_full(fd, &mut bytes);
-    libc::close(fd);
+    let input = read_input(&mut opened, &mut bytes);
     let mut words = no_words();
     let mut tree = no_words();
     let mut expected = no_words();
-    replay_all(&bytes[..count], &mut words, &mut tree, &mut expected);
+    replay_all(
+        &rt,
+        &bytes[..input.count],
+        &mut words,
+        &mut tree,
+        &mut expected,
+    )
 }

@@ -1,0 +1,10 @@
+use native.Mathlib.Omega.{arith}
+use mathlib.Core.Path.{refl}
+use Rattle.text.proofs.PrintsLaws.{refusal_written, written_as}
+use Rattle.order.proofs.file.write_refusal.Goals as goal
+
+pub returns : goal.returns
+returns c =
+    let w = c.write.ensures in
+    let f = c.ranges in
+    written_as refl (omega arith) (refusal_written c.args.code c.args.at _ c.requires f.code.fits f.at.fits w.0 w.1)
