@@ -1,9 +1,8 @@
 //! Where the library is: the folder that REACTIVE_BUILD_DIR names; else `lib` beside this crate, as in the package; else target/staticlib of
-//! the repository, where `./run library` puts it. Linked is libreactive.a, which has everything; where it is not there, every archive of
-//! that folder. One that is older than another archive beside it is not linked: it would not be what was built last.
+//! the repository, where `./run library` puts it. Linked is its libreactive.a, which has everything.
 
 use std::env;
-use std::path::{Path, PathBuf};
+use std::path::PathBuf;
 
 fn main() {
     println!("cargo::rerun-if-env-changed=REACTIVE_BUILD_DIR");
@@ -15,17 +14,15 @@ fn main() {
         Some(named) => from_where_cargo_was_started(PathBuf::from(named)),
         None => beside(),
     };
-    println!("cargo::rustc-link-search=native={}", folder.display());
-    let archives = archives(&folder);
+    let archive = folder.join("libreactive.a");
     assert!(
-        !archives.is_empty(),
+        archive.is_file(),
         "no libreactive.a in {}: `./run library` writes it, or REACTIVE_BUILD_DIR names its folder",
         folder.display()
     );
-    for name in archives {
-        println!("cargo::rerun-if-changed={}", folder.join(format!("lib{name}.a")).display());
-        println!("cargo::rustc-link-lib=static={name}");
-    }
+    println!("cargo::rerun-if-changed={}", archive.display());
+    println!("cargo::rustc-link-search=native={}", folder.display());
+    println!("cargo::rustc-link-lib=static=reactive");
 }
 
 /// This script is run in the crate's own folder.
@@ -42,21 +39,4 @@ fn beside() -> PathBuf {
     let own = PathBuf::from(env::var_os("CARGO_MANIFEST_DIR").expect("cargo sets it"));
     let packed = own.join("../lib");
     if packed.join("libreactive.a").is_file() { packed } else { own.join("../../target/staticlib") }
-}
-
-/// The one archive, or where it is not there every archive of the folder.
-fn archives(folder: &Path) -> Vec<String> {
-    println!("cargo::rerun-if-changed={}", folder.display());
-    let files = folder.read_dir().into_iter().flatten().flatten().filter_map(|file| file.file_name().into_string().ok());
-    let mut names: Vec<String> = files.filter_map(|name| Some(name.strip_prefix("lib")?.strip_suffix(".a")?.to_string())).collect();
-    names.sort();
-    if !names.iter().any(|name| name == "reactive") {
-        return names;
-    }
-    let written = |name: &str| folder.join(format!("lib{name}.a")).metadata().and_then(|file| file.modified()).ok();
-    for name in names {
-        let is_newer = written(&name) > written("reactive");
-        assert!(!is_newer, "{}: lib{name}.a is newer than libreactive.a: `./run library` makes it anew", folder.display());
-    }
-    vec!["reactive".into()]
 }

@@ -11,9 +11,9 @@ use Rattle.definition.specs.PlainLoops.{PlainLoops, without_switch}
 use Rattle.definition.specs.RunLaw.{RunLaw, SwitchLaw}
 use Rattle.walk.specs.declared.Outcome.{Outcome}
 use Rattle.build.proofs.build_reactive_function.Statement as first_entry
-use Rattle.build.proofs.build_reactive_function.Met as first-proved
-use Rattle.build.proofs.build_language.Statement as language-entry
-use Rattle.build.proofs.build_language.Met as language-proved
+use Rattle.build.proofs.build_reactive_function.Met as first_proved
+use Rattle.build.proofs.build_language.Statement as language_entry
+use Rattle.build.proofs.build_language.Met as language_proved
 use Rattle.build.proofs.Demand3.{entry_law}
 use Rattle.theorems.specs.Call.{Lent, Asked, Learnt, given, due}
 use Rattle.theorems.specs.Answered.{Answered}

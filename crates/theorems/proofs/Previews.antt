@@ -16,15 +16,15 @@ use Rattle.preview.specs.Entry.{numbers}
 use Rattle.preview.proofs.preview.Statement as stated
 use Rattle.preview.proofs.preview.Met as proved
 use Rattle.preview.proofs.preview.Reads as entry
-use Rattle.preview.proofs.preview_language.Statement as language-stated
-use Rattle.preview.proofs.preview_language.Met as language-proved
-use Rattle.preview.proofs.preview_language.Reads as language-entry
-use Rattle.preview.proofs.reactive_preview.Statement as export-stated
-use Rattle.preview.proofs.reactive_preview.Met as export-proved
+use Rattle.preview.proofs.preview_language.Statement as language_stated
+use Rattle.preview.proofs.preview_language.Met as language_proved
+use Rattle.preview.proofs.preview_language.Reads as language_entry
+use Rattle.preview.proofs.reactive_preview.Statement as export_stated
+use Rattle.preview.proofs.reactive_preview.Met as export_proved
 use Rattle.preview.proofs.reactive_preview.Reads as export
-use Rattle.preview.proofs.reactive_preview_language.Statement as language-export-stated
-use Rattle.preview.proofs.reactive_preview_language.Met as language-export-proved
-use Rattle.preview.proofs.reactive_preview_language.Reads as language-export
+use Rattle.preview.proofs.reactive_preview_language.Statement as language_export_stated
+use Rattle.preview.proofs.reactive_preview_language.Met as language_export_proved
+use Rattle.preview.proofs.reactive_preview_language.Reads as language_export
 
 -- ---- the entries: the words alone in, and nothing is asked
 

@@ -20,15 +20,15 @@ use Rattle.text.specs.declared.write.Written.TheVariants.{Bytes}
 use Rattle.text.proofs.AnswerLaws.{answered_one}
 use Rattle.text.proofs.ReadingLaws.{is_answered}
 use Rattle.text.proofs.PrintsLaws.{file_prints, prints_one}
-use Rattle.text.proofs.read.read.Statement as read-stated
-use Rattle.text.proofs.read.read.Met as read-proved
-use Rattle.text.proofs.read.read.Reads as read-entry
-use Rattle.text.proofs.read.read_as.Statement as read-as-stated
-use Rattle.text.proofs.read.read_as.Met as read-as-proved
-use Rattle.text.proofs.read.read_as.Reads as read-as-entry
-use Rattle.text.proofs.write.write.Statement as write-stated
-use Rattle.text.proofs.write.write.Met as write-proved
-use Rattle.text.proofs.write.write.Reads as write-entry
+use Rattle.text.proofs.read.read.Statement as read_stated
+use Rattle.text.proofs.read.read.Met as read_proved
+use Rattle.text.proofs.read.read.Reads as read_entry
+use Rattle.text.proofs.read.read_as.Statement as read_as_stated
+use Rattle.text.proofs.read.read_as.Met as read_as_proved
+use Rattle.text.proofs.read.read_as.Reads as read_as_entry
+use Rattle.text.proofs.write.write.Statement as write_stated
+use Rattle.text.proofs.write.write.Met as write_proved
+use Rattle.text.proofs.write.write.Reads as write_entry
 use Rattle.definition.specs.Around.{Rule}
 use Rattle.control.specs.declared.rule.Rule as code
 use Rattle.control.specs.AroundAbstraction.{rule_of}
@@ -37,41 +37,41 @@ use Rattle.convert.specs.Convert.{old_to_new, new_to_old}
 use Rattle.convert.proofs.CodeLaws.{new_fits, old_fits}
 use Rattle.build.specs.Prints.{built_text}
 use Rattle.build.specs.Prints as tree
-use Rattle.build.proofs.file.build_file.Statement as build-stated
-use Rattle.build.proofs.file.build_file.Met as build-proved
-use Rattle.build.proofs.file.build_file.Reads as build-entry
+use Rattle.build.proofs.file.build_file.Statement as build_stated
+use Rattle.build.proofs.file.build_file.Met as build_proved
+use Rattle.build.proofs.file.build_file.Reads as build_entry
 use Rattle.preview.specs.Prints.{sized_text}
 use Rattle.preview.specs.Prints as size
-use Rattle.preview.proofs.file.size_file.Statement as size-stated
-use Rattle.preview.proofs.file.size_file.Met as size-proved
-use Rattle.preview.proofs.file.size_file.Reads as size-entry
+use Rattle.preview.proofs.file.size_file.Statement as size_stated
+use Rattle.preview.proofs.file.size_file.Met as size_proved
+use Rattle.preview.proofs.file.size_file.Reads as size_entry
 use Rattle.dot.specs.Prints.{drawn_text}
 use Rattle.dot.specs.Prints as drawing
-use Rattle.dot.proofs.file.draw_file.Statement as draw-stated
-use Rattle.dot.proofs.file.draw_file.Met as draw-proved
-use Rattle.dot.proofs.file.draw_file.Reads as draw-entry
+use Rattle.dot.proofs.file.draw_file.Statement as draw_stated
+use Rattle.dot.proofs.file.draw_file.Met as draw_proved
+use Rattle.dot.proofs.file.draw_file.Reads as draw_entry
 use Rattle.tree_check.specs.Prints.{check_text}
-use Rattle.tree_check.proofs.file.check_file.Statement as check-stated
-use Rattle.tree_check.proofs.file.check_file.Met as check-proved
-use Rattle.tree_check.proofs.file.check_file.Reads as check-entry
+use Rattle.tree_check.proofs.file.check_file.Statement as check_stated
+use Rattle.tree_check.proofs.file.check_file.Met as check_proved
+use Rattle.tree_check.proofs.file.check_file.Reads as check_entry
 use Rattle.tree_run.specs.Given.{file_run, FileGives}
 use Rattle.tree_run.specs.Prints.{most_printed, run_text}
 use Rattle.tree_run.proofs.OneRun.{is_gives, gives_is}
-use Rattle.tree_run.proofs.file.run_file.Statement as run-stated
-use Rattle.tree_run.proofs.file.run_file.Met as run-proved
-use Rattle.tree_run.proofs.file.run_file.Reads as run-entry
+use Rattle.tree_run.proofs.file.run_file.Statement as run_stated
+use Rattle.tree_run.proofs.file.run_file.Met as run_proved
+use Rattle.tree_run.proofs.file.run_file.Reads as run_entry
 use Rattle.order.specs.Prints.{order_text}
 use Rattle.order.specs.Prints as order
-use Rattle.order.proofs.file.order_file.Statement as order-stated
-use Rattle.order.proofs.file.order_file.Met as order-proved
-use Rattle.order.proofs.file.order_file.Reads as order-entry
+use Rattle.order.proofs.file.order_file.Statement as order_stated
+use Rattle.order.proofs.file.order_file.Met as order_proved
+use Rattle.order.proofs.file.order_file.Reads as order_entry
 use Rattle.convert.specs.Prints.{new_text, old_text}
-use Rattle.convert.proofs.file.print_new.Statement as new-stated
-use Rattle.convert.proofs.file.print_new.Met as new-proved
-use Rattle.convert.proofs.file.print_new.Reads as new-entry
-use Rattle.convert.proofs.file.print_old.Statement as old-stated
-use Rattle.convert.proofs.file.print_old.Met as old-proved
-use Rattle.convert.proofs.file.print_old.Reads as old-entry
+use Rattle.convert.proofs.file.print_new.Statement as new_stated
+use Rattle.convert.proofs.file.print_new.Met as new_proved
+use Rattle.convert.proofs.file.print_new.Reads as new_entry
+use Rattle.convert.proofs.file.print_old.Statement as old_stated
+use Rattle.convert.proofs.file.print_old.Met as old_proved
+use Rattle.convert.proofs.file.print_old.Reads as old_entry
 
 -- ---- the reader of a table's file
 

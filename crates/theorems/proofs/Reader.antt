@@ -18,9 +18,9 @@ use Rattle.convert.specs.Write.{table_text}
 use Rattle.convert.specs.Read.{table_read}
 use Rattle.convert.proofs.PlacedLaws.{good_read}
 use Rattle.convert.proofs.RoomLaws.{half_enough, most_enough}
-use Rattle.convert.proofs.table_read.table_read.Statement as read-export-stated
-use Rattle.convert.proofs.table_read.table_read.Met as read-export-proved
-use Rattle.convert.proofs.table_read.table_read.Reads as read-export
+use Rattle.convert.proofs.table_read.table_read.Statement as read_export_stated
+use Rattle.convert.proofs.table_read.table_read.Met as read_export_proved
+use Rattle.convert.proofs.table_read.table_read.Reads as read_export
 use Rattle.theorems.proofs.Requests.{the_writers_text_is_the_good_file}
 
 pub table_read_meets_its_contract : {M : Type 1} → read_export_stated.statement M

@@ -8,8 +8,8 @@ use denote.Ref.{Bor}
 use Rattle.table.specs.Check.{checked}
 use Rattle.table.specs.Answer.{code_of, place_of}
 use Rattle.plain.specs.Plainness.{plainness_of}
-use Rattle.plain.proofs.table_plain.Statement as export-stated
-use Rattle.plain.proofs.table_plain.Met as export-proved
+use Rattle.plain.proofs.table_plain.Statement as export_stated
+use Rattle.plain.proofs.table_plain.Met as export_proved
 use Rattle.plain.proofs.table_plain.Reads as export
 
 pub the_plain_export_meets_its_contract : {M : Type 1} → export_stated.statement M

@@ -15,21 +15,21 @@ use Rattle.table.specs.Table.{Table, table_of}
 use Rattle.table.specs.Answer as table
 use Rattle.table.specs.declared.Checked.{Checked}
 use Rattle.table.proofs.PromiseLaws.{promised}
-use Rattle.table.proofs.Checked.code.Statement as code-stated
-use Rattle.table.proofs.Checked.code.Met as code-proved
-use Rattle.table.proofs.Checked.code.Reads as code-method
-use Rattle.table.proofs.Checked.place.Statement as place-stated
-use Rattle.table.proofs.Checked.place.Met as place-proved
-use Rattle.table.proofs.Checked.place.Reads as place-method
-use Rattle.table.proofs.Checked.is_accepted.Statement as accepted-stated
-use Rattle.table.proofs.Checked.is_accepted.Met as accepted-proved
-use Rattle.table.proofs.Checked.is_accepted.Reads as accepted-method
-use Rattle.table_check.proofs.check.Statement as check-stated
-use Rattle.table_check.proofs.check.Met as check-proved
-use Rattle.table_check.proofs.check.Reads as check-entry
-use Rattle.table_check.proofs.table_check.Statement as check-export-stated
-use Rattle.table_check.proofs.table_check.Met as check-export-proved
-use Rattle.table_check.proofs.table_check.Reads as check-export
+use Rattle.table.proofs.Checked.code.Statement as code_stated
+use Rattle.table.proofs.Checked.code.Met as code_proved
+use Rattle.table.proofs.Checked.code.Reads as code_method
+use Rattle.table.proofs.Checked.place.Statement as place_stated
+use Rattle.table.proofs.Checked.place.Met as place_proved
+use Rattle.table.proofs.Checked.place.Reads as place_method
+use Rattle.table.proofs.Checked.is_accepted.Statement as accepted_stated
+use Rattle.table.proofs.Checked.is_accepted.Met as accepted_proved
+use Rattle.table.proofs.Checked.is_accepted.Reads as accepted_method
+use Rattle.table_check.proofs.check.Statement as check_stated
+use Rattle.table_check.proofs.check.Met as check_proved
+use Rattle.table_check.proofs.check.Reads as check_entry
+use Rattle.table_check.proofs.table_check.Statement as check_export_stated
+use Rattle.table_check.proofs.table_check.Met as check_export_proved
+use Rattle.table_check.proofs.table_check.Reads as check_export
 use Rattle.definition.specs.Around.{Rule, rust, language, Around, is_switch_inside, kind_by}
 use Rattle.definition.specs.Relabeled.{relabeled}
 use Rattle.definition.specs.Result.{already_scheduled, unschedule_out_of_order, maybe_throw_in_value_terminal}
@@ -78,12 +78,12 @@ use Rattle.tree_grammar.proofs.Words.{words_answered, words_answer_is}
 use Rattle.tree_grammar.proofs.BuiltReads.{built_answered}
 use Rattle.tree_check.specs.Found.{tree_checked}
 use Rattle.tree_check.specs.declared.TreeChecked.{TreeChecked}
-use Rattle.tree_check.proofs.check_tree.Statement as tree-stated
-use Rattle.tree_check.proofs.check_tree.Met as tree-proved
-use Rattle.tree_check.proofs.check_tree.Reads as check-tree
-use Rattle.tree_check.proofs.tree_check.Statement as tree-export-stated
-use Rattle.tree_check.proofs.tree_check.Met as tree-export-proved
-use Rattle.tree_check.proofs.tree_check.Reads as tree-export
+use Rattle.tree_check.proofs.check_tree.Statement as tree_stated
+use Rattle.tree_check.proofs.check_tree.Met as tree_proved
+use Rattle.tree_check.proofs.check_tree.Reads as check_tree
+use Rattle.tree_check.proofs.tree_check.Statement as tree_export_stated
+use Rattle.tree_check.proofs.tree_check.Met as tree_export_proved
+use Rattle.tree_check.proofs.tree_check.Reads as tree_export
 use Rattle.text.specs.Ascii.{ascii}
 use Rattle.text.specs.Decimal.{digits_of, decimal}
 use Rattle.text.proofs.DecimalLaws.{steps}
@@ -91,18 +91,18 @@ use Rattle.walk.specs.declared.Outcome.{Outcome}
 use Rattle.build.specs.Entry.{outcome}
 use Rattle.walk.proofs.CheckedLaws.{checked_table}
 use Rattle.build.proofs.Demand3.{entry_tree, entry_law, language_law}
-use Rattle.build.proofs.build_reactive_function.Statement as entry-stated
-use Rattle.build.proofs.build_reactive_function.Met as entry-proved
+use Rattle.build.proofs.build_reactive_function.Statement as entry_stated
+use Rattle.build.proofs.build_reactive_function.Met as entry_proved
 use Rattle.build.proofs.build_reactive_function.Reads as entry
-use Rattle.build.proofs.reactive_build.Statement as export-stated
-use Rattle.build.proofs.reactive_build.Met as export-proved
+use Rattle.build.proofs.reactive_build.Statement as export_stated
+use Rattle.build.proofs.reactive_build.Met as export_proved
 use Rattle.build.proofs.reactive_build.Reads as export
-use Rattle.build.proofs.build_language.Statement as language-stated
-use Rattle.build.proofs.build_language.Met as language-proved
-use Rattle.build.proofs.build_language.Reads as language-entry
-use Rattle.build.proofs.reactive_build_language.Statement as language-export-stated
-use Rattle.build.proofs.reactive_build_language.Met as language-export-proved
-use Rattle.build.proofs.reactive_build_language.Reads as language-export
+use Rattle.build.proofs.build_language.Statement as language_stated
+use Rattle.build.proofs.build_language.Met as language_proved
+use Rattle.build.proofs.build_language.Reads as language_entry
+use Rattle.build.proofs.reactive_build_language.Statement as language_export_stated
+use Rattle.build.proofs.reactive_build_language.Met as language_export_proved
+use Rattle.build.proofs.reactive_build_language.Reads as language_export
 use Rattle.theorems.specs.Answered.{is_number, acceptance}
 use Rattle.theorems.specs.LabelsThere.{LabelsThere}
 use Rattle.theorems.specs.Parted.{Parted, Unnamed, AcceptedAlike}

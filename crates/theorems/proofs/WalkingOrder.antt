@@ -19,18 +19,18 @@ use Rattle.renaming.proofs.OrderLaws.{walking_order_lem, rearranged_checked, rea
 use Rattle.renaming.proofs.Canonical.{one_rearrangement}
 use Rattle.order.specs.Entry.{rearranging, restoring}
 use Rattle.order.specs.declared.Moved.{Moved}
-use Rattle.order.proofs.rearrange.Statement as rearrange-stated
-use Rattle.order.proofs.rearrange.Met as rearrange-proved
-use Rattle.order.proofs.rearrange.Reads as rearrange-entry
-use Rattle.order.proofs.restore.Statement as restore-stated
-use Rattle.order.proofs.restore.Met as restore-proved
-use Rattle.order.proofs.restore.Reads as restore-entry
-use Rattle.order.proofs.blocks_rearrange.Statement as export-rearrange-stated
-use Rattle.order.proofs.blocks_rearrange.Met as export-rearrange-proved
-use Rattle.order.proofs.blocks_rearrange.Reads as export-rearrange
-use Rattle.order.proofs.blocks_restore.Statement as export-restore-stated
-use Rattle.order.proofs.blocks_restore.Met as export-restore-proved
-use Rattle.order.proofs.blocks_restore.Reads as export-restore
+use Rattle.order.proofs.rearrange.Statement as rearrange_stated
+use Rattle.order.proofs.rearrange.Met as rearrange_proved
+use Rattle.order.proofs.rearrange.Reads as rearrange_entry
+use Rattle.order.proofs.restore.Statement as restore_stated
+use Rattle.order.proofs.restore.Met as restore_proved
+use Rattle.order.proofs.restore.Reads as restore_entry
+use Rattle.order.proofs.blocks_rearrange.Statement as export_rearrange_stated
+use Rattle.order.proofs.blocks_rearrange.Met as export_rearrange_proved
+use Rattle.order.proofs.blocks_rearrange.Reads as export_rearrange
+use Rattle.order.proofs.blocks_restore.Statement as export_restore_stated
+use Rattle.order.proofs.blocks_restore.Met as export_restore_proved
+use Rattle.order.proofs.blocks_restore.Reads as export_restore
 
 -- ---- the entries: for any words and buffers they give what the definitions give, every lent word
 

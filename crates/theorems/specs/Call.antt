@@ -8,7 +8,7 @@ use Rattle.definition.specs.Build as definition
 use Rattle.walk.specs.declared.Outcome.{Outcome}
 use Rattle.build.specs.Entry.{outcome}
 use Rattle.build.proofs.build_reactive_function.Reads as first_entry
-use Rattle.build.proofs.build_language.Reads as language-entry
+use Rattle.build.proofs.build_language.Reads as language_entry
 
 -- what a call lends, before or after it: the words, the buffer for the tree, the buffer for the index
 abbrev pub Lent : Type 0
