@@ -19,7 +19,6 @@ use Rattle.definition.specs.Output.{Output}
 use Rattle.machine.specs.Machine as machine
 use Rattle.definition.specs.Result.{ok}
 use Rattle.definition.specs.Statement.{cases_last_first}
-use Rattle.definition.specs.Tree.{Row}
 use Rattle.statements.specs.declared.plan.Position.{Position}
 use Rattle.statements.specs.declared.plan.Frame.{Frame}
 use Rattle.statements.specs.declared.plan.Change.{Change}

@@ -32,7 +32,8 @@ overflow_add-p c = omega (arith, c.requires.visits.rows, c.requires.visits.count
 
 pub visit_terminal-requires : goal.visit_terminal-requires
 visit_terminal-requires c =
-    record { entered = rw c.advance-p.ensures (record {
+    record {
+      entered = rw c.advance-p.ensures (record {
         promise = c.requires.visits.promise;
         block = c.requires.visits.block;
         depth = c.if-p-ge128.false;
@@ -46,7 +47,10 @@ visit_terminal-requires c =
         );
         count = omega
             (arith, c.put_instructions-rows.ensures.more, c.requires.visits.count);
-      }); aim_below = c.requires.aim_below; fact = rw c.advance-p.ensures (λ e. c.if-code_at-eq0.false (c.code_at.ensures ∙ e)) }
+      });
+      aim_below = c.requires.aim_below;
+      fact = rw c.advance-p.ensures (λ e. c.if-code_at-eq0.false (c.code_at.ensures ∙ e));
+    }
 
 pub returns : goal.returns
 unfolding has

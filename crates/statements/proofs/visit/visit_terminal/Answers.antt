@@ -18,9 +18,9 @@ visit_scope-requires c = record { entered = c.requires.entered; bound = omega (a
 -- the two ways into the arm of the values' codes
 came : (c : In-13-1) → (c.code_at.result ≡ 17) ⊎ (Rest c.code_at.result × (c.code_at.result < 16))
 came c = elim c.in-13-1.branch [
-    | in-17-1 w ↦ inl w.in-17-1.keys14
-    | in_default+then-this-lt16 w ↦ inr (w.in_default-1.rest, w.if-this-lt16-1.true)
-  ]
+  | in-17-1 w ↦ inl w.in-17-1.keys14
+  | in_default+then-this-lt16 w ↦ inr (w.in_default-1.rest, w.if-this-lt16-1.true)
+]
 
 pub visit_value-requires : goal.visit_value-requires
 visit_value-requires c = record { entered = c.requires.entered; block_value = ap value_code (sym c.code_at.ensures) ∙ (value_came _ (came c)).0 }
