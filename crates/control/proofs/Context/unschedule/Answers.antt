@@ -1,9 +1,9 @@
 -- `control::Context::unschedule` meets its contract. The blocks of the last entry are among the 1,024. The case split is that of the four targets, a loop's by whether
 -- it owns its loop block; ContextLaws (`left`, `unscheduled`) makes the definition's step of the fields.
-use mathlib.Core.Logic.{⊎_elim}
 use Rattle.definition.specs.Context.{unscheduled_by, remove}
 use Rattle.control.proofs.ContextLaws.{left, unscheduled}
 use Rattle.control.proofs.Context.unschedule.Goals as goal
+use Rattle.control.proofs.Context.unschedule.Goals.{in-If, in-Switch, in-Case, in-Loop+then-last, in-Loop+else-last}
 
 pub bounds-scheduled-block : goal.bounds-scheduled-block
 bounds-scheduled-block c = (rw c.in-If.is at c.requires.named)
@@ -27,6 +27,10 @@ pub returns : goal.returns
 unfolding unscheduled_by remove
 returns c =
     let given = unscheduled c.args.self c.args.last c.requires in
-    ⊎_elim (λ w. left (rw w.1.given.1 w.3) given) (λ v. ⊎_elim (λ w. left (rw w.1.given.1 w.3) given)
-    (λ v. ⊎_elim (λ w. left (rw w.1.given.1 w.3) given) (λ v. ⊎_elim (λ w. left (rw (w.1.given.1, w.3.taken) w.4) given)
-    (λ w. left (rw (w.1.given.1, w.3.left) w.4) given) v) v) v) c.match-target.came
+    elim c.match-target.branch [
+      | in-If w ↦ left (rw w.in-If.is w.scheduled-is) given
+      | in-Switch w ↦ left (rw w.in-Switch.is w.scheduled-is) given
+      | in-Case w ↦ left (rw w.in-Case.is w.scheduled-is) given
+      | in-Loop+then-last w ↦ left (rw (w.in-Loop.is, w.if-last.true) w.scheduled-is) given
+      | in-Loop+else-last w ↦ left (rw (w.in-Loop.is, w.if-last.false) w.scheduled-is) given
+    ]
