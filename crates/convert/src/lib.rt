@@ -100,12 +100,7 @@ pub fn new_to_old(file: &[u8], text: &mut [u8]) -> Placed
 }
 
 // The same for callers in C or Rust: the code, and the other two by reference.
-pub fn table_old_to_new(
-    file: &[u8],
-    text: &mut [u8],
-    at: &mut u32,
-    size: &mut usize,
-) -> u32
+pub fn table_old_to_new(file: &[u8], text: &mut [u8], at: &mut u32, size: &mut usize) -> u32
     ensures { record { code = result; at = at.new; length = size.new; buffer = text.new } ≡ old_to_new file.now (length text.old) }
 {
     let converted = old_to_new(file, text);
@@ -114,12 +109,7 @@ pub fn table_old_to_new(
     converted.code
 }
 
-pub fn table_new_to_old(
-    file: &[u8],
-    text: &mut [u8],
-    at: &mut u32,
-    size: &mut usize,
-) -> u32
+pub fn table_new_to_old(file: &[u8], text: &mut [u8], at: &mut u32, size: &mut usize) -> u32
     ensures { record { code = result; at = at.new; length = size.new; buffer = text.new } ≡ new_to_old file.now (length text.old) }
 {
     let converted = new_to_old(file, text);

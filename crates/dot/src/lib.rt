@@ -26,12 +26,7 @@ pub fn dot(words: &[u32], text: &mut [u8]) -> Placed
 }
 
 // The same for callers in C or Rust: the code, and the other two by reference.
-pub fn blocks_to_dot(
-    words: &[u32],
-    text: &mut [u8],
-    at: &mut u32,
-    size: &mut usize,
-) -> u32
+pub fn blocks_to_dot(words: &[u32], text: &mut [u8], at: &mut u32, size: &mut usize) -> u32
     ensures { record { code = result; at = at.new; length = size.new; buffer = text.new } ≡ drawn words.now (length text.old) }
 {
     let drawn = dot(words, text);

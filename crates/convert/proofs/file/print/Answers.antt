@@ -6,7 +6,7 @@ pub returns-then-code-ne0 : goal.returns-then-code-ne0
 returns-then-code-ne0 c =
     let w = c.write.ensures in
     let f = c.ranges in
-    refusal_printing _ c.if-code-ne0.true (refusal_written c.args.code c.args.at _ c.if-code-ne0.true f.code.fits f.at.fits w.0 w.1)
+    refusal_printing _ c.if-code-ne0.true (refusal_written c.args.code c.args.at _ c.if-code-ne0.true f.code.fits f.at.fits w.value w.out_after)
 
 pub returns : goal.returns
 returns c = text_printing _ _ c.if-code-ne0.false c.requires

@@ -3,4 +3,4 @@ use Rattle.text.proofs.WriteLaws.{wrote_then}
 use Rattle.convert.proofs.written_tables.write_part.Goals as goal
 
 pub returns : goal.returns
-returns c = record { wrote = wrote_then c.write_names-at.ensures c.write_rows.ensures.wrote; upper_bound = omega (arith, c.write_names-at.ensures.long, c.write_rows.ensures.upper_bound, (c.requires.names_len_bound, (c.requires.rows_bound, (c.requires.columns_le_stride, (c.requires.stride_bound, (c.requires.stride_in_bounds, c.requires.start_bound)))))) }
+returns c = record { wrote = wrote_then c.write_names-at.ensures c.write_rows.ensures.wrote; upper_bound = omega (arith, c.write_names-at.ensures.long, c.write_rows.ensures.upper_bound) }

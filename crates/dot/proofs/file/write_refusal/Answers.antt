@@ -5,4 +5,4 @@ pub returns : goal.returns
 returns c =
     let w = c.write.ensures in
     let f = c.ranges in
-    refusal_written c.args.code c.args.at _ c.requires f.code.fits f.at.fits w.0 w.1
+    refusal_written c.args.code c.args.at _ c.requires f.code.fits f.at.fits w.value w.out_after

@@ -23,7 +23,7 @@ pub write_line-at-requires : goal.write_line-at-requires
 write_line-at-requires c =
     let few = c.requires.promise.sized.limited.blocks in
     let lines = few_lines c.requires.promise c.named_at-named.ensures in
-    omega (arith, c.target.ensures.there, few, lines, c.loop-k-test.true, c.loop-k.invariant.room, (c.requires.row_bound, c.requires.start_bound))
+    omega (arith, c.target.ensures.there, few, lines, c.loop-k-test.true, c.loop-k.invariant.room)
 
 pub overflow_add-k : goal.overflow_add-k
 overflow_add-k c = omega (arith, c.loop-k-test.true, few_lines c.requires.promise c.named_at-named.ensures)

@@ -17,7 +17,7 @@ pub write_row-at-requires : goal.write_row-at-requires
 write_row-at-requires c =
     let few = c.requires.promise.sized.limited.blocks in
     let below = rw c.block_count-rows.ensures at c.loop-row-test.true in
-    (c.requires.promise, (below, omega (arith, below, few, c.loop-row.invariant.room, c.requires.start_bound)))
+    record { promise = c.requires.promise; row_bound = below; start_bound = omega (arith, below, few, c.loop-row.invariant.room, c.requires.start_bound) }
 
 pub overflow_add-row : goal.overflow_add-row
 overflow_add-row c = omega (arith, c.loop-row-test.true, c.block_count-rows.ensures, c.requires.promise.sized.limited.blocks)

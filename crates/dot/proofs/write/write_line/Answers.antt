@@ -9,7 +9,7 @@ write_bytes-target-requires c = omega (arith, c.write_bytes-name.ensures.long, c
 pub write_number-end-requires : goal.write_number-end-requires
 write_number-end-requires c =
     let four = decimal_ten c.args.from (omega (arith, c.requires.from_bound)) in
-    omega (arith, c.write_bytes-name.ensures.long, c.write_number-arrow.ensures.long, c.write_bytes-target.ensures.long, four, (c.requires.from_bound, (c.requires.to_bound, c.requires.start_bound)))
+    omega (arith, c.write_bytes-name.ensures.long, c.write_number-arrow.ensures.long, c.write_bytes-target.ensures.long, four)
 
 pub write_bytes-requires : goal.write_bytes-requires
 write_bytes-requires c =

@@ -18,7 +18,7 @@ target-requires c = record { promise = c.requires.promise; names = c.named_at-na
 pub name_block-found-requires : goal.name_block-found-requires
 name_block-found-requires c =
     let I = c.loop-k.invariant.2 in
-    (I.queue, omega (arith, c.target.ensures.there, I.long, c.requires.list_len))
+    record { queue = I.queue; block_in_bounds = omega (arith, c.target.ensures.there, I.long, c.requires.list_len) }
 
 pub loop-k-preserved : goal.loop-k-preserved
 loop-k-preserved c =

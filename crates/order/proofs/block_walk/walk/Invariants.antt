@@ -9,7 +9,7 @@ use Rattle.order.proofs.WalkLaws.{Walked}
 use Rattle.order.proofs.block_walk.walk.Given as goal
 
 abbrev pub invariant-loop-place : goal.invariant-loop-place
-invariant-loop-place l = Walked (table_of l.words) (block_count l.words) ((table_of l.words).initial ∷ []) l.list l.new l.found l.place × (length l.new ≡ length l.initial.new)
+invariant-loop-place l = Walked (table_of l.words) (block_count l.words) ((table_of l.words).entry ∷ []) l.list l.new l.found l.place × (length l.new ≡ length l.initial.new)
 
 abbrev pub decreases-loop-place : goal.decreases-loop-place
 decreases-loop-place l = block_count l.words - l.place
