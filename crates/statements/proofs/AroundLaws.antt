@@ -11,10 +11,9 @@ use lib.ListN.{get_or}
 use Rattle.table.specs.Table.{table_of, terminal_at, unless_none}
 use Rattle.definition.specs.Around.{Rule, rust, language, Around, Enclosing, a_loop, a_switch, another, is_label, kind_by, unnamed, break_kind_in, break_unnamed, continue_unnamed}
 use Rattle.definition.specs.Context.{Resolution}
-use Rattle.machine.specs.Goal.{Goal, goals, break_goal, continue_goal, surveyed_break, surveyed_continue}
+use Rattle.machine.specs.Goal.{Goal, break_goal, continue_goal, surveyed_break, surveyed_continue}
 use Rattle.definition.specs.Tree.{Kind, implicit, labeled, unlabeled, kind_number}
 use Rattle.machine.specs.Machine.{enclosing_by, enclosings, around_of}
-use Rattle.machine.specs.Machine as machine
 use Rattle.machine.specs.Survey.{Survey, unseen, pass, survey}
 use Rattle.machine.proofs.Goals.{break_surveyed, continue_surveyed, break_rust, continue_rust}
 use Rattle.definition.proofs.Steps.{true_false}
@@ -26,7 +25,7 @@ use Rattle.control.specs.declared.around.Aim.TheVariants as aim
 use Rattle.control.specs.AroundAbstraction.{aim_of, FoundBelow, AimBelow}
 use Rattle.control.specs.Pass.{asks_around, passed_from, target_sought, unseen_by}
 use Rattle.statements.specs.declared.plan.Frame.{Frame}
-use Rattle.statements.specs.Plans.{frame_of, no_frame, frames_of}
+use Rattle.statements.specs.Plans.{no_frame, frames_of}
 use Rattle.statements.specs.declared.search.Jump.{Jump}
 use Rattle.statements.specs.declared.search.Jump.TheVariants as jump
 use Rattle.statements.specs.Search.{asked_of, asks_of, goal_by, surveyed_by, enough_for, known_by}

@@ -23,7 +23,7 @@ use Rattle.machine.proofs.Goals.{break_goal_lem}
 use Rattle.machine.specs.Machine as machine
 use Rattle.definition.specs.Result.{Result, ok, ◌>>=◌}
 use Rattle.definition.specs.Statement.{visit_break}
-use Rattle.definition.specs.Tree.{Row, row, Statement}
+use Rattle.definition.specs.Tree.{row, Statement}
 use Rattle.control.specs.declared.around.Aim.{Aim}
 use Rattle.control.specs.AroundAbstraction.{aim_of}
 use Rattle.values.specs.Rows.{Written}
@@ -31,7 +31,7 @@ use Rattle.statements.specs.declared.jump.Jumped.{Jumped}
 use Rattle.statements.specs.declared.plan.Position.{Position}
 use Rattle.statements.specs.declared.plan.Change.TheVariants.{Nothing}
 use Rattle.statements.specs.declared.plan.Plan.{Plan}
-use Rattle.statements.specs.Plans.{frame_of, refusing, nesting, open_frame, second}
+use Rattle.statements.specs.Plans.{refusing, nesting, open_frame, second}
 use Rattle.statements.specs.Jumps.{JumpMet, jumped_to, break_outcome, BranchSeen}
 use Rattle.statements.specs.Planned.{Planned, terminal_step_in}
 use Rattle.statements.specs.Turn.{Resolves}

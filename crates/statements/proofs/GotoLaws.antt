@@ -1,9 +1,9 @@
 -- Goto.
-use Prim.Native.Nat.{ℕ, ◌+◌, ◌-◌, ◌≤◌}
+use Prim.Native.Nat.{ℕ, ◌+◌, ◌≤◌}
 use native.Mathlib.Omega.{arith}
 use mathlib.Core.Path.{◌≡◌, refl, sym, ap, ◌∙◌, subst}
 use mathlib.Core.Bool.{Bool, true, false}
-use mathlib.Core.List.{List, [], ◌++◌, append-nil}
+use mathlib.Core.List.{List, [], append-nil}
 use mathlib.Core.Option.{Option, none, some}
 use lib.Dec.{eqb}
 use borrow.Author.Tests.{eq-eqb, eqb-true}
@@ -21,7 +21,7 @@ use Rattle.machine.proofs.Goals.{break_goal_lem, continue_goal_lem}
 use Rattle.machine.specs.Machine as machine
 use Rattle.definition.specs.Result.{Result, ok, refused, ◌>>=◌}
 use Rattle.definition.specs.Statement.{visit_goto, visit_break, visit_continue, TerminalResult}
-use Rattle.definition.specs.Tree.{Row, Statement}
+use Rattle.definition.specs.Tree.{Statement}
 use Rattle.control.specs.declared.around.Aim.{Aim}
 use Rattle.control.specs.AroundAbstraction.{aim_of}
 use Rattle.statements.specs.declared.jump.Jumped.{Jumped}

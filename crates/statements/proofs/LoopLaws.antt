@@ -11,7 +11,7 @@ use lib.ListN.{length}
 use borrow.Author.Tests.{eq-eqb, ne_eqb, eqb-true, eqb-false}
 use Rattle.table.specs.declared.columns.Span.{Span}
 use Rattle.table.specs.Words.{block_count, place_count, case_count, block_word, code_at}
-use Rattle.table.specs.Promise.{Promise, InRange, BelowUnlessNone, Ends}
+use Rattle.table.specs.Promise.{InRange, BelowUnlessNone, Ends}
 use Rattle.table.specs.Table.{Table, Block, Terminal, absent, unreachable, throw, return, goto, if, branch, switch, do_while, while, for, for_of, for_in}
 use Rattle.table.specs.Table.{logical, ternary, optional, label, sequence, maybe_throw, try, scope, code_of, table_of, terminal_at, block_at, unless_none}
 use Rattle.table.proofs.RangeLaws.{in_range_lem}
@@ -26,7 +26,7 @@ use Rattle.definition.specs.Output.{Output, ◌⊕◌, value_out, update_out}
 use Rattle.machine.specs.Machine as machine
 use Rattle.definition.specs.Result.{Result, ok, refused, ◌>>=◌}
 use Rattle.definition.specs.Statement.{unless_scheduled, unless_unreachable, loop_is_taken, continue_block_of, visit_update}
-use Rattle.definition.specs.Tree.{Row, row, Value, instr_row}
+use Rattle.definition.specs.Tree.{Row, Value, instr_row}
 use Rattle.definition.specs.Value.{VisitValueBlock, ValueBlockResult, ValueTerminalResult, visit_value_block, visit_value_block_terminal}
 use Rattle.values.specs.Rows.{Holds, Written}
 use Rattle.values.specs.Stack.{push_value}
@@ -47,11 +47,11 @@ use Rattle.control.specs.declared.ControlFlowTarget.TheVariants.{Loop}
 use Rattle.statements.specs.Plans.{frame_of, applied, open_frame, refusing, leaving, unless_taken, entries_if, schedule_if, unschedule_if}
 use Rattle.statements.specs.Planned.{Seen, Stands, NamedChange, Fitting, PlannedBare, Entered, nowhere, terminal_step}
 use Rattle.statements.specs.Loops.{Made, plain_made, flat_made, tested_values, for_values, for_of_values, none_made, value_made, plain_form, flat_form}
-use Rattle.statements.specs.Loops.{update_made, tested_made, for_made, for_of_made, made_by, values_at, values_position, Making, values_step, PlannedValues, no_values, values_of, Makes, Spent, MakesMore, MakesTested}
+use Rattle.statements.specs.Loops.{update_made, made_by, values_at, values_position, Making, values_step, PlannedValues, no_values, values_of, Makes, Spent, MakesMore, MakesTested}
 use Rattle.statements.specs.Loops.{after_values, scheduling_loop, scheduling_value, entering_body, loop_taken, continues_at, value_code, value_fallthrough}
 use Rattle.statements.proofs.PlanLaws.{within_all, within_rest, visits_same, refuse_applied, leave_applied, leave_nested, nest_applied, values_asked, off_changed, Label, label_taken, label_below, label_entries, label_if}
 use Rattle.statements.proofs.StepLaws.{label_scheduled, seen_scheduled, turn_refused, turn_ok, turn_asked}
-use Rattle.statements.proofs.PlannedLaws.{bare_planned, step_by, few_blocks, ranges, reach_same, reached_missing, Takes}
+use Rattle.statements.proofs.PlannedLaws.{bare_planned, step_by, few_blocks, reach_same, reached_missing, Takes}
 
 no_some : {f : ℕ} → ◌≡◌ {A = Option ℕ} none (some f) → ⊥
 no_some q = let o : ◌≡◌ {A = ℕ} 0 1 = cc in omega arith
@@ -412,27 +412,27 @@ abbrev pub NoValues : ℕ → Type 0
 NoValues code = (code ≡ 9 → ⊥) × (code ≡ 10 → ⊥) × (code ≡ 11 → ⊥) × (code ≡ 12 → ⊥)
 
 none_before : (t : Table) (visit : VisitValueBlock) (e : Terminal) (span : Span) (made : Made) → NoValues (code_of e) → made_by t visit e span made ≡ ok made
-none_before t visit absent span made h = refl
-none_before t visit unreachable span made h = refl
-none_before t visit (throw value) span made h = refl
-none_before t visit (return value) span made h = refl
-none_before t visit (goto target variant) span made h = refl
-none_before t visit (if test consequent alternate fallthrough) span made h = refl
-none_before t visit (branch test consequent alternate) span made h = refl
-none_before t visit (switch test first number fallthrough) span made h = refl
-none_before t visit (do_while loop test fallthrough) span made h = refl
-none_before t visit (while test loop fallthrough) span made h = absurd (h.0 refl)
-none_before t visit (for init test update loop fallthrough) span made h = absurd (h.1 refl)
-none_before t visit (for_of init test loop fallthrough) span made h = absurd (h.2 refl)
-none_before t visit (for_in init loop fallthrough) span made h = absurd (h.3 refl)
-none_before t visit (logical operator test fallthrough) span made h = refl
-none_before t visit (ternary test fallthrough) span made h = refl
-none_before t visit (optional chain test fallthrough) span made h = refl
-none_before t visit (label inner fallthrough) span made h = refl
-none_before t visit (sequence inner fallthrough) span made h = refl
-none_before t visit (maybe_throw continuation) span made h = refl
-none_before t visit (try inner handler fallthrough binding) span made h = refl
-none_before t visit (scope pruned inner fallthrough number) span made h = refl
+none_before t walk absent span made h = refl
+none_before t walk unreachable span made h = refl
+none_before t walk (throw value) span made h = refl
+none_before t walk (return value) span made h = refl
+none_before t walk (goto target variant) span made h = refl
+none_before t walk (if test consequent alternate fallthrough) span made h = refl
+none_before t walk (branch test consequent alternate) span made h = refl
+none_before t walk (switch test first number fallthrough) span made h = refl
+none_before t walk (do_while loop test fallthrough) span made h = refl
+none_before t walk (while test loop fallthrough) span made h = absurd (h.0 refl)
+none_before t walk (for init test update loop fallthrough) span made h = absurd (h.1 refl)
+none_before t walk (for_of init test loop fallthrough) span made h = absurd (h.2 refl)
+none_before t walk (for_in init loop fallthrough) span made h = absurd (h.3 refl)
+none_before t walk (logical operator test fallthrough) span made h = refl
+none_before t walk (ternary test fallthrough) span made h = refl
+none_before t walk (optional chain test fallthrough) span made h = refl
+none_before t walk (label inner fallthrough) span made h = refl
+none_before t walk (sequence inner fallthrough) span made h = refl
+none_before t walk (maybe_throw continuation) span made h = refl
+none_before t walk (try inner handler fallthrough binding) span made h = refl
+none_before t walk (scope pruned inner fallthrough number) span made h = refl
 
 -- what `loop_values` makes
 module _ {w : List ℕ} {q : Position} (en : Entered w q) {b b' : List ℕ} {r : Values} where

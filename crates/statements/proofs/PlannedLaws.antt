@@ -27,9 +27,8 @@ use Rattle.definition.proofs.Lines.{out_nil, out_assoc}
 use Rattle.values.specs.Rows.{Holds}
 use Rattle.values.specs.Stack as stack
 use Rattle.statements.specs.declared.plan.Position.{Position}
-use Rattle.statements.specs.declared.plan.Frame.{Frame}
 use Rattle.statements.specs.declared.plan.Plan.{Plan}
-use Rattle.statements.specs.Plans.{frame_of, applied, refusing, unless_taken}
+use Rattle.statements.specs.Plans.{applied, refusing, unless_taken}
 use Rattle.statements.specs.Planned.{Seen, Fitting, Stands, Planned, PlannedBare, Entered, terminal_step_in, nowhere, terminal_step}
 use Rattle.statements.proofs.CountLaws.{counted_on}
 use Rattle.statements.proofs.PlanLaws.{refuse_applied, Label, label_taken, label_most}

@@ -23,7 +23,7 @@ use Rattle.definition.specs.Output.{Output, ◌⊕◌}
 use Rattle.machine.specs.Machine.{choose_case, SwitchColumns, switch_columns, resume_at, step}
 use Rattle.definition.specs.Output.{block_row, value_out}
 use Rattle.machine.specs.Machine as machine
-use Rattle.definition.specs.Result.{Result, ok, refused, ◌>>=◌, refuse_if}
+use Rattle.definition.specs.Result.{Result, ok, ◌>>=◌, refuse_if}
 use Rattle.definition.specs.Tree.{Row, row}
 use Rattle.definition.specs.Value.{visit_value_block, VisitValueBlock, ValueBlockResult}
 use Rattle.machine.specs.Framed.{is_switch}

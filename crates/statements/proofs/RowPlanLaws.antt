@@ -1,5 +1,5 @@
 -- Terminals that put out rows, and scopes.
-use Prim.Native.Nat.{ℕ, ◌+◌, ◌-◌, ◌≤◌, ◌<◌}
+use Prim.Native.Nat.{ℕ, ◌+◌, ◌-◌, ◌<◌}
 use native.Mathlib.Numerals.{add-one}
 use native.Mathlib.Omega.{arith}
 use mathlib.Core.Path.{◌≡◌, refl, sym, ap, ◌∙◌, subst}
@@ -7,7 +7,6 @@ use mathlib.Core.Bool.{Bool, true, false, ◌||◌}
 use mathlib.Core.List.{List, [], ◌∷◌, ◌++◌}
 use mathlib.Core.Option.{Option, none, some}
 use lib.Dec.{eqb}
-use lib.ListN.{length}
 use borrow.Author.Tests.{ne_eqb}
 use Rattle.table.specs.declared.columns.Span.{Span}
 use Rattle.table.specs.Promise.{Ends, Heads}
@@ -28,10 +27,9 @@ use Rattle.values.specs.Stack as stack
 use Rattle.values.proofs.RowLaws.{written_held}
 use Rattle.values.proofs.StackLaws.{push_row_after}
 use Rattle.statements.specs.declared.plan.Position.{Position}
-use Rattle.statements.specs.declared.plan.Frame.{Frame}
 use Rattle.statements.specs.declared.plan.Change.TheVariants.{Nothing}
 use Rattle.statements.specs.declared.plan.Plan.{Plan}
-use Rattle.statements.specs.Plans.{frame_of, scoped, context_after, lined, applied, onward, open_frame, leaving, unless_taken, entries_if, schedule_if, scheduled_with, enclosing, with_scope}
+use Rattle.statements.specs.Plans.{scoped, context_after, lined, applied, onward, open_frame, leaving, entries_if, schedule_if, scheduled_with, enclosing, with_scope}
 use Rattle.statements.specs.Planned.{Stands, Seen, Fitting, Planned, PlannedBare, Entered, terminal_step, SameVisits}
 use Rattle.statements.proofs.PlanLaws.{within_all, visits_same, leave_applied, nest_applied, Label, no_label, free_label, label_taken, label_entries, label_if}
 use Rattle.statements.proofs.StepLaws.{label_scheduled, into_busy, into_free, turn_refused, turn_ok, busy_with}

@@ -10,14 +10,13 @@ use borrow.Author.Tests.{eq-eqb, ne_eqb, eqb-true, eqb-false}
 use Rattle.table.specs.Words.{block_count, code_at}
 use Rattle.table.specs.Promise.{Promise, Ends}
 use Rattle.table.specs.Table.{Terminal, absent, unreachable, throw, return, goto, if, branch, switch, do_while, while, for, for_of, for_in, logical, ternary}
-use Rattle.table.specs.Table.{optional, label, sequence, maybe_throw, try, scope, Break, Continue, Try, code_of, table_of, terminal_at, variant_of}
+use Rattle.table.specs.Table.{optional, label, sequence, maybe_throw, try, scope, code_of, table_of, terminal_at, variant_of}
 use Rattle.table.proofs.BlockLaws.{code_at_lem, try_variant}
 use Rattle.definition.specs.Context.{Flags, has, is_scheduled, loops_of, break_target_from, continue_target_from, get_break_target, get_continue_target}
 use Rattle.definition.specs.Context as definition
 use Rattle.definition.specs.Around.{Around}
 use Rattle.machine.specs.Goal.{Goal, break_goal, continue_goal, goals}
 use Rattle.control.specs.declared.Context.{Context}
-use Rattle.control.specs.declared.Entry.{Entry}
 use Rattle.control.specs.Abstraction.{stack_of, context_of}
 use Rattle.control.proofs.SearchLaws.{last_target, break_none, break_found, break_missed, continue_none, continue_found, continue_missed}
 use Rattle.statements.specs.declared.search.Jump.{Jump}

@@ -5,7 +5,6 @@ use mathlib.Core.Path.{◌≡◌, refl, sym, ap, ◌∙◌}
 use mathlib.Core.Bool.{Bool, true, false, ◌||◌}
 use mathlib.Core.List.{List, ◌∷◌}
 use mathlib.Core.Option.{Option, none, some}
-use mathlib.Core.Logic.{inl, inr}
 use lib.Dec.{eqb}
 use lib.ListN.{length, get_or, set}
 use lib.Seq.{get_or-set_same, get_or-set_other}
@@ -24,8 +23,7 @@ use Rattle.machine.specs.Machine as machine
 use Rattle.definition.specs.Result.{Result, ok, refused, ◌>>=◌, refuse_if}
 use Rattle.definition.specs.Statement.{unless_scheduled, unless_unreachable}
 use Rattle.statements.specs.declared.plan.Position.{Position}
-use Rattle.statements.specs.declared.plan.Frame.{Frame}
-use Rattle.statements.specs.Plans.{frame_of, unless_refused, applied, open_frame, unless_taken, entries_if, schedule_if, scheduled_with, enclosing}
+use Rattle.statements.specs.Plans.{unless_refused, applied, open_frame, unless_taken, entries_if, schedule_if, scheduled_with, enclosing}
 use Rattle.statements.specs.Planned.{Seen, Stands}
 use Rattle.statements.proofs.PlanLaws.{within_all, visits_same, refuse_applied, nest_applied, Label, no_label, free_label, label_entries, label_if}
 

@@ -1,16 +1,12 @@
 -- The turn of a statement that is scheduled: what it asks, and that its plan is the machine's turn.
 use Prim.Native.Nat.{ℕ, zero, suc, ◌-◌, ◌≤◌}
 use native.Mathlib.Omega.{arith}
-use mathlib.Core.Path.{◌≡◌, refl, sym, ap, subst}
-use mathlib.Core.List.{List, [], ◌∷◌, ◌++◌}
-use lib.ListN.{length}
+use mathlib.Core.Path.{◌≡◌, refl, ap, subst}
+use mathlib.Core.List.{List, [], ◌∷◌}
 use Rattle.table.specs.Table.{table_of, terminal_at, block_at, unless_none}
 use Rattle.table.proofs.TableLaws.{length_blocks}
 use Rattle.definition.specs.Around.{Around}
-use Rattle.definition.specs.Context as definition
 use Rattle.machine.specs.Machine.{turn, make_at, depth_left, step}
-use Rattle.definition.specs.Output.{Output}
-use Rattle.machine.specs.Machine as machine
 use Rattle.definition.specs.Value.{visit_value_block}
 use Rattle.statements.specs.declared.plan.Stage.{Stage}
 use Rattle.statements.specs.declared.plan.Stage.TheVariants.{Values}

@@ -19,7 +19,6 @@ use Rattle.definition.specs.Output.{Output}
 use Rattle.machine.specs.Machine as machine
 use Rattle.definition.specs.Result.{ok}
 use Rattle.definition.specs.Statement.{cases_last_first}
-use Rattle.definition.specs.Tree.{Row}
 use Rattle.statements.specs.declared.plan.Position.{Position}
 use Rattle.statements.specs.declared.plan.Frame.{Frame}
 use Rattle.statements.specs.declared.plan.Change.{Change}
@@ -105,6 +104,16 @@ try_asks w p x y f binding F R C = refl
 abbrev try_plan : Position → (x y n : ℕ) → Plan
 try_plan p x y n = nesting x (open_frame p n (entries_if (eqb n 65535))) (p.depth + 1) p.rows p.visits y 65535 (schedule_if (eqb n 65535) n)
 
+-- a handler that is scheduled: the label scheduled beside it, and what was scheduled before
+caught : (y : ℕ) (g : Option ℕ) (C : definition.Context) → schedule_catch_handler y (scheduled_if g C) ≡ scheduled_if g (schedule_catch_handler y C)
+unfolding pushed schedule_catch_handler
+caught y none C = refl
+caught y (some v) C = refl
+
+handler_seen : {S H : Flags} {n : ℕ} (y : ℕ) (C : definition.Context) → Seen S H n C → (schedule_catch_handler y C).scheduled ≡ S
+unfolding schedule_catch_handler
+handler_seen y C seen = seen.scheduled
+
 -- ---- what the code of such a terminal returns. A premise is a contract's own words or a test's
 
 module _ {w : List ℕ} {S H : Flags} {p : Position} {plan : Plan} (en : Entered w p) where
@@ -170,19 +179,12 @@ module _ {w : List ℕ} {S H : Flags} {p : Position} {plan : Plan} (en : Entered
         l : Label S n
         l = reached_label w S H p en (try x y f binding) f (try_rest p x y) ends (try_asks w p x y f binding) ends.named.2 n r
 
-        caught : (g : Option ℕ) (C : definition.Context) → schedule_catch_handler y (scheduled_if g C) ≡ scheduled_if g (schedule_catch_handler y C)
-        caught none C = refl
-        caught (some v) C = unfold pushed schedule_catch_handler in refl
-
-        handler_seen : (C : definition.Context) → Seen S H p.visits C → (schedule_catch_handler y C).scheduled ≡ S
-        handler_seen C seen = unfold schedule_catch_handler in seen.scheduled
-
         same : (F : List machine.Frame) (R : Output) (C : definition.Context) → Stands F R p.depth p.rows → Seen S H p.visits C
             → turn (try_rest p x y F R C (unless_none n)) ≡ applied (try_plan p x y n) F R C
         same F R C d seen = turn_ok _
             ∙ sym (nest_applied x (open_frame p n (entries_if (eqb n 65535))) (p.depth + 1) p.rows p.visits y 65535 (schedule_if (eqb n 65535) n) F R C
             (schedule_catch_handler y (scheduled_if (unless_none n) C))
-            (rw (no_number, some_number y (λ v. omega (arith, few)), visits_same p.visits C seen.visits, caught (unless_none n) C) (label_if l (schedule_catch_handler y C) (handler_seen C seen)))
+            (rw (no_number, some_number y (λ v. omega (arith, few)), visits_same p.visits C seen.visits, caught y (unless_none n) C) (label_if l (schedule_catch_handler y C) (handler_seen y C seen)))
             ∙ rw (label_entries n, d.many, within_all (p.depth + 1 - 1) F (omega (arith, d.deep))))
 
   -- ---- MaybeThrow and Unreachable

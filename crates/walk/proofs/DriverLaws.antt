@@ -1,6 +1,5 @@
 -- The loop of the walk: what a turn needs, and what it leaves.
 use Prim.Native.Nat.{ℕ, zero, suc, ◌+◌, ◌-◌, ◌≤◌, ◌<◌}
-use native.Mathlib.Nat.{le_refl}
 use native.Mathlib.Omega.{arith}
 use mathlib.Core.Path.{◌≡◌, refl, sym, ap, ◌∙◌, subst}
 use mathlib.Core.Bool.{Bool, true, false}
@@ -115,7 +114,7 @@ unfolding frames_of
 frames_kept A n zero true f deep next room = absurd (let z : 1 ≤ 0 = deep refl in omega arith)
 frames_kept A n (suc d) true f deep next room =
     let e : suc d - 1 ≡ d = omega arith in
-    rw (e, frames_within A n d (omega arith), get_or-set_same A d f no_frame (omega arith), frames_above A d d f (le_refl d))
+    rw (e, frames_within A n d (omega arith), get_or-set_same A d f no_frame (omega arith)) (ap {B = List machine.Frame} (λ (F : List machine.Frame). frame_of f ∷ F) (sym (frames_above A d (suc d - 1) f (omega arith))))
 frames_kept A n d false f deep next room = frames_within A n d next
 
 kept_length : (A : List Frame) (n d : ℕ) (keep : Bool) (f : Frame) → (keep ≡ true → 1 ≤ d) → d ≤ deepest keep n → length (kept keep f d (frames_of A n)) ≡ d

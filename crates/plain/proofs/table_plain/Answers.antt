@@ -12,6 +12,9 @@ number_of-requires c = promised _ (accepted_checked _ _ c.check-checked.ensures 
 
 pub returns : goal.returns
 returns c =
-    record { value = (given_accepted _ _ c.check-checked.ensures (accepted_checked _ _ c.check-checked.ensures c.is_accepted.ensures (ap not c.if-not-is_accepted.false))
-    c.place.ensures c.number_of.ensures).0; number_after = (given_accepted _ _ c.check-checked.ensures (accepted_checked _ _ c.check-checked.ensures c.is_accepted.ensures (ap not c.if-not-is_accepted.false))
-    c.place.ensures c.number_of.ensures).1 }
+    record {
+      value = (given_accepted _ _ c.check-checked.ensures (accepted_checked _ _ c.check-checked.ensures c.is_accepted.ensures (ap not c.if-not-is_accepted.false))
+          c.place.ensures c.number_of.ensures).0;
+      number_after = (given_accepted _ _ c.check-checked.ensures (accepted_checked _ _ c.check-checked.ensures c.is_accepted.ensures (ap not c.if-not-is_accepted.false))
+          c.place.ensures c.number_of.ensures).1;
+    }

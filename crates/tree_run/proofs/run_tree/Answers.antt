@@ -30,14 +30,19 @@ pub link_rows-links-requires : goal.link_rows-links-requires
 link_rows-links-requires c =
     let a = c.args in
     let tree_read = accepted a.tree.now c.read_tree-read.ensures c.if-read-ne0.false in
-    (search rules, (rows_most a.tree.now tree_read, (begun a.tree.now c.read_tree-read.ensures c.if-read-ne0.false).low))
+    record {
+      begin_len = search rules;
+      rows_bound = rows_most a.tree.now tree_read;
+      by_index = (begun a.tree.now c.read_tree-read.ensures c.if-read-ne0.false).low;
+    }
 
 pub walk-run-requires : goal.walk-run-requires
 walk-run-requires c =
     let a = c.args in
     let tree_read = accepted a.tree.now c.read_tree-read.ensures c.if-read-ne0.false in
     let t = links_of c.read_tree-read.result.begin c.link_rows-links.result.parent c.link_rows-links.result.next c.link_rows-links.result.child in
-    let all_linked = c.link_rows-links.ensures a.tree.now (begun a.tree.now c.read_tree-read.ensures c.if-read-ne0.false) in record { le_rows = rows_least a.tree.now tree_read; walks = walks a.tree.now tree_read t refl all_linked a.answers.now }
+    let all_linked = c.link_rows-links.ensures a.tree.now (begun a.tree.now c.read_tree-read.ensures c.if-read-ne0.false) in
+    record { le_rows = rows_least a.tree.now tree_read; walks = walks a.tree.now tree_read t refl all_linked a.answers.now }
 
 pub returns-then-run-ne0 : goal.returns-then-run-ne0
 returns-then-run-ne0 c =

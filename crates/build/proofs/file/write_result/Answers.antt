@@ -11,4 +11,4 @@ returns c =
     let narrow : Narrow a.tree.now = λ i. omega (arith, c.type_inv.tree i) in
     let fits = written_fits _ a.code a.at a.rows a.visits a.tree.now
     (omega (arith, f.code), (omega (arith, f.at), (omega (arith, f.rows), (omega (arith, f.visits), tt)))) narrow in
-    record { answer = w.0; bytes = w.1; enough = λ p. w.0 ∙ fits p }
+    record { answer = w.value; bytes = w.out_after; enough = λ p. w.value ∙ fits p }

@@ -11,7 +11,7 @@ pub loop-left-init : goal.loop-left-init
 loop-left-init c = left_all _ c.requires.number_bound
 
 pub case_at-case-requires : goal.case_at-case-requires
-case_at-case-requires c = (c.requires.promise, omega (arith, c.loop-left.invariant.within, c.loop-left-test.true))
+case_at-case-requires c = record { promise = c.requires.promise; case_bound = omega (arith, c.loop-left.invariant.within, c.loop-left-test.true) }
 
 pub returns-then-case-block : goal.returns-then-case-block
 returns-then-case-block c =

@@ -13,7 +13,7 @@ pub overflow_add-first : goal.overflow_add-first
 overflow_add-first c = omega (arith, c.loop-left.invariant.most, c.requires.promise.sized.limited.cases, c.requires.number_bound)
 
 pub case_at-case-requires : goal.case_at-case-requires
-case_at-case-requires c = (c.requires.promise, omega (arith, c.loop-left-test.true, c.loop-left.invariant.most, c.requires.number_bound))
+case_at-case-requires c = record { promise = c.requires.promise; case_bound = omega (arith, c.loop-left-test.true, c.loop-left.invariant.most, c.requires.number_bound) }
 
 pub returns-then-case-fallthrough : goal.returns-then-case-fallthrough
 returns-then-case-fallthrough c = record { upper_bound = c.loop-left.invariant.most; number_value = dropped_end c.requires.number_bound c.loop-left.invariant c.loop-left-test.true c.case_at-case.ensures c.if-case-fallthrough.true }

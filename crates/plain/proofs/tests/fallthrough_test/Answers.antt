@@ -6,10 +6,10 @@ use Rattle.plain.proofs.EveryLaws.{stopped, passed}
 use Rattle.plain.proofs.tests.fallthrough_test.Goals as goal
 
 pub returns-then-not-facts : goal.returns-then-not-facts
-returns-then-not-facts c = rw (falls_none _ c.facts_at-facts.ensures (ap not c.if-not-facts.true)) refl
+returns-then-not-facts c = rw (falls_none _ c.facts_at-facts.ensures c.if-not-facts.true) refl
 
 pub returns-then-not-every : goal.returns-then-not-every
-returns-then-not-every c = rw (falls_some _ c.facts_at-facts.ensures (ap not c.if-not-facts.false)) (stopped _ c.every.ensures (ap not c.if-not-every.true))
+returns-then-not-every c = rw (falls_some _ c.facts_at-facts.ensures c.if-not-facts.false) (stopped _ c.every.ensures (ap not c.if-not-every.true))
 
 pub returns : goal.returns
-returns c = rw (falls_some _ c.facts_at-facts.ensures (ap not c.if-not-facts.false)) (passed c.every.ensures (ap not c.if-not-every.false) c.every-2.ensures)
+returns c = rw (falls_some _ c.facts_at-facts.ensures c.if-not-facts.false) (passed c.every.ensures (ap not c.if-not-every.false) c.every-2.ensures)

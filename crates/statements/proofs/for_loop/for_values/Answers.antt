@@ -6,7 +6,7 @@ pub returns-then-update-eq-NONE : goal.returns-then-update-eq-NONE
 returns-then-update-eq-NONE c = search for_without_update
 
 pub plain_value-requires : goal.plain_value-requires
-plain_value-requires c = record { entered = (search (there_unless_none, rules)).0; block_bound = (search (there_unless_none, rules)).1.0; spent = (search (there_unless_none, rules)).1.1 }
+plain_value-requires c = search (there_unless_none, rules)
 
 pub returns : goal.returns
 returns c = search for_with_update

@@ -6,7 +6,7 @@ pub flat_value-first-requires : goal.flat_value-first-requires
 flat_value-first-requires c = search (nothing_spent, rules)
 
 pub plain_value-requires : goal.plain_value-requires
-plain_value-requires c = record { entered = (search (first_spent, rules)).0; block_bound = (search (first_spent, rules)).1.0; spent = (search (first_spent, rules)).1.1 }
+plain_value-requires c = search (first_spent, rules)
 
 pub returns : goal.returns
 returns c = search (tested_made_lem, second_spent)

@@ -11,7 +11,10 @@ returns-then-terminal-eq0 c around =
     c.visit_break-jump.result _ _ c.if-terminal-eq0.true c.visit_break-jump.ensures c.after_jump.ensures
 
 pub after_jump-requires-then-terminal-eq1 : goal.after_jump-requires-then-terminal-eq1
-after_jump-requires-then-terminal-eq1 c = (omega (arith, c.requires.entered), jump_count _ _ _ _ _ c.visit_continue-jump.result _ (c.visit_continue-jump.ensures c.args.p.visits c.args.scopes.now))
+after_jump-requires-then-terminal-eq1 c = record {
+  count_bound = omega (arith, c.requires.entered);
+  count_bound_2 = jump_count _ _ _ _ _ c.visit_continue-jump.result _ (c.visit_continue-jump.ensures c.args.p.visits c.args.scopes.now);
+}
 
 pub returns-then-terminal-eq1 : goal.returns-then-terminal-eq1
 returns-then-terminal-eq1 c around =

@@ -7,5 +7,4 @@ returns-in-4 c = c.goto_jump.ensures _ _
 
 pub returns-in_default : goal.returns-in_default
 returns-in_default c =
-    let pre = (c.requires.promise, c.requires.block_bound) in
-    no_jump _ _ _ _ pre.0 pre.1 (λ e. c.in_default.in_default-own.rest.0.1 (c.code_at.ensures ∙ e)) (λ e. c.in_default.in_default-own.rest.1 (c.code_at.ensures ∙ e))
+    no_jump _ _ _ _ c.requires.promise c.requires.block_bound (λ e. c.in_default.in_default-own.rest.0.1 (c.code_at.ensures ∙ e)) (λ e. c.in_default.in_default-own.rest.1 (c.code_at.ensures ∙ e))

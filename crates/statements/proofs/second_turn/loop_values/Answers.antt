@@ -6,13 +6,13 @@ use Rattle.statements.proofs.LoopLaws.{nothing_spent, update_below, while_made, 
 use Rattle.statements.proofs.second_turn.loop_values.Goals as goal
 
 pub plain_value-requires : goal.plain_value-requires
-plain_value-requires c = record { entered = (search (nothing_spent, rules)).0; block_bound = (search (nothing_spent, rules)).1.0; spent = (search (nothing_spent, rules)).1.1 }
+plain_value-requires c = search (nothing_spent, rules)
 
 pub for_values-requires : goal.for_values-requires
 for_values-requires c = let update = update_below _ c.for_at-terminal.ensures in record { entered = search rules; init_bound = search rules; test_bound = search rules; update_bound = search rules }
 
 pub flat_value-requires : goal.flat_value-requires
-flat_value-requires c = record { entered = (search (nothing_spent, rules)).0; block_bound = (search (nothing_spent, rules)).1.0; spent = (search (nothing_spent, rules)).1.1 }
+flat_value-requires c = search (nothing_spent, rules)
 
 pub returns-in-9 : goal.returns-in-9
 returns-in-9 c = search while_made

@@ -18,7 +18,7 @@ returns-then-frame-eq0 c around =
 pub switch_at-terminal-requires : goal.switch_at-terminal-requires
 switch_at-terminal-requires c =
     let fits = (choosing_fits c.args.words.now c.args.p c.args.frame c.requires.ready c.requires.stage_value) in
-    (c.requires.ready.promise, (fits.closing.block, fits.code))
+    record { promise = c.requires.ready.promise; block_bound = fits.closing.block; block_value = fits.code }
 
 pub overflow_add-terminal : goal.overflow_add-terminal
 overflow_add-terminal c =
@@ -31,11 +31,11 @@ overflow_add-terminal c =
 
 pub case_at-case-requires : goal.case_at-case-requires
 case_at-case-requires c =
-    (
-      c.requires.ready.promise,
-      last_below c.args.words.now c.args.p c.args.frame (choosing_fits c.args.words.now
-          c.args.p c.args.frame c.requires.ready c.requires.stage_value) c.switch_at-terminal.ensures c.if-frame-eq0.false,
-    )
+    record {
+      promise = c.requires.ready.promise;
+      case_bound = last_below c.args.words.now c.args.p c.args.frame (choosing_fits c.args.words.now
+          c.args.p c.args.frame c.requires.ready c.requires.stage_value) c.switch_at-terminal.ensures c.if-frame-eq0.false;
+    }
 
 pub scheduled_at-requires : goal.scheduled_at-requires
 scheduled_at-requires c = omega (arith, c.case_at-case.ensures.there, c.case_at-case.ensures.few)

@@ -7,7 +7,7 @@ pub overflow_add-terminal : goal.overflow_add-terminal
 overflow_add-terminal c = omega (arith, case_there c.args.words.now c.args.p c.args.frame c.requires.resuming c.switch_at-terminal.ensures, c.requires.resuming.promise.sized.limited.cases)
 
 pub case_at-case-requires : goal.case_at-case-requires
-case_at-case-requires c = (c.requires.resuming.promise, case_there c.args.words.now c.args.p c.args.frame c.requires.resuming c.switch_at-terminal.ensures)
+case_at-case-requires c = record { promise = c.requires.resuming.promise; case_bound = case_there c.args.words.now c.args.p c.args.frame c.requires.resuming c.switch_at-terminal.ensures }
 
 pub block_id-requires : goal.block_id-requires
 block_id-requires c = omega (arith, case_below c.args.words.now c.args.p c.args.frame c.requires.resuming c.switch_at-terminal.ensures c.case_at-case.ensures)

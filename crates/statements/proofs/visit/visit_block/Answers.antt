@@ -25,14 +25,15 @@ returns-then-emitted-block c frame around =
     (rw c.advance-begun.ensures at c.refuse-then-emitted-block.ensures)
 
 pub put_instructions-rows-requires : goal.put_instructions-rows-requires
-put_instructions-rows-requires c = (c.requires.visits.promise, (c.block_at-head.ensures.there, omega (arith, c.requires.visits.rows)))
+put_instructions-rows-requires c = record { promise = c.requires.visits.promise; count_bound = c.block_at-head.ensures.there; rows_bound = omega (arith, c.requires.visits.rows) }
 
 pub overflow_add-p : goal.overflow_add-p
 overflow_add-p c = omega (arith, c.requires.visits.rows, c.requires.visits.count, c.block_at-head.ensures.there, c.block_at-head.ensures.few)
 
 pub visit_terminal-requires : goal.visit_terminal-requires
 visit_terminal-requires c =
-    record { entered = rw c.advance-p.ensures (record {
+    record {
+      entered = rw c.advance-p.ensures (record {
         promise = c.requires.visits.promise;
         block = c.requires.visits.block;
         depth = c.if-p-ge128.false;
@@ -46,7 +47,10 @@ visit_terminal-requires c =
         );
         count = omega
             (arith, c.put_instructions-rows.ensures.more, c.requires.visits.count);
-      }); aim_below = rw c.advance-p.ensures (c.requires.aim_below); fact = rw c.advance-p.ensures (λ e. c.if-code_at-eq0.false (c.code_at.ensures ∙ e)) }
+      });
+      aim_below = c.requires.aim_below;
+      fact = rw c.advance-p.ensures (λ e. c.if-code_at-eq0.false (c.code_at.ensures ∙ e));
+    }
 
 pub returns : goal.returns
 unfolding has

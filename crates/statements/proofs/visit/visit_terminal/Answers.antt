@@ -1,19 +1,29 @@
 -- `statements::visit::visit_terminal` meets its contract, by the code of the block. Each arm's contract is the machine's turn; only Goto and Branch look at what is
 -- around (TerminalLaws: `goto_seen`, `branch_seen`; `elsewhere` for the others). Codes 0 and above 21 do not occur.
-use mathlib.Core.Path.{refl, sym, ap, ◌∙◌}
+use Prim.Native.Nat.{◌<◌}
+use mathlib.Core.Logic.{◌⊎◌, inl, inr}
+use mathlib.Core.Path.{◌≡◌, refl, sym, ap, ◌∙◌}
 use native.Mathlib.Omega.{arith}
 use Rattle.statements.specs.Loops.{value_code}
 use Rattle.statements.proofs.VisitLaws.{unreachable_left}
 use Rattle.statements.proofs.PlannedLaws.{planned_as}
-use Rattle.statements.proofs.TerminalLaws.{goto_seen, branch_seen, elsewhere, scope_past, no_jump, value_came, ways}
+use Rattle.statements.proofs.TerminalLaws.{goto_seen, branch_seen, elsewhere, Rest, scope_past, no_jump, value_came}
 use Rattle.table.proofs.RangeLaws.{code_known}
 use Rattle.statements.proofs.visit.visit_terminal.Goals as goal
+use Rattle.statements.proofs.visit.visit_terminal.Goals.{In-13-1, in-17-1, in_default+then-this-lt16}
 
 pub visit_scope-requires : goal.visit_scope-requires
-visit_scope-requires c = record { entered = c.requires.entered; bound = omega (arith, c.code_at.ensures, scope_past _ ?? c.if-this-lt16.false) }
+visit_scope-requires c = record { entered = c.requires.entered; bound = omega (arith, c.code_at.ensures, scope_past _ c.in-20.in_default-own.rest c.in-20.if-this-lt16-own.false) }
+
+-- the two ways into the arm of the values' codes
+came : (c : In-13-1) → (c.code_at.result ≡ 17) ⊎ (Rest c.code_at.result × (c.code_at.result < 16))
+came c = elim c.in-13-1.branch [
+  | in-17-1 w ↦ inl w.in-17-1.keys14
+  | in_default+then-this-lt16 w ↦ inr (w.in_default-1.rest, w.if-this-lt16-1.true)
+]
 
 pub visit_value-requires : goal.visit_value-requires
-visit_value-requires c = record { entered = c.requires.entered; block_value = ap value_code (sym c.code_at.ensures) ∙ (value_came _ (ways c.in-0.branch (λ a. a.keys14) (λ b. (b.0.rest, b.1.taken)))).0 }
+visit_value-requires c = record { entered = c.requires.entered; block_value = ap value_code (sym c.code_at.ensures) ∙ (value_came _ (came c)).0 }
 
 pub returns-in-0 : goal.returns-in-0
 returns-in-0 c around = absurd (c.requires.fact (sym c.code_at.ensures ∙ c.in-0.is))
@@ -66,12 +76,12 @@ pub returns-in-19 : goal.returns-in-19
 returns-in-19 c around = elsewhere around c.requires.entered c.code_at.ensures c.in-19.is refl (λ C o. o.seen) (c.visit_try.ensures _)
 
 pub returns-in-20 : goal.returns-in-20
-returns-in-20 c around = elsewhere around c.requires.entered c.code_at.ensures refl (no_jump c.code_at.result (omega (arith, c.if-this-lt16.false))) (λ C o. o.seen) (c.visit_scope.ensures _)
+returns-in-20 c around = elsewhere around c.requires.entered c.code_at.ensures refl (no_jump c.code_at.result (omega (arith, c.in-20.if-this-lt16-own.false))) (λ C o. o.seen) (c.visit_scope.ensures _)
 
 pub returns-in_default : goal.returns-in_default
-returns-in_default c around = absurd (omega (arith, c.if-this-lt22.false, c.code_at.ensures, code_known _ c.requires.entered.promise _ c.requires.entered.block))
+returns-in_default c around = absurd (omega (arith, c.in_default.if-this-lt22-own.false, c.code_at.ensures, code_known _ c.requires.entered.promise _ c.requires.entered.block))
 
 pub returns-in-13 : goal.returns-in-13
 returns-in-13 c around =
     elsewhere around c.requires.entered c.code_at.ensures refl
-    (no_jump _ (value_came _ (ways c.in-13-1.came (λ a. a.keys14) (λ b. (b.0.rest, b.1.taken)))).1) (λ C o. o.seen) (c.visit_value.ensures _)
+    (no_jump _ (value_came _ (came ((goal.at.returns-in-13 c).In-13-1))).1) (λ C o. o.seen) (c.visit_value.ensures _)

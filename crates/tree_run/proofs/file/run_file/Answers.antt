@@ -10,7 +10,12 @@ overflow_cast-number c =
     omega (arith, few, c.run_bytes-ran.auto.performed, c.lent_rows-performed.ensures)
 
 pub write_run-requires : goal.write_run-requires
-write_run-requires c = let few = number_within _ _ c.run_bytes-ran.ensures in record { number_in_bounds = (omega (arith, few, c.run_bytes-ran.auto.performed, c.lent_rows-performed.ensures)).0; number_bound = (omega (arith, few, c.run_bytes-ran.auto.performed, c.lent_rows-performed.ensures)).1 }
+write_run-requires c =
+    let few = number_within _ _ c.run_bytes-ran.ensures in
+    record {
+      number_in_bounds = omega (arith, few, c.run_bytes-ran.auto.performed, c.lent_rows-performed.ensures);
+      number_bound = omega (arith, few, c.run_bytes-ran.auto.performed, c.lent_rows-performed.ensures);
+    }
 
 pub returns : goal.returns
 returns c = record { out_after = (run_printed _ (sym c.lent_rows-performed.ensures) c.run_bytes-ran.ensures c.write_run.ensures).0; value = (run_printed _ (sym c.lent_rows-performed.ensures) c.run_bytes-ran.ensures c.write_run.ensures).1 }

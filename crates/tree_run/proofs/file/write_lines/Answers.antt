@@ -16,7 +16,15 @@ write_part-requires c =
     let f = c.ranges in
     let a = c.args in
     let l = line_most (a.code ∷ a.at ∷ a.number ∷ a.reason ∷ []) (f.code.fits, (f.at.fits, (f.number.fits, (f.reason.fits, tt)))) in
-    let head : c.write_line-head.result ≤ 66 = omega (arith, l, c.write_names-names.ensures.long, c.write_line-head.ensures.long) in record { names_len_bound = (omega (arith, head, (c.requires.number_in_bounds, c.requires.number_bound))).0; rows_bound = (omega (arith, head, (c.requires.number_in_bounds, c.requires.number_bound))).1.0; columns_le_stride = (omega (arith, head, (c.requires.number_in_bounds, c.requires.number_bound))).1.1.0; stride_bound = (omega (arith, head, (c.requires.number_in_bounds, c.requires.number_bound))).1.1.1.0; stride_in_bounds = (omega (arith, head, (c.requires.number_in_bounds, c.requires.number_bound))).1.1.1.1.0; start_bound = (omega (arith, head, (c.requires.number_in_bounds, c.requires.number_bound))).1.1.1.1.1 }
+    let head : c.write_line-head.result ≤ 66 = omega (arith, l, c.write_names-names.ensures.long, c.write_line-head.ensures.long) in
+    record {
+      names_len_bound = omega (arith, head);
+      rows_bound = omega (arith, head);
+      columns_le_stride = omega (arith, head);
+      stride_bound = omega (arith, head);
+      stride_in_bounds = omega (arith, head);
+      start_bound = omega (arith, head);
+    }
 
 pub returns : goal.returns
 returns c =

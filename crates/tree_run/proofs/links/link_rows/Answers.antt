@@ -5,7 +5,7 @@ use Rattle.tree_run.proofs.LinkLaws.{cursor_falls, rows_start, parts_start, part
 use Rattle.tree_run.proofs.links.link_rows.Goals as goal
 
 pub loop-row-init : goal.loop-row-init
-loop-row-init c = rows_start _ _ (length-replicate {A = ℕ} 2048 0) (length-replicate {A = ℕ} 2048 0) (length-replicate {A = ℕ} 2048 0) c.requires.1.1
+loop-row-init c = rows_start _ _ (length-replicate {A = ℕ} 2048 0) (length-replicate {A = ℕ} 2048 0) (length-replicate {A = ℕ} 2048 0) c.requires.by_index
 
 pub loop-cursor-init : goal.loop-cursor-init
 loop-cursor-init c = parts_start _ _ c.loop-row.invariant c.loop-row-test.true

@@ -8,7 +8,7 @@ use Rattle.values.proofs.extract.extract_or_refuse.Goals as goal
 pub returns-then-head-eq0 : goal.returns-then-head-eq0
 returns-then-head-eq0 c =
     rw (extract_none c.block_at-head.ensures _ _ _ _ c.if-head-eq0.true)
-    (stops (PLAIN 0) c.refused.ensures (ne_eqb c.args.code 0 (λ e. omega (arith, (c.requires.ends_in_bound, c.requires.code_nonzero)))) (omega (arith, c.requires.fit.visits)))
+    (stops (PLAIN 0) c.refused.ensures (ne_eqb c.args.code 0 (λ e. omega (arith, c.requires.code_nonzero))) (omega (arith, c.requires.fit.visits)))
 
 pub returns : goal.returns
 returns c = rw (extract_some c.block_at-head.ensures _ _ _ _ c.if-head-eq0.false) c.extract_value_block_result.ensures

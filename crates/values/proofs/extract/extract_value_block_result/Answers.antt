@@ -6,15 +6,16 @@ use Rattle.values.proofs.extract.extract_value_block_result.Goals as goal
 
 pub final_value-value-requires : goal.final_value-value-requires
 final_value-value-requires c =
-    let fit = c.requires.fit in (
-      record {
+    let fit = c.requires.fit in
+    record {
+      fit = record {
         promise = fit.promise;
         at = fit.at;
         visits = fit.visits;
         room = omega (arith, c.put_instructions-rows.ensures.more, fit.room, c.requires.more_bound, fit.promise.sized.limited.instructions);
-      },
-      c.requires.more_bound,
-    )
+      };
+      i_bound = c.requires.more_bound;
+    }
 
 pub wrap_with_sequence-requires : goal.wrap_with_sequence-requires
 wrap_with_sequence-requires c =
@@ -25,7 +26,7 @@ wrap_with_sequence-requires c =
       code = accepted value;
       few = omega (arith, c.requires.more_bound, limits.instructions);
       more = omega (arith, found.more);
-      room = omega (arith, value.numbers, c.put_instructions-rows.ensures.more, (c.requires.fit, c.requires.more_bound), limits.instructions);
+      room = omega (arith, value.numbers, c.put_instructions-rows.ensures.more, c.requires.fit, c.requires.more_bound, limits.instructions);
     }
 
 pub returns : goal.returns

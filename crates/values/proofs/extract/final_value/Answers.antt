@@ -25,4 +25,4 @@ returns c =
     let l = c.loaded_by-loaded.ensures in
     rw (extract_plain c.instruction_at-head.ensures _ _ (sym c.stores_to_unnamed.ensures ∙ c.if-stores_to_unnamed.false))
     (one_row (PLAIN _) (λ stack. refl) c.requires.fit c.instruction_at-head.ensures.there
-    (record { sequences = refl; instructions = refl; c = l.same; there = l.there }) c.put_row-plain.ensures c.loading-2.ensures c.found-2.ensures)
+    (record { sequences = refl; instructions = refl; loaded = l.same; there = l.there }) c.put_row-plain.ensures c.loading-2.ensures c.found-2.ensures)

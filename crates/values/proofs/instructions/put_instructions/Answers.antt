@@ -2,7 +2,6 @@ use Rattle.values.proofs.RowLaws.{written_held}
 use Rattle.values.proofs.StackLaws.{push_next_row}
 use Rattle.values.specs.Stack.{push_instruction_rows}
 use Rattle.table.specs.Table.{table_of}
-use Prim.Native.Nat.{◌-◌}
 use native.Mathlib.Numerals.{add-one}
 use mathlib.Core.Path.{◌≡◌, refl, ◌∙◌}
 use native.Mathlib.Omega.{arith}
@@ -14,17 +13,17 @@ unfolding push_instruction_rows
 loop-k-init c = record { most = search rules; long = refl; more = omega arith; kept = λ stack h. h }
 
 pub instruction_at-head-requires : goal.instruction_at-head-requires
-instruction_at-head-requires c = (c.requires.promise, omega (arith, c.loop-k-test.true, c.requires.count_bound))
+instruction_at-head-requires c = record { promise = c.requires.promise; instruction_bound = omega (arith, c.loop-k-test.true, c.requires.count_bound) }
 
 pub put-out-requires : goal.put-out-requires
 put-out-requires c =
     let limits = c.requires.promise.sized.limited in
-    omega (arith, c.loop-k.invariant.more, c.loop-k.invariant.most, (c.requires.count_bound, c.requires.rows_bound), limits.instructions)
+    omega (arith, c.loop-k.invariant.more, c.loop-k.invariant.most, c.requires.count_bound, c.requires.rows_bound, limits.instructions)
 
 pub put-out-requires-in-loop-k : goal.put-out-requires-in-loop-k
 put-out-requires-in-loop-k c =
     let limits = c.requires.promise.sized.limited in
-    omega (arith, c.put-out.ensures.count, c.loop-k.invariant.more, c.loop-k.invariant.most, (c.requires.count_bound, c.requires.rows_bound), limits.instructions)
+    omega (arith, c.put-out.ensures.count, c.loop-k.invariant.more, c.loop-k.invariant.most, c.requires.count_bound, c.requires.rows_bound, limits.instructions)
 
 pub overflow_add-k : goal.overflow_add-k
 overflow_add-k c = omega (arith, c.loop-k-test.true, c.ranges)
@@ -40,10 +39,10 @@ loop-k-preserved c =
     let head = c.instruction_at-head.ensures in
     record {
       most = omega (arith, c.loop-k-test.true);
-      long = c.put-out-in-loop-k.auto.buffer ∙ c.put-out.auto.buffer ∙ l.inv.long;
-      c = omega (arith, instr.count, plain.count, l.inv.more);
+      long = c.put-out-in-loop-k.auto.buffer ∙ c.put-out.auto.buffer ∙ l.invariant.long;
+      more = omega (arith, instr.count, plain.count, l.invariant.more);
       kept = λ stack h. rw (add-one l.k, push_next_row (table_of c.args.words.now) c.args.first l.k stack, head.is_id, head.is_lvalue, head.is_span)
-          (written_held instr _ (written_held plain _ (l.inv.kept stack h)));
+          (written_held instr _ (written_held plain _ (l.invariant.kept stack h)));
     }
 
 pub returns : goal.returns

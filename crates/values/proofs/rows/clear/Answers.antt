@@ -21,18 +21,18 @@ pub loop-i-preserved : goal.loop-i-preserved
 loop-i-preserved c =
     let l = c.loop-i in
     let a = c.args in
-    let e : l.i + 1 - a.from ≡ l.i - a.from + 1 = omega (arith, l.inv.least) in
+    let e : l.i + 1 - a.from ≡ l.i - a.from + 1 = omega (arith, l.invariant.least) in
     record {
-      least = omega (arith, l.inv.least);
+      least = omega (arith, l.invariant.least);
       most = simp length-set (omega arith);
-      long = simp length-set l.inv.long;
+      long = simp length-set l.invariant.long;
       front = rw (e, add-one l.i) (take-suc-set l.buffer l.i 0 c.loop-i-test.true
-          ∙ rw (l.inv.front, append_assoc, replicate-append-replicate {A = ℕ} (l.i - a.from) 1 0));
+          ∙ rw (l.invariant.front, append_assoc, replicate-append-replicate {A = ℕ} (l.i - a.from) 1 0));
     }
 
 pub returns : goal.returns
 returns c =
     let l = c.loop-i in
-    let e : c.loop-i.i ≡ length c.loop-i.buffer = omega (arith, l.inv.most, c.loop-i-test.false) in
-    let f : length c.loop-i.buffer ≡ length c.args.buffer.now = l.inv.long in
-    rw (← f, ← e) (sym (rw e (take-length l.buffer)) ∙ l.inv.front)
+    let e : c.loop-i.i ≡ length c.loop-i.buffer = omega (arith, l.invariant.most, c.loop-i-test.false) in
+    let f : length c.loop-i.buffer ≡ length c.args.buffer.now = l.invariant.long in
+    rw (← f, ← e) (sym (rw e (take-length l.buffer)) ∙ l.invariant.front)

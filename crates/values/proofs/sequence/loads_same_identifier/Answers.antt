@@ -9,7 +9,7 @@ unfolding same_identifier
 returns-then-loaded-eq-NONE c = rw (c.if-loaded-eq-NONE.true, no_number)
 
 pub place_word-loaded_identifier-requires : goal.place_word-loaded_identifier-requires
-place_word-loaded_identifier-requires c = (c.requires.promise.sized, c.requires.loaded_bound c.if-loaded-eq-NONE.false)
+place_word-loaded_identifier-requires c = record { sized = c.requires.promise.sized; row_bound = c.requires.loaded_bound c.if-loaded-eq-NONE.false }
 
 pub returns : goal.returns
 unfolding same_identifier

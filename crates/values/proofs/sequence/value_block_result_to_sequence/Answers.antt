@@ -2,6 +2,7 @@ use Rattle.values.proofs.FlattenLaws.{leading, holds_open, holds_load, flatten_s
 use Rattle.values.proofs.RowLaws.{written_held}
 use Rattle.definition.specs.Value.{innermost_value}
 use Rattle.table.specs.Table.{table_of}
+use Rattle.values.specs.Met.{block_result}
 use native.Mathlib.Omega.{arith}
 use mathlib.Core.Path.{sym, ◌∙◌}
 use Rattle.values.proofs.sequence.value_block_result_to_sequence.Goals as goal

@@ -72,22 +72,22 @@ loop-left-init c =
 
 pub frame_at-around-requires : goal.frame_at-around-requires
 frame_at-around-requires c =
-    let in_use : c.loop-left.false - 1 < c.args.depth = omega (arith, c.loop-left-test.true, c.loop-left.invariant.most) in
-    let below : c.loop-left.false - 1 < 129 = omega (arith, in_use, c.requires.depth_bound) in
+    let in_use : c.loop-left.left - 1 < c.args.depth = omega (arith, c.loop-left-test.true, c.loop-left.invariant.most) in
+    let below : c.loop-left.left - 1 < 129 = omega (arith, in_use, c.requires.depth_bound) in
     below
 
 pub pass-seen-requires : goal.pass-seen-requires
 pass-seen-requires c =
-    let in_use : c.loop-left.false - 1 < c.args.depth = omega (arith, c.loop-left-test.true, c.loop-left.invariant.most) in
-    let below : c.loop-left.false - 1 < 129 = omega (arith, in_use, c.requires.depth_bound) in
-    let reads : c.frame_at-around.result ≡ get_or (frames_in c.args.frames.now) (c.loop-left.false - 1) no_frame = c.frame_at-around.ensures ∙ frame_in_lem _ _ below in
+    let in_use : c.loop-left.left - 1 < c.args.depth = omega (arith, c.loop-left-test.true, c.loop-left.invariant.most) in
+    let below : c.loop-left.left - 1 < 129 = omega (arith, in_use, c.requires.depth_bound) in
+    let reads : c.frame_at-around.result ≡ get_or (frames_in c.args.frames.now) (c.loop-left.left - 1) no_frame = c.frame_at-around.ensures ∙ frame_in_lem _ _ below in
     record { promise = c.requires.promise; block_bound = rw reads (c.requires.by_index _ in_use); target_bound = c.target_of-target.ensures.1 }
 
 pub loop-left-preserved : goal.loop-left-preserved
 loop-left-preserved c =
-    let in_use : c.loop-left.false - 1 < c.args.depth = omega (arith, c.loop-left-test.true, c.loop-left.invariant.most) in
-    let below : c.loop-left.false - 1 < 129 = omega (arith, in_use, c.requires.depth_bound) in
-    let reads : c.frame_at-around.result ≡ get_or (frames_in c.args.frames.now) (c.loop-left.false - 1) no_frame = c.frame_at-around.ensures ∙ frame_in_lem _ _ below in
+    let in_use : c.loop-left.left - 1 < c.args.depth = omega (arith, c.loop-left-test.true, c.loop-left.invariant.most) in
+    let below : c.loop-left.left - 1 < 129 = omega (arith, in_use, c.requires.depth_bound) in
+    let reads : c.frame_at-around.result ≡ get_or (frames_in c.args.frames.now) (c.loop-left.left - 1) no_frame = c.frame_at-around.ensures ∙ frame_in_lem _ _ below in
     survey_on _ _ _ _ _ _ _ _ _ c.loop-left.invariant c.loop-left-test.true (rw (c.target_of-target.ensures.0, reads) at c.pass-seen.ensures)
 
 pub returns : goal.returns
