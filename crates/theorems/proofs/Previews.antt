@@ -4,7 +4,7 @@ use mathlib.Core.Path.{◌≡◌, sym, ap, ◌∙◌, subst}
 use mathlib.Core.List.{List}
 use lib.ListN.{length}
 use contract.Lifetimes.{Lfts}
-use denote.Ref.{Bor}
+use denote.Ref.{Bor, MutBor}
 use Rattle.definition.specs.Around.{Rule, rust, language}
 use Rattle.definition.specs.Build.{refusal, built}
 use Rattle.definition.specs.Build as definition
@@ -58,7 +58,7 @@ the_language_preview_gives_the_definition κs before after answer learnt = learn
 
 -- the export's references: the words, at, rows, visits and lines
 abbrev pub LentWithAnswer : Type 0
-LentWithAnswer = Bor (List ℕ) × (Bor ℕ × (Bor ℕ × (Bor ℕ × (Bor ℕ × Unit {0}))))
+LentWithAnswer = Bor (List ℕ) × (MutBor ℕ × (MutBor ℕ × (MutBor ℕ × (MutBor ℕ × Unit {0}))))
 
 pub the_preview_export_asks_nothing : (κs : Lfts 5) (before : LentWithAnswer) → export.Asked κs before
 the_preview_export_asks_nothing κs before = tt

@@ -6,7 +6,7 @@ use mathlib.Core.Path.{◌≡◌, refl}
 use mathlib.Core.List.{List}
 use lib.ListN.{length}
 use contract.Lifetimes.{Lfts}
-use denote.Ref.{Bor}
+use denote.Ref.{Bor, MutBor}
 use Rattle.text.specs.Layout.{Layout, layout}
 use Rattle.text.specs.Answer.{Answered}
 use Rattle.text.specs.Reading.{reading, read_into}
@@ -77,7 +77,7 @@ use Rattle.convert.proofs.file.print_old.Reads as old_entry
 
 -- the file, and the lent words; in the programs below the file, and the lent bytes
 abbrev pub Lent : Type 0
-Lent = Bor (List ℕ) × (Bor (List ℕ) × Unit {0})
+Lent = Bor (List ℕ) × (MutBor (List ℕ) × Unit {0})
 
 pub read_meets_its_contract : {M : Type 1} → read_stated.statement M
 read_meets_its_contract = read_proved.met
@@ -91,7 +91,7 @@ read_gives_the_definition κs before after answer learnt = learnt
 
 -- the file, the form and the lent words
 abbrev pub LentForm : Type 0
-LentForm = Bor (List ℕ) × (Version × (Bor (List ℕ) × Unit {0}))
+LentForm = Bor (List ℕ) × (Version × (MutBor (List ℕ) × Unit {0}))
 
 pub read_as_meets_its_contract : {M : Type 1} → read_as_stated.statement M
 read_as_meets_its_contract = read_as_proved.met
@@ -114,7 +114,7 @@ a_reading_has_one_answer = answered_one
 
 -- the lent bytes, code, at, rows, visits and the tree
 abbrev pub Result : Type 0
-Result = Bor (List ℕ) × (ℕ × (ℕ × (ℕ × (ℕ × (Bor (List ℕ) × Unit {0})))))
+Result = MutBor (List ℕ) × (ℕ × (ℕ × (ℕ × (ℕ × (Bor (List ℕ) × Unit {0})))))
 
 abbrev pub result_text : Result → List ℕ
 result_text before = printed before.1.0 before.1.1.0 before.1.1.1.0 before.1.1.1.1.0 before.1.1.1.1.1.0.now
@@ -136,7 +136,7 @@ build_file_meets_its_contract = build_proved.met
 
 -- the rule, the file and the lent bytes
 abbrev pub Ruled : Type 0
-Ruled = code.Rule × (Bor (List ℕ) × (Bor (List ℕ) × Unit {0}))
+Ruled = code.Rule × (Bor (List ℕ) × (MutBor (List ℕ) × Unit {0}))
 
 pub build_file_asks_nothing : (κs : Lfts 2) (before : Ruled) → build_entry.Asked κs before
 build_file_asks_nothing κs before = tt

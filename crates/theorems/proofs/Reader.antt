@@ -6,7 +6,7 @@ use mathlib.Core.Path.{◌≡◌}
 use mathlib.Core.List.{List}
 use lib.ListN.{length, get_or}
 use contract.Lifetimes.{Lfts}
-use denote.Ref.{Bor}
+use denote.Ref.{Bor, MutBor}
 use Rattle.table.specs.Check.{accepted, checked}
 use Rattle.text.specs.Answer.{Accepted, Refusal}
 use Rattle.text.specs.Layout.{layout}
@@ -28,7 +28,7 @@ table_read_meets_its_contract = read_export_proved.met
 
 -- a call's references, before or after it: the file, the lent words, at and the number of words
 abbrev pub FileAndWords : Type 0
-FileAndWords = Bor (List ℕ) × (Bor (List ℕ) × (Bor ℕ × (Bor ℕ × Unit {0})))
+FileAndWords = Bor (List ℕ) × (MutBor (List ℕ) × (MutBor ℕ × (MutBor ℕ × Unit {0})))
 
 pub table_read_asks_nothing : (κs : Lfts 4) (before : FileAndWords) → read_export.Asked κs before
 table_read_asks_nothing κs before = tt

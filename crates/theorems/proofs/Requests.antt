@@ -8,7 +8,7 @@ use mathlib.Core.Logic.{◌⊎◌}
 use mathlib.Core.Option.{none, some}
 use lib.ListN.{length, take, get_or}
 use contract.Lifetimes.{Lfts}
-use denote.Ref.{Bor}
+use denote.Ref.{Bor, MutBor}
 use Rattle.table.specs.Table.{table_of}
 use Rattle.table.specs.Check.{accepted, checked}
 use Rattle.table.proofs.PromiseLaws.{promised}
@@ -106,11 +106,11 @@ use Rattle.tree_run.proofs.tree_run.Reads as run_export
 
 -- words or a file, and the lent text
 abbrev pub Lent : Type 0
-Lent = Bor (List ℕ) × (Bor (List ℕ) × Unit {0})
+Lent = Bor (List ℕ) × (MutBor (List ℕ) × Unit {0})
 
 -- the export's: at and length too
 abbrev pub LentWithAnswer : Type 0
-LentWithAnswer = Bor (List ℕ) × (Bor (List ℕ) × (Bor ℕ × (Bor ℕ × Unit {0})))
+LentWithAnswer = Bor (List ℕ) × (MutBor (List ℕ) × (MutBor ℕ × (MutBor ℕ × Unit {0})))
 
 -- ---- M-109: one way to schedule. The operation's promise is one equation for every target and Context: the stack and the set handed back, or 15
 
@@ -284,7 +284,7 @@ lookup_meets_its_contract = lookup_proved.met
 
 -- and the code and at, which are lent
 abbrev pub SearchedWithCode : Type 0
-SearchedWithCode = Bor (List ℕ) × (ℕ × (ℕ × (Bor (List ℕ) × (Bor ℕ × (Bor ℕ × Unit {0})))))
+SearchedWithCode = Bor (List ℕ) × (ℕ × (ℕ × (Bor (List ℕ) × (MutBor ℕ × (MutBor ℕ × Unit {0})))))
 
 pub lookup_asks_nothing : (κs : Lfts 4) (before : SearchedWithCode) → lookup_entry.Asked κs before
 lookup_asks_nothing κs before = tt
@@ -299,7 +299,7 @@ tree_lookup_meets_its_contract = lookup_export_proved.met
 
 -- and at, begin and end
 abbrev pub SearchedWithPart : Type 0
-SearchedWithPart = Bor (List ℕ) × (ℕ × (ℕ × (Bor (List ℕ) × (Bor ℕ × (Bor ℕ × (Bor ℕ × Unit {0}))))))
+SearchedWithPart = Bor (List ℕ) × (ℕ × (ℕ × (Bor (List ℕ) × (MutBor ℕ × (MutBor ℕ × (MutBor ℕ × Unit {0}))))))
 
 pub tree_lookup_asks_nothing : (κs : Lfts 5) (before : SearchedWithPart) → lookup_export.Asked κs before
 tree_lookup_asks_nothing κs before = tt
@@ -316,7 +316,7 @@ run_tree_meets_its_contract = run_proved.met
 
 -- the tree, the answers and the lent buffer
 abbrev pub Run : Type 0
-Run = Bor (List ℕ) × (Bor (List ℕ) × (Bor (List ℕ) × Unit {0}))
+Run = Bor (List ℕ) × (Bor (List ℕ) × (MutBor (List ℕ) × Unit {0}))
 
 pub run_tree_asks_nothing : (κs : Lfts 3) (before : Run) → run_entry.Asked κs before
 run_tree_asks_nothing κs before = tt
@@ -330,7 +330,7 @@ tree_run_meets_its_contract = run_export_proved.met
 
 -- and at, number and reason
 abbrev pub RunWithAnswer : Type 0
-RunWithAnswer = Bor (List ℕ) × (Bor (List ℕ) × (Bor (List ℕ) × (Bor ℕ × (Bor ℕ × (Bor ℕ × Unit {0})))))
+RunWithAnswer = Bor (List ℕ) × (Bor (List ℕ) × (MutBor (List ℕ) × (MutBor ℕ × (MutBor ℕ × (MutBor ℕ × Unit {0})))))
 
 pub tree_run_asks_nothing : (κs : Lfts 6) (before : RunWithAnswer) → run_export.Asked κs before
 tree_run_asks_nothing κs before = tt

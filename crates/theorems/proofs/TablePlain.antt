@@ -4,7 +4,7 @@ use Prim.Native.Nat.{ℕ}
 use mathlib.Core.Path.{◌≡◌}
 use mathlib.Core.List.{List}
 use contract.Lifetimes.{Lfts}
-use denote.Ref.{Bor}
+use denote.Ref.{Bor, MutBor}
 use Rattle.table.specs.Check.{checked}
 use Rattle.table.specs.Answer.{code_of, place_of}
 use Rattle.plain.specs.Plainness.{plainness_of}
@@ -17,7 +17,7 @@ the_plain_export_meets_its_contract = export_proved.met
 
 -- the export's references: the words, at and the number
 abbrev pub LentWithNumber : Type 0
-LentWithNumber = Bor (List ℕ) × (Bor ℕ × (Bor ℕ × Unit {0}))
+LentWithNumber = Bor (List ℕ) × (MutBor ℕ × (MutBor ℕ × Unit {0}))
 
 pub the_plain_export_asks_nothing : (κs : Lfts 3) (before : LentWithNumber) → export.Asked κs before
 the_plain_export_asks_nothing κs before = tt

@@ -9,7 +9,7 @@ use mathlib.Core.Bool.{Bool}
 use lib.ListN.{length, take}
 use lib.Dec.{T, eqb}
 use contract.Lifetimes.{Lfts}
-use denote.Ref.{Bor}
+use denote.Ref.{Bor, MutBor}
 use Rattle.table.specs.Check.{accepted, checked}
 use Rattle.table.specs.Table.{Table, table_of}
 use Rattle.table.specs.Answer as table
@@ -129,7 +129,7 @@ the_language_export_meets_its_contract = language_export_proved.met
 
 -- a call's references, before or after it: the words, the lent tree and the lent index
 abbrev pub Lent : Type 0
-Lent = Bor (List ℕ) × (Bor (List ℕ) × (Bor (List ℕ) × Unit {0}))
+Lent = Bor (List ℕ) × (MutBor (List ℕ) × (MutBor (List ℕ) × Unit {0}))
 
 pub build_asks_nothing : (κs : Lfts 3) (before : Lent) → entry.Asked κs before
 build_asks_nothing κs before = tt
@@ -148,7 +148,7 @@ the_language_entry_gives_the_definition κs before after answer learnt = learnt
 
 -- the export's references: the words, the lent tree and index, and the four words of its answer beside the code
 abbrev pub LentWithAnswer : Type 0
-LentWithAnswer = Bor (List ℕ) × (Bor (List ℕ) × (Bor (List ℕ) × (Bor ℕ × (Bor ℕ × (Bor ℕ × (Bor ℕ × Unit {0}))))))
+LentWithAnswer = Bor (List ℕ) × (MutBor (List ℕ) × (MutBor (List ℕ) × (MutBor ℕ × (MutBor ℕ × (MutBor ℕ × (MutBor ℕ × Unit {0}))))))
 
 pub export_asks_nothing : (κs : Lfts 7) (before : LentWithAnswer) → export.Asked κs before
 export_asks_nothing κs before = tt
@@ -216,7 +216,7 @@ pub table_check_meets_its_contract : {M : Type 1} → check_export_stated.statem
 table_check_meets_its_contract = check_export_proved.met
 
 abbrev pub WordsAndPlace : Type 0
-WordsAndPlace = Bor (List ℕ) × (Bor ℕ × Unit {0})
+WordsAndPlace = Bor (List ℕ) × (MutBor ℕ × Unit {0})
 
 pub table_check_asks_nothing : (κs : Lfts 2) (before : WordsAndPlace) → check_export.Asked κs before
 table_check_asks_nothing κs before = tt

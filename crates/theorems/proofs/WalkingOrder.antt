@@ -5,7 +5,7 @@ use mathlib.Core.List.{List}
 use mathlib.Core.Bool.{true}
 use lib.ListN.{length}
 use contract.Lifetimes.{Lfts}
-use denote.Ref.{Bor}
+use denote.Ref.{Bor, MutBor}
 use Rattle.table.specs.Words.{entry_word, block_count}
 use Rattle.table.specs.Check.{accepted, checked}
 use Rattle.table.specs.Table.{table_of}
@@ -46,12 +46,18 @@ blocks_rearrange_meets_its_contract = export_rearrange_proved.met
 pub blocks_restore_meets_its_contract : {M : Type 1} → export_restore_stated.statement M
 blocks_restore_meets_its_contract = export_restore_proved.met
 
--- three slices: the words, the lent words and list; or the words, the list and the lent words. The export's have at too
+-- three slices: the words, the lent words and list; or (Restored) the words, the list and the lent words. The exports have at too
 abbrev pub Lent : Type 0
-Lent = Bor (List ℕ) × (Bor (List ℕ) × (Bor (List ℕ) × Unit {0}))
+Lent = Bor (List ℕ) × (MutBor (List ℕ) × (MutBor (List ℕ) × Unit {0}))
 
 abbrev pub LentWithAnswer : Type 0
-LentWithAnswer = Bor (List ℕ) × (Bor (List ℕ) × (Bor (List ℕ) × (Bor ℕ × Unit {0})))
+LentWithAnswer = Bor (List ℕ) × (MutBor (List ℕ) × (MutBor (List ℕ) × (MutBor ℕ × Unit {0})))
+
+abbrev pub Restored : Type 0
+Restored = Bor (List ℕ) × (Bor (List ℕ) × (MutBor (List ℕ) × Unit {0}))
+
+abbrev pub RestoredWithAnswer : Type 0
+RestoredWithAnswer = Bor (List ℕ) × (Bor (List ℕ) × (MutBor (List ℕ) × (MutBor ℕ × Unit {0})))
 
 pub rearrange_asks_nothing : (κs : Lfts 3) (before : Lent) → rearrange_entry.Asked κs before
 rearrange_asks_nothing κs before = tt
@@ -60,10 +66,10 @@ pub rearrange_gives_the_definition : (κs : Lfts 3) (before after : Lent) (answe
     → rearranging answer after.1.0.now after.1.1.0.now ≡ rearrangement before.0.now (length before.1.0.now) (length before.1.1.0.now)
 rearrange_gives_the_definition κs before after answer learnt = learnt
 
-pub restore_asks_nothing : (κs : Lfts 3) (before : Lent) → restore_entry.Asked κs before
+pub restore_asks_nothing : (κs : Lfts 3) (before : Restored) → restore_entry.Asked κs before
 restore_asks_nothing κs before = tt
 
-pub restore_gives_the_definition : (κs : Lfts 3) (before after : Lent) (answer : Moved) → restore_entry.Learnt κs before answer after
+pub restore_gives_the_definition : (κs : Lfts 3) (before after : Restored) (answer : Moved) → restore_entry.Learnt κs before answer after
     → restoring answer after.1.1.0.now ≡ restoration before.0.now before.1.0.now (length before.1.1.0.now)
 restore_gives_the_definition κs before after answer learnt = learnt
 
@@ -75,10 +81,10 @@ pub blocks_rearrange_gives_the_definition : (κs : Lfts 4) (before after : LentW
     ≡ rearrangement before.0.now (length before.1.0.now) (length before.1.1.0.now)
 blocks_rearrange_gives_the_definition κs before after code learnt = learnt
 
-pub blocks_restore_asks_nothing : (κs : Lfts 4) (before : LentWithAnswer) → export_restore.Asked κs before
+pub blocks_restore_asks_nothing : (κs : Lfts 4) (before : RestoredWithAnswer) → export_restore.Asked κs before
 blocks_restore_asks_nothing κs before = tt
 
-pub blocks_restore_gives_the_definition : (κs : Lfts 4) (before after : LentWithAnswer) (code : ℕ) → export_restore.Learnt κs before code after
+pub blocks_restore_gives_the_definition : (κs : Lfts 4) (before after : RestoredWithAnswer) (code : ℕ) → export_restore.Learnt κs before code after
     → record { code = code; at = after.1.1.1.0.now; table = after.1.1.0.now } ≡ restoration before.0.now before.1.0.now (length before.1.1.0.now)
 blocks_restore_gives_the_definition κs before after code learnt = learnt
 

@@ -1,7 +1,7 @@
 -- A call of either entry of the build, as its caller sees it, read off the contracts of the code itself.
 use Rattle.std.specs.Prelude.{ℕ, List, length}
 use contract.Lifetimes.{Lfts}
-use Rattle.std.specs.Borrow.{Bor}
+use Rattle.std.specs.Borrow.{Bor, MutBor}
 use Rattle.definition.specs.Around.{Rule, rust, language}
 use Rattle.definition.specs.Build.{built}
 use Rattle.definition.specs.Build as definition
@@ -12,7 +12,7 @@ use Rattle.build.proofs.build_language.Reads as language_entry
 
 -- what a call lends, before or after it: the words, the buffer for the tree, the buffer for the index
 abbrev pub Lent : Type 0
-Lent = Bor (List ℕ) × (Bor (List ℕ) × (Bor (List ℕ) × Unit {0}))
+Lent = Bor (List ℕ) × (MutBor (List ℕ) × (MutBor (List ℕ) × Unit {0}))
 
 -- what a call of build_reactive_function, or of build_language (M-102), must show, and what it learns
 abbrev pub Asked : Rule → Lfts 3 → (before : Lent) → Type 0
