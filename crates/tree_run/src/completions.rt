@@ -36,6 +36,7 @@ pub fn complete(kind: u32, target: u32, jump: u32) -> Completion
 }
 
 // Whether a loop with this label goes on after its body completed so: ECMA-262, LoopContinues(completion, labelSet), step by step.
+#[tactic(auto, using(crate::proofs::CompletionLaws::continues_bare, crate::proofs::CompletionLaws::continues_label, crate::proofs::CompletionLaws::continues_other))]
 pub fn loop_continues(completion: Completion, label: u32) -> bool
     ensures { result ≡ loop_continues (completion_of completion) (label_set (unless_none label)) }
 {
