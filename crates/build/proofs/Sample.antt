@@ -1,14 +1,14 @@
 -- The sample of paper 01, from the bytes of its file to the bytes that are printed.
-use mathlib.Core.Path.{◌≡◌, refl, sym, ap, ◌∙◌}
+use mathlib.Core.Path.{sym, ap, ◌∙◌}
 use native.Mathlib.Omega.{arith}
 use mathlib.Core.Logic.{inl}
 use Rattle.text.specs.Ascii.{ascii}
 use Rattle.text.specs.Samples.{sample_good, sample_printed}
 use Rattle.definition.specs.Around.{rust}
-use Rattle.definition.specs.Build.{Outcome, built}
+use Rattle.definition.specs.Build.{Outcome}
 use Rattle.definition.proofs.Samples.{file_sample}
 use Rattle.definition.specs.Samples.{file}
-use Rattle.build.specs.Prints.{lent_words, printed_outcome, Prints}
+use Rattle.build.specs.Prints.{printed_outcome, Prints}
 
 -- "Lines of input", "Output"
 pub sample_prints :

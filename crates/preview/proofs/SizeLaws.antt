@@ -1,9 +1,9 @@
 -- What is printed of a preview: 81 bytes are enough.
 use mathlib.Core.Path.{◌≡◌, ◌∙◌}
 use mathlib.Core.List.{List, [], ◌∷◌, ◌++◌}
-use Prim.Native.Nat.{ℕ, ◌^◌, ◌≤◌, ◌<◌}
+use Prim.Native.Nat.{ℕ, ◌^◌, ◌<◌}
 use native.Mathlib.Omega.{arith}
-use lib.ListN.{length, length-append}
+use lib.ListN.{length-append}
 use Rattle.text.specs.Line.{line}
 use Rattle.text.specs.Printed.{written_of, lent_of}
 use Rattle.text.specs.Prints.{WrittenText}

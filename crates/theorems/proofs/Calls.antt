@@ -1,6 +1,6 @@
 -- What a call of either entry learns, by the rule: it asks nothing, it gives the definition's outcome, that outcome has the paper's form, and the run law with loops and
 -- switches holds of it. For Demands.
-use mathlib.Core.Path.{◌≡◌, sym, ap, ◌∙◌, subst}
+use mathlib.Core.Path.{◌≡◌, sym, subst}
 use lib.ListN.{length}
 use contract.Lifetimes.{Lfts}
 use Rattle.table.specs.Table.{table_of}

@@ -4,9 +4,8 @@ use mathlib.Core.Path.{◌≡◌, refl, sym, ap, ◌∙◌, subst}
 use Prim.Native.Nat.{ℕ, zero, suc, ◌+◌, ◌*◌, ◌-◌, ◌/◌, ◌≤◌, ◌<◌}
 use native.Mathlib.Omega.{arith}
 use mathlib.Core.List.{List, [], ◌∷◌, ◌++◌, append_assoc, map}
-use mathlib.Core.Option.{Option}
 use mathlib.Core.Bool.{Bool, true, false}
-use lib.ListN.{length, get_or, take, drop, replicate, length-append, length-replicate, length-map, get_or-map}
+use lib.ListN.{length, get_or, drop, replicate, length-append, length-map, get_or-map}
 use lib.Seq.{slice, take_at, drop_at}
 use lib.Dec.{leb}
 use borrow.Author.Tests.{leb-true, leb-false}
@@ -22,8 +21,7 @@ use Rattle.definition.proofs.Outcomes.{index_length, buffer_length}
 use Rattle.definition.proofs.Checked.{ranged}
 use Rattle.definition.proofs.Emitted.{Without, Different, tree_different, tree_few}
 use Rattle.definition.proofs.Law.{read_tree}
-use Rattle.lookup.specs.Lookup.{lines_read, line_word, first_with, part_of, found_at, found, part_found, looked}
-use Rattle.lookup.specs.declared.Found.{Found}
+use Rattle.lookup.specs.Lookup.{lines_read, line_word, part_of, found, part_found}
 use Rattle.lookup.proofs.Searches.{First, as_told, as_held}
 use Rattle.lookup.proofs.Answers.{by_first, part_in}
 use Rattle.definition.proofs.Rises.{Rises, no_more, then_on_lem, tree_rises}

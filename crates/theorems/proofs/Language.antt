@@ -1,22 +1,22 @@
 -- M-102 from the outcomes that a caller sees: the entries differ only so, the first entry never gives 29, and the labels of an accepted tree are there.
 use mathlib.Core.Path.{◌≡◌, refl, sym, ap, ◌∙◌, subst}
-use Prim.Native.Nat.{ℕ, ◌*◌, ◌-◌, ◌/◌, ◌≤◌}
+use Prim.Native.Nat.{ℕ, ◌/◌, ◌≤◌}
 use native.Mathlib.Omega.{arith}
-use mathlib.Core.List.{List, [], ◌++◌}
+use mathlib.Core.List.{List, []}
 use mathlib.Core.Logic.{⊎_elim}
 use mathlib.Core.Bool.{Bool, true, false}
 use lib.Dec.{T, leb}
-use lib.ListN.{take, length, replicate}
+use lib.ListN.{length}
 use Rattle.table.specs.Check.{Verdict, checked}
 use Rattle.table.specs.Check as check
 use Rattle.table.specs.Table.{table_of}
 use Rattle.definition.specs.Around.{Rule, rust, language}
 use Rattle.definition.specs.Result.{Result, ok, refused}
 use Rattle.definition.specs.Statement.{BlockResult, build_tree}
-use Rattle.definition.specs.Tree.{Statements, Row, rows}
+use Rattle.definition.specs.Tree.{Row, rows}
 use Rattle.definition.specs.Index.{Line, lines}
 use Rattle.theorems.proofs.SameLines.{same_lines}
-use Rattle.definition.specs.Build.{Outcome, report, reported, refusal, words_of, placed, outcome_of, after_check, built}
+use Rattle.definition.specs.Build.{Outcome, report, reported, refusal, placed, outcome_of, after_check, built}
 use Rattle.definition.specs.Relabeled.{relabeled, Apart, AlikeBlocks, alike_blocks, visits_after}
 use Rattle.theorems.specs.LabelsThere.{LabelsThere}
 use Rattle.theorems.specs.Parted.{Parted, refused_alike, unnamed, relabeled_alike}

@@ -1,5 +1,5 @@
 -- The reader, the writer of results and the programs as functions: each contract is met for any input and demands nothing (`asks_nothing`), and what a caller learns from
--- it is what the definition gives, in the answer and in every lent word or byte (`gives-the-definition`).
+-- it is what the definition gives, in the answer and in every lent word or byte (`gives_the_definition`).
 -- Statements only, each by the lemma that proves it.
 use Prim.Native.Nat.{ℕ, ◌≤◌, ◌<◌}
 use mathlib.Core.Path.{◌≡◌, refl}

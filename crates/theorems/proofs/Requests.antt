@@ -1,5 +1,5 @@
 -- The entries of paper 02's requests beside the build: each contract is met for any input and demands nothing (`asks_nothing`), and what a caller learns from it is what
--- the definition gives, every lent word of it (`gives-the-definition`).
+-- the definition gives, every lent word of it (`gives_the_definition`).
 -- Statements only, each by the lemma that proves it. M-111's stand in WalkingOrder.
 use Prim.Native.Nat.{ℕ, ◌*◌, ◌^◌, ◌<◌, ◌≤◌}
 use mathlib.Core.Path.{◌≡◌, refl, ap, sym, ◌∙◌, subst}

@@ -1,6 +1,6 @@
 -- M-103: a tree with none of the rows that 64 speaks of stops for a return, a throw, no answer left, a jump without target, or the end of the tree. So the
 -- arms of `ran` that would give 64 after running are never reached: 64 comes "before running" alone. For Requests.
-use mathlib.Core.Path.{◌≡◌, refl, sym, ap, ◌∙◌, subst}
+use mathlib.Core.Path.{◌≡◌, refl, sym, ap, ◌∙◌}
 use Prim.Native.Nat.{ℕ, zero, suc}
 use native.Mathlib.Omega.{arith}
 use mathlib.Core.List.{List, [], ◌∷◌}

@@ -85,7 +85,7 @@ use Rattle.tree_check.proofs.tree_check.Statement as tree_export_stated
 use Rattle.tree_check.proofs.tree_check.Met as tree_export_proved
 use Rattle.tree_check.proofs.tree_check.Reads as tree_export
 use Rattle.text.specs.Ascii.{ascii}
-use Rattle.text.specs.Decimal.{digits_of, decimal}
+use Rattle.text.specs.Decimal.{digits_of}
 use Rattle.text.proofs.DecimalLaws.{steps}
 use Rattle.walk.specs.declared.Outcome.{Outcome}
 use Rattle.build.specs.Entry.{outcome}

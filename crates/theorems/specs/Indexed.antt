@@ -1,5 +1,5 @@
 -- M-101 of an outcome: what holds of its index and of lookups in it. proofs/Found proves it of every accepted build, in either entry. Quotes are M-101's.
-use Rattle.std.specs.Prelude.{◌≡◌, ℕ, ◌<◌, List, [], ◌∷◌}
+use Rattle.std.specs.Prelude.{◌≡◌, ℕ, ◌<◌, []}
 use Rattle.definition.specs.Tree.{Statements, statement_rows}
 use Rattle.definition.specs.Index.{Labelled, labelled, Each}
 use Rattle.definition.specs.Build.{Outcome, words_of}

@@ -1,7 +1,6 @@
 use mathlib.Core.Path.{ap}
 use mathlib.Core.Bool.{not}
 use mathlib.Core.Path.{◌∙◌}
-use Prim.Native.Nat.{◌-◌}
 use Rattle.plain.specs.Asked.{asks}
 use Rattle.plain.proofs.AskedLaws.{answered}
 use Rattle.plain.proofs.EveryLaws.{yet_none, yet_more, yet_all, yet_not}

@@ -1,7 +1,6 @@
 use mathlib.Core.Path.{ap}
 use mathlib.Core.Bool.{not}
 use native.Mathlib.Omega.{arith}
-use Prim.Native.Nat.{◌-◌}
 use Rattle.table.specs.Table.{table_of}
 use Rattle.plain.specs.Laws.{test_by}
 use Rattle.plain.proofs.EveryLaws.{yet_none, yet_more, yet_all, yet_not}
