@@ -1,3 +1,4 @@
+use mathlib.Core.List.{[]}
 use native.Mathlib.Omega.{arith}
 use mathlib.Core.Path.{sym}
 use lib.Seq.{length-take-le}
@@ -18,4 +19,4 @@ pub returns-in-Refused : goal.returns-in-Refused
 returns-in-Refused c = record { out_after = (refusal_printed _ _ _ _ _ _ _ _ _ _ (rw c.in-Refused.is at (is_answered _ _ _ c.read-answer.ensures)).0 c.write_size.ensures).0; value = (refusal_printed _ _ _ _ _ _ _ _ _ _ (rw c.in-Refused.is at (is_answered _ _ _ c.read-answer.ensures)).0 c.write_size.ensures).1 }
 
 pub returns-in-NoRoom : goal.returns-in-NoRoom
-returns-in-NoRoom c = record { out_after = (never_short _ _ _ _ _ _ _ _ _ _ (omega (arith, c.lent_words-words.ensures)) (rw c.in-NoRoom.is at (is_answered _ _ _ c.read-answer.ensures))).0; value = (never_short _ _ _ _ _ _ _ _ _ _ (omega (arith, c.lent_words-words.ensures)) (rw c.in-NoRoom.is at (is_answered _ _ _ c.read-answer.ensures))).1 }
+returns-in-NoRoom c = record { out_after = (never_short _ _ _ 81 _ _ _ _ _ _ (omega (arith, c.lent_words-words.ensures)) (rw c.in-NoRoom.is at (is_answered _ _ _ c.read-answer.ensures))).0; value = (never_short _ _ _ _ _ [] _ _ _ _ (omega (arith, c.lent_words-words.ensures)) (rw c.in-NoRoom.is at (is_answered _ _ _ c.read-answer.ensures))).1 }
