@@ -65,6 +65,7 @@ fn visit_terminal<'a>(
 }
 
 // "Order at a visit: 30, 31, 10, then 11."
+#[tactic(auto, using(crate::proofs::TerminalLaws::deep_planned, crate::proofs::TerminalLaws::visits_planned))]
 pub fn visit_block<'a>(
     words: &[u32],
     tree: &mut [u32],

@@ -1,26 +1,20 @@
 -- `statements::visit::visit_block` meets its contract. Five ends, in the order of the tests: 30, 31, 10, 11, or the instructions and then the terminal.
--- One law of TerminalLaws for each.
+-- One law of TerminalLaws for each; the attribute of `visit_block` names those of 30 and 31.
 use mathlib.Core.Path.{refl, sym, ◌∙◌}
 use native.Mathlib.Omega.{arith}
 use Rattle.definition.specs.Context.{has}
-use Rattle.statements.proofs.TerminalLaws.{deep_planned, visits_planned, absent_planned, emitted_planned, entered_planned}
+use Rattle.statements.proofs.TerminalLaws.{absent_planned, emitted_planned, entered_planned}
 use Rattle.statements.proofs.visit.visit_block.Goals as goal
-
-pub returns-then-p-ge128 : goal.returns-then-p-ge128
-returns-then-p-ge128 c frame around = deep_planned _ _ _ _ _ _ _ around c.requires.visits frame _ _ c.if-p-ge128.true c.refuse.ensures
-
-pub returns-then-p-ge8192 : goal.returns-then-p-ge8192
-returns-then-p-ge8192 c frame around = visits_planned _ _ _ _ _ _ _ around c.requires.visits frame c.if-p-ge128.false _ _ c.if-p-ge8192.true c.refuse-then-p-ge8192.ensures
 
 pub returns-then-code_at-eq0 : goal.returns-then-code_at-eq0
 returns-then-code_at-eq0 c frame around =
-    absent_planned _ _ _ _ _ _ _ around c.requires.visits frame c.if-p-ge128.false c.if-p-ge8192.false _ _ _ refl
+    absent_planned _ _ _ _ _ _ _ around c.requires.visits frame (omega arith) (omega arith) _ _ _ refl
     (sym c.code_at.ensures ∙ c.if-code_at-eq0.true) (rw c.advance-begun.ensures at c.refuse-then-code_at-eq0.ensures)
 
 pub returns-then-emitted-block : goal.returns-then-emitted-block
 unfolding has
 returns-then-emitted-block c frame around =
-    emitted_planned _ _ _ _ _ _ _ around c.requires.visits frame c.if-p-ge128.false c.if-p-ge8192.false
+    emitted_planned _ _ _ _ _ _ _ around c.requires.visits frame (omega arith) (omega arith)
     (λ e. c.if-code_at-eq0.false (c.code_at.ensures ∙ e)) _ _ _ refl c.if-emitted-block.true
     (rw c.advance-begun.ensures at c.refuse-then-emitted-block.ensures)
 
@@ -36,8 +30,8 @@ visit_terminal-requires c =
       entered = rw c.advance-p.ensures (record {
         promise = c.requires.visits.promise;
         block = c.requires.visits.block;
-        depth = c.if-p-ge128.false;
-        visits = omega (arith, c.if-p-ge8192.false);
+        depth = omega arith;
+        visits = omega arith;
         rows = omega (
           arith,
           c.put_instructions-rows.ensures.more,
@@ -55,7 +49,7 @@ visit_terminal-requires c =
 pub returns : goal.returns
 unfolding has
 returns c frame around =
-    entered_planned _ _ _ _ _ _ _ around c.requires.visits frame c.if-p-ge128.false c.if-p-ge8192.false
+    entered_planned _ _ _ _ _ _ _ around c.requires.visits frame (omega arith) (omega arith)
     (λ e. c.if-code_at-eq0.false (c.code_at.ensures ∙ e)) c.block_at-head.ensures _ _ _ _ _ c.if-emitted-block.false refl refl
     refl refl c.put_instructions-rows.ensures
     (rw c.advance-p.ensures at (c.visit_terminal.ensures around))
