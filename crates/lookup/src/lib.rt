@@ -108,8 +108,7 @@ pub fn lookup<'a>(
 }
 
 // The same for callers in C or Rust: the code, the place, and the bounds of the part.
-#[unsafe(no_mangle)]
-pub extern "C" fn tree_lookup(
+pub fn tree_lookup(
     index: &[u32],
     lines: u32,
     label: u32,
