@@ -97,7 +97,7 @@ pub fn lookup<'a>(
     code: &mut u32,
     at: &mut u32,
 ) -> &'a [u32]
-    ensures { record { code = code.exit.now; at = at.new; words = result.now } ≡ looked index.now lines label tree.now }
+    ensures { record { code = code.new; at = at.new; words = result.now } ≡ looked index.now lines label tree.now }
 {
     let found = find(index, lines, label, tree);
     *at = found.at;
