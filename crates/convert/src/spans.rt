@@ -8,6 +8,7 @@ ghost use Rattle.convert.specs.Parts.{old_place, apart_at};
 use table::words::{block_count, instruction_count, instructions_begin};
 
 // The place in the old form of a word that has this place in the widened words.
+#[tactic(auto, using(crate::proofs::SpanLaws::place_head))]
 pub fn old_place(wide: &[u32], at: u32) -> u32
     requires in_bounds { 6 ≤ length wide.now }
     requires wide_bound { 6 + block_count wide.now * 11 + instruction_count wide.now * 7 ≤ 19456 }

@@ -46,6 +46,7 @@ fn cases_then(first_case: u32, cases: u32, fallthrough: u32) -> Named
 }
 
 // A For whose update may be none (65,535).
+#[tactic(auto, using(crate::proofs::BlockLaws::no_number))]
 fn for_names(end: For) -> Named
     ensures { result ≡ for_names end.init end.test (unless_none end.update) end.loop_block end.fallthrough }
 {

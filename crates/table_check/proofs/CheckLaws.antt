@@ -7,7 +7,7 @@ use native.Mathlib.Omega.{arith}
 use lib.ListN.{length}
 use lib.Dec.{leb}
 use borrow.Author.Tests.{le-ltb, le-leb, lt-leb, not-true, not-false}
-use Rattle.table.specs.Words.{word}
+use Rattle.table.specs.Words.{word, block_count}
 use Rattle.table.specs.Check.{Verdict, accepted, refused, and_then, limits, counts_verdict, checked}
 use Rattle.table.specs.Answer.{is_accepted}
 use Rattle.table_check.specs.Found.{first_over}
@@ -28,6 +28,11 @@ module _ (ws : List ℕ) where
   pub counted_all : (at : ℕ) → at ≡ first_over ws at []
   unfolding first_over
   counted_all at = refl
+
+  -- the first count, over its limit
+  pub many_blocks : {count : ℕ} → count ≡ block_count ws → 1024 < count → 1 ≡ first_over ws 1 limits
+  unfolding block_count
+  many_blocks e h = counted_off _ _ _ e h
 
   -- the verdict on the counts is that on the first over its limit
   pub counts_bad : (at : ℕ) (limits : List ℕ) → first_over ws at limits < at + length limits → counts_verdict ws at limits ≡ refused 2 (first_over ws at limits)

@@ -15,6 +15,7 @@ use crate::blocks::check_blocks;
 use table::{Checked, words};
 
 // The head word of the first count over its limit; 6 where none is.
+#[tactic(auto, using(crate::proofs::CheckLaws::many_blocks))]
 fn count_over_limit(words: &[u32]) -> u32
     requires { 6 ≤ length words.now }
     ensures { result ≡ first_over words.now 1 limits }

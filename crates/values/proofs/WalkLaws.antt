@@ -14,13 +14,14 @@ use Rattle.table.specs.Table.{Table, Block, Terminal, absent, unreachable, throw
 use Rattle.table.specs.Promise.{Promise, Ends, Heads}
 use Rattle.table.proofs.BlockLaws.{end_by, code_at_lem, low_number}
 use Rattle.table.proofs.ColumnLaws.{head_rows}
+use Rattle.definition.specs.Tree.{PLAIN}
 use Rattle.definition.specs.Result.{Result, ok, refused, ◌>>=◌, refuse_if}
 use Rattle.definition.specs.Value.{ValueBlockResult, ValueTerminalResult, TestBlockResult, VisitValueBlock, visit_value_block, visit_value_block_at, visit_value_block_terminal, then_fallthrough, begin_visit, extract_or_refuse, branch_value, maybe_throw_value, is_empty_goto, is_fallthrough, Ways, branch_ways, test_block_ended}
 use Rattle.values.specs.declared.result.Tally.{Tally}
 use Rattle.values.specs.declared.result.ValueResult.{ValueResult}
-use Rattle.values.specs.Met.{block_result, Fit, Met}
+use Rattle.values.specs.Met.{refusal, block_result, Fit, Met}
 use Rattle.values.specs.WalkOutcome.{visit, block_outcome, terminal_outcome}
-use Rattle.values.proofs.MetLaws.{wrap, unless_on, unless_off, defined, moved}
+use Rattle.values.proofs.MetLaws.{wrap, unless_on, unless_off, defined, moved, stops}
 
 -- ---- a visit
 
@@ -114,6 +115,12 @@ pub visit_begun : {ws : List ℕ} {tally : Tally} {block code n : ℕ} {b b' : L
     → Met ws block_result (visit ws levels block (unless_none fallthrough) span tally.visits) tally 0 b r b'
 visit_begun fit levels fallthrough span more few known there passed met most =
     defined (visit_on fit levels fallthrough span more few known there passed) (moved met refl (omega (arith, met.numbers, most)))
+
+-- the end for 31
+pub visit_full : {ws : List ℕ} {tally : Tally} {block : ℕ} {b b' : List ℕ} {r : ValueResult} → Fit ws tally 0 block → (levels fallthrough : ℕ) (span : Span)
+    → (levels ≡ 0 → ⊥) → tally.visits ≡ 8192 → r ≡ refusal 31 block tally
+    → Met ws block_result (visit ws levels block (unless_none fallthrough) span tally.visits) tally 0 b r b'
+visit_full fit levels fallthrough span more full e = defined (visit_31 fit levels fallthrough span more full) (stops (PLAIN 0) e refl (omega (arith, fit.visits)))
 
 -- neither absent nor one of the three ends that a value block treats by themselves
 pub record OtherEnd (code : ℕ) : Type 0 where

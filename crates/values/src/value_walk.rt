@@ -19,6 +19,7 @@ use table::terminals::{
 
 // The value of a block. `fallthrough` is the block that must not be reached, NONE if there is none. `span` is the one that was passed down.
 #[cycle(logical_value_maybe_throw_value_optional_value_sequence_value_ternary_value_then_fallthrough_visit_test_block_visit_value_block_visit_value_block_terminal)]
+#[tactic(auto, using(crate::proofs::WalkLaws::visit_full))]
 pub fn visit_value_block(
     words: &[u32],
     buffer: &mut [u32],

@@ -8,7 +8,7 @@ use Rattle.table.proofs.RangeLaws.{code_known}
 use Rattle.table.specs.Table.{table_of, rows_from, unless_none}
 use Rattle.values.proofs.MetLaws.{row_kept, pass, goes, named, defined, stops, moved, met_wrap, count_rows, found_seq}
 use Rattle.values.proofs.StackLaws.{push_instructions_of}
-use Rattle.values.proofs.WalkLaws.{some_block, terminal_by, maybe_throw_missing, maybe_throw_own, maybe_throw_visits, ended_branch, ended_other, visit_30, visit_31, visit_10, visit_23, visit_begun, OtherEnd, at_goto, at_branch, at_other, terminal_label, terminal_maybe_throw, terminal_other}
+use Rattle.values.proofs.WalkLaws.{some_block, terminal_by, maybe_throw_missing, maybe_throw_own, maybe_throw_visits, ended_branch, ended_other, visit_30, visit_10, visit_23, visit_begun, OtherEnd, at_goto, at_branch, at_other, terminal_label, terminal_maybe_throw, terminal_other}
 use Rattle.values.proofs.value_walk.+logical_value_maybe_throw_value_optional_value_sequence_value_ternary_value_then_fallthrough_visit_test_block_visit_value_block_visit_value_block_terminal.Goals as goal
 use Rattle.values.proofs.value_walk.+logical_value_maybe_throw_value_optional_value_sequence_value_ternary_value_then_fallthrough_visit_test_block_visit_value_block_visit_value_block_terminal.Goals.{visit_value_block-then-code-ne0+else-block-fallthrough, visit_value_block-else-code-ne0, visit_value_block-in-5-1, visit_value_block-in_default+then-code-lt22}
 use Rattle.values.specs.Stack.{push_value}
@@ -541,26 +541,20 @@ visit_value_block-returns-then-levels-eq0 t c =
     defined (visit_30 fit _ _ _ c.if-levels-eq0.true)
     (stops (PLAIN 0) c.refused.ensures refl (omega (arith, fit.visits)))
 
-pub visit_value_block-returns-then-tally-eq8192 : goal.visit_value_block-returns-then-tally-eq8192
-visit_value_block-returns-then-tally-eq8192 t c =
-    let fit = c.requires in
-    defined (visit_31 fit _ _ _ c.if-levels-eq0.false c.if-tally-eq8192.true)
-    (stops (PLAIN 0) c.refused-then-tally-eq8192.ensures refl (omega (arith, fit.visits)))
-
 pub visit_value_block-returns-then-block-fallthrough : goal.visit_value_block-returns-then-block-fallthrough
 visit_value_block-returns-then-block-fallthrough t c =
     let fit = c.requires in
-    defined (visit_23 fit _ _ _ c.if-levels-eq0.false c.if-tally-eq8192.false c.code_at-code.ensures c.if-code-ne0.true c.if-block-fallthrough.true)
-    (stops (PLAIN 0) c.refused-then-block-fallthrough.ensures refl (omega (arith, fit.visits, c.if-tally-eq8192.false)))
+    defined (visit_23 fit _ _ _ c.if-levels-eq0.false (omega arith) c.code_at-code.ensures c.if-code-ne0.true c.if-block-fallthrough.true)
+    (stops (PLAIN 0) c.refused-then-block-fallthrough.ensures refl (omega (arith, fit.visits)))
 
 pub visit_value_block-extract_or_refuse-requires : goal.visit_value_block-extract_or_refuse-requires
-visit_value_block-extract_or_refuse-requires t c = let fit = c.requires in record { fit = record { promise = fit.promise; at = fit.at; visits = omega (arith, c.if-tally-eq8192.false, fit.visits); room = omega (arith, fit.room) }; ends_in_bound = fit.at; code_nonzero = omega arith }
+visit_value_block-extract_or_refuse-requires t c = let fit = c.requires in record { fit = record { promise = fit.promise; at = fit.at; visits = omega (arith, fit.visits); room = omega (arith, fit.room) }; ends_in_bound = fit.at; code_nonzero = omega arith }
 
 pub visit_value_block-branch_at-requires : goal.visit_value_block-branch_at-requires
 visit_value_block-branch_at-requires t c = record { promise = c.requires.promise; block_bound = c.requires.at; block_value = sym c.code_at-code.ensures ∙ c.in-6.is }
 
 pub visit_value_block-branch_value-requires : goal.visit_value_block-branch_value-requires
-visit_value_block-branch_value-requires t c = let fit = c.requires in record { fit = record { promise = fit.promise; at = fit.at; visits = omega (arith, c.if-tally-eq8192.false, fit.visits); room = omega (arith, fit.room) }; test_bound = c.branch_at.ensures.named.0 }
+visit_value_block-branch_value-requires t c = let fit = c.requires in record { fit = record { promise = fit.promise; at = fit.at; visits = omega (arith, fit.visits); room = omega (arith, fit.room) }; test_bound = c.branch_at.ensures.named.0 }
 
 pub visit_value_block-overflow_sub-levels : goal.visit_value_block-overflow_sub-levels
 visit_value_block-overflow_sub-levels t c = omega (arith, c.if-levels-eq0.false)
@@ -569,7 +563,7 @@ pub visit_value_block-maybe_throw_value-requires : goal.visit_value_block-maybe_
 visit_value_block-maybe_throw_value-requires t c =
     let fit = c.requires in
     let code = sym c.code_at-code.ensures ∙ c.in-18.is in
-    (omega (arith, c.decreases, c.if-levels-eq0.false), (record { promise = fit.promise; at = fit.at; visits = omega (arith, c.if-tally-eq8192.false, fit.visits); room = omega (arith, fit.room) }, code))
+    (omega (arith, c.decreases, c.if-levels-eq0.false), (record { promise = fit.promise; at = fit.at; visits = omega (arith, fit.visits); room = omega (arith, fit.room) }, code))
 
 pub visit_value_block-overflow_sub-levels-in-1 : goal.visit_value_block-overflow_sub-levels-in-1
 visit_value_block-overflow_sub-levels-in-1 t c = omega (arith, c.if-levels-eq0.false)
@@ -577,18 +571,18 @@ visit_value_block-overflow_sub-levels-in-1 t c = omega (arith, c.if-levels-eq0.f
 pub visit_value_block-then_fallthrough-requires : goal.visit_value_block-then_fallthrough-requires
 visit_value_block-then_fallthrough-requires t c =
     let fit = c.requires in
-    (omega (arith, c.decreases, c.if-levels-eq0.false), record { promise = fit.promise; at = fit.at; visits = omega (arith, c.if-tally-eq8192.false, fit.visits); room = omega (arith, fit.room) })
+    (omega (arith, c.decreases, c.if-levels-eq0.false), record { promise = fit.promise; at = fit.at; visits = omega (arith, fit.visits); room = omega (arith, fit.room) })
 
 pub visit_value_block-returns-in-0 : goal.visit_value_block-returns-in-0
 visit_value_block-returns-in-0 t c =
     let fit = c.requires in
-    defined (visit_10 fit _ _ _ c.if-levels-eq0.false c.if-tally-eq8192.false c.code_at-code.ensures c.in-0.is)
-    (stops (PLAIN 0) c.refused-in-0.ensures refl (omega (arith, fit.visits, c.if-tally-eq8192.false)))
+    defined (visit_10 fit _ _ _ c.if-levels-eq0.false (omega arith) c.code_at-code.ensures c.in-0.is)
+    (stops (PLAIN 0) c.refused-in-0.ensures refl (omega (arith, fit.visits)))
 
 pub visit_value_block-returns-in-4 : goal.visit_value_block-returns-in-4
 visit_value_block-returns-in-4 t c =
     let fit = c.requires in
-    visit_begun fit _ _ _ c.if-levels-eq0.false c.if-tally-eq8192.false c.code_at-code.ensures (λ e. omega (arith, e, c.in-4.is))
+    visit_begun fit _ _ _ c.if-levels-eq0.false (omega arith) c.code_at-code.ensures (λ e. omega (arith, e, c.in-4.is))
     (λ e. elim c.if-code-ne0.branch [
       | visit_value_block-then-code-ne0+else-block-fallthrough w ↦ w.if-block-fallthrough.false e
       | visit_value_block-else-code-ne0 w ↦ omega (arith, w.if-code-ne0.false, c.in-4.is)
@@ -598,7 +592,7 @@ visit_value_block-returns-in-4 t c =
 pub visit_value_block-returns-in-6 : goal.visit_value_block-returns-in-6
 visit_value_block-returns-in-6 t c =
     let fit = c.requires in
-    visit_begun fit _ _ _ c.if-levels-eq0.false c.if-tally-eq8192.false c.code_at-code.ensures (λ e. omega (arith, e, c.in-6.is))
+    visit_begun fit _ _ _ c.if-levels-eq0.false (omega arith) c.code_at-code.ensures (λ e. omega (arith, e, c.in-6.is))
     (λ e. elim c.if-code-ne0.branch [
       | visit_value_block-then-code-ne0+else-block-fallthrough w ↦ w.if-block-fallthrough.false e
       | visit_value_block-else-code-ne0 w ↦ omega (arith, w.if-code-ne0.false, c.in-6.is)
@@ -608,7 +602,7 @@ visit_value_block-returns-in-6 t c =
 pub visit_value_block-returns-in-18 : goal.visit_value_block-returns-in-18
 visit_value_block-returns-in-18 t c =
     let fit = c.requires in
-    visit_begun fit _ _ _ c.if-levels-eq0.false c.if-tally-eq8192.false c.code_at-code.ensures (λ e. omega (arith, e, c.in-18.is))
+    visit_begun fit _ _ _ c.if-levels-eq0.false (omega arith) c.code_at-code.ensures (λ e. omega (arith, e, c.in-18.is))
     (λ e. elim c.if-code-ne0.branch [
       | visit_value_block-then-code-ne0+else-block-fallthrough w ↦ w.if-block-fallthrough.false e
       | visit_value_block-else-code-ne0 w ↦ omega (arith, w.if-code-ne0.false, c.in-18.is)
@@ -624,7 +618,7 @@ visit_value_block-returns-in-1 t c =
       | visit_value_block-in-5-1 w ↦ record { not_0 = λ e. omega (arith, e); not_4 = λ e. omega (arith, e); not_6 = λ e. omega (arith, e); not_18 = λ e. omega (arith, e) }
       | visit_value_block-in_default+then-code-lt22 w ↦ record { not_0 = λ e. omega (arith, e); not_4 = λ e. omega (arith, e); not_6 = λ e. omega (arith, e); not_18 = λ e. omega (arith, e) }
     ] in
-    visit_begun fit _ _ _ c.if-levels-eq0.false c.if-tally-eq8192.false c.code_at-code.ensures other.not_0
+    visit_begun fit _ _ _ c.if-levels-eq0.false (omega arith) c.code_at-code.ensures other.not_0
     (λ e. elim c.if-code-ne0.branch [
       | visit_value_block-then-code-ne0+else-block-fallthrough w ↦ w.if-block-fallthrough.false e
       | visit_value_block-else-code-ne0 w ↦ other.not_0 w.if-code-ne0.false
