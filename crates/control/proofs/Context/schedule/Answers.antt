@@ -35,12 +35,6 @@ bounds-scheduled-continue_block c = (rw c.in-Loop.is at c.requires.named).1
 pub bounds-scheduled-continue_block-in-Loop : goal.bounds-scheduled-continue_block-in-Loop
 bounds-scheduled-continue_block-in-Loop c = (rw c.in-Loop.is at c.requires.named).1
 
-pub bounds-scheduled-loop_block : goal.bounds-scheduled-loop_block
-bounds-scheduled-loop_block c = (rw c.in-Loop.is at c.requires.named).2
-
-pub bounds-scheduled-loop_block-in-Loop : goal.bounds-scheduled-loop_block-in-Loop
-bounds-scheduled-loop_block-in-Loop c = (rw c.in-Loop.is at c.requires.named).2
-
 pub returns : goal.returns
 unfolding has add
 returns c =

@@ -14,15 +14,6 @@ bounds-scheduled-block-in-Switch c = (rw c.in-Switch.is at c.requires.named)
 pub bounds-scheduled-block-in-Case : goal.bounds-scheduled-block-in-Case
 bounds-scheduled-block-in-Case c = (rw c.in-Case.is at c.requires.named)
 
-pub bounds-scheduled-block-in-Loop : goal.bounds-scheduled-block-in-Loop
-bounds-scheduled-block-in-Loop c = (rw c.in-Loop.is at c.requires.named).0
-
-pub bounds-scheduled-continue_block : goal.bounds-scheduled-continue_block
-bounds-scheduled-continue_block c = (rw c.in-Loop.is at c.requires.named).1
-
-pub bounds-scheduled-loop_block : goal.bounds-scheduled-loop_block
-bounds-scheduled-loop_block c = (rw c.in-Loop.is at c.requires.named).2
-
 pub returns : goal.returns
 unfolding unscheduled_by remove
 returns c =
