@@ -5,15 +5,14 @@ use Prim.Native.Nat.{ℕ, zero, suc, ◌+◌, ◌≤◌, ◌<◌}
 use native.Mathlib.Nat.{zero-add, add-zero}
 use native.Mathlib.Omega.{arith}
 use mathlib.Core.List.{List, [], ◌∷◌, ◌++◌}
-use mathlib.Core.Option.{Option, none, some}
+use mathlib.Core.Option.{some}
 use mathlib.Core.Bool.{Bool, true, false}
 use lib.Dec.{eqb}
-use borrow.Author.Tests.{eqb-true}
 use Rattle.definition.specs.Context.{target_if, target_switch, target_case, target_loop, ControlFlowTarget, target_block, is_loop, loops_of, continues_at}
 use Rattle.definition.specs.Context.{Entry, loops_on, Context, Resolution, break_kind, break_target_from, get_break_target, continue_kind, continue_target_from}
 use Rattle.definition.specs.Context.{get_continue_target}
 use Rattle.definition.specs.Crossed.{NoneFits, Found}
-use Rattle.definition.specs.Tree.{Kind, implicit, labeled, unlabeled}
+use Rattle.definition.specs.Tree.{implicit, labeled, unlabeled}
 use Rattle.definition.proofs.Steps.{true_false, none_some, some_eq}
 
 -- the same from an entry on, where so many loops are above already

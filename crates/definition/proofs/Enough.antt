@@ -1,11 +1,10 @@
 -- The definition's count of blocks at one depth (Statement.visitBlock) is never what ends a walk: with more of it every result is the same. So
 -- 30 and 31, which the paper asks for, are the only bounds. For the reader.
-use mathlib.Core.Path.{◌≡◌, refl, sym, ap, ◌∙◌}
+use mathlib.Core.Path.{◌≡◌, refl, ◌∙◌}
 use Prim.Native.Nat.{ℕ, zero, suc, ◌+◌, ◌≤◌, ◌<◌}
-use native.Mathlib.Nat.{zero-add, suc-add}
+use native.Mathlib.Nat.{suc-add}
 use native.Mathlib.Omega.{arith}
 use mathlib.Core.Option.{Option, none, some}
-use mathlib.Core.Bool.{Bool, true}
 use borrow.Author.Tests.{le-leb}
 use Rattle.table.specs.Table.{Table, block_at, terminal_at}
 use Rattle.definition.specs.Result.{Result, refused, ◌>>=◌, refuse_if}

@@ -12,7 +12,7 @@ use native.Mathlib.Decide.{ℕ_discrete}
 use Rattle.table.specs.Table.{Table, Block, no_block, terminal_at, is_absent}
 use Rattle.definition.specs.Context.{Flags, no_flags, has, add, remove}
 use Rattle.definition.proofs.Steps.{true_false}
-use Prim.Native.Nat.{◌-◌, ◌≤◌}
+use Prim.Native.Nat.{◌≤◌}
 use native.Mathlib.Nat.{le_refl}
 
 cases : {P : Type 0} (a b : ℕ) → (a ≡ b → P) → ((a ≡ b → ⊥) → P) → P

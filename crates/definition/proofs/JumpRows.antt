@@ -1,12 +1,12 @@
 -- M-107: d is at most 128 in every row that the build makes.
 use mathlib.Core.Path.{◌≡◌}
 use Prim.Native.Nat.{ℕ}
-use mathlib.Core.List.{List, [], ◌∷◌}
+use mathlib.Core.List.{List, []}
 use mathlib.Core.Option.{Option, none, some}
-use mathlib.Core.Bool.{Bool, true, false}
+use mathlib.Core.Bool.{true, false}
 use Rattle.definition.specs.Tree.{Value, PLAIN, LOAD, UNDEF, SEQ, LOGICAL, COND, OPTIONAL, Instructions, no_instructions, instruction, Statement, INSTR}
 use Rattle.definition.specs.Tree.{IF, SWITCH, DOWHILE, WHILE, FOR, FOROF, FORIN, LABEL, TRY, SCOPE, RETURN, THROW, BREAK, CONTINUE, Statements, done, ◌▸◌}
-use Rattle.definition.specs.Tree.{Cases, no_cases, CASE, Row, row, or_none, value_rows, instructions_rows, update_rows, statement_rows, statements_rows}
+use Rattle.definition.specs.Tree.{Cases, no_cases, CASE, Row, value_rows, instructions_rows, update_rows, statement_rows, statements_rows}
 use Rattle.definition.specs.Tree.{block_rows, cases_rows, rows}
 use Rattle.definition.specs.Around.{Rule}
 use Rattle.definition.specs.Build.{built}

@@ -21,7 +21,7 @@ use Rattle.definition.specs.Run.{Answers, Reason, returned, threw, no_answer_lef
 use Rattle.definition.specs.BlockRun.{Move, go, halt, by_answer, move, performing, block_run}
 use Rattle.definition.specs.Completion.{contains, Completion, normal, break, continue, stop}
 use Rattle.definition.specs.TreeRun.{run_statements, reason_of, tree_run}
-use Rattle.definition.specs.Plain.{Width, paper_01, with_switch, plain_codes, Plain}
+use Rattle.definition.specs.Plain.{Width, paper_01, with_switch, Plain}
 use Rattle.definition.specs.RunLaw.{Agree, RunLaw, Spoken, SwitchLaw, LawOfSwitches}
 use Rattle.definition.specs.LoopLaw.{LawOfLoops, LawOfLoopsAndSwitches}
 use Rattle.definition.specs.PlainLoops.{loop_codes, Reached}

@@ -4,19 +4,18 @@ use mathlib.Core.Path.{◌≡◌, refl, sym, ap, ◌∙◌, subst}
 use mathlib.Core.Logic.{◌⊎◌, inl, inr}
 use Prim.Native.Nat.{ℕ, zero, suc}
 use native.Mathlib.Omega.{arith}
-use mathlib.Core.List.{List, [], ◌∷◌, reverse_aux}
-use mathlib.Core.Bool.{Bool, true, false, ◌||◌, cond}
+use mathlib.Core.List.{List, [], ◌∷◌}
+use mathlib.Core.Bool.{Bool, true, false, cond}
 use lib.Dec.{eqb}
 use borrow.Author.Tests.{eqb-true, eq-eqb}
 use Rattle.table.specs.Table.{Table, Case, Terminal, absent, unreachable, throw, return, goto, if, branch, switch, do_while, while, for, for_of, for_in, logical}
 use Rattle.table.specs.Table.{ternary, optional, label, sequence, maybe_throw, try, scope, is_unreachable, block_at, terminal_at}
 use Rattle.definition.specs.Run.{Answers, Reason}
-use Rattle.definition.specs.BlockRun.{Move, go, halt, by_answer, case_list, at_place, by_place, move}
+use Rattle.definition.specs.BlockRun.{go, halt, by_answer, case_list, at_place, by_place, move}
 use Rattle.definition.specs.Completion.{contains}
-use Rattle.definition.specs.Statement.{cases_last_first, continue_block_of}
+use Rattle.definition.specs.Statement.{cases_last_first}
 use Rattle.definition.specs.Plain.{Width, blocks_of, All}
-use Rattle.definition.specs.PlainLoops.{PlainLoops, new_loop, loop_of, drop_own, proper_blocks_of, Reached, entered_by}
-use Rattle.definition.proofs.Steps.{true_false}
+use Rattle.definition.specs.PlainLoops.{PlainLoops, loop_of, drop_own, proper_blocks_of, Reached, entered_by}
 use Rattle.definition.proofs.PlainEnough.{or_left, or_right, either_or, or_false, from_reverse}
 use Rattle.definition.proofs.Semantics.{NoneLost, in_whole_order}
 

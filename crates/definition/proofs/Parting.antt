@@ -1,28 +1,28 @@
 -- M-102: the language entry "differs only as follows": where the first entry refuses, it refuses alike or with 29; where the first accepts, it accepts
 -- that tree relabeled (specs/Relabeled), or gives 29. Its 29 comes with no more visits: what the first entry does after it
 -- lowers no count.
-use mathlib.Core.Path.{◌≡◌, refl, sym, ap, ◌∙◌, subst}
+use mathlib.Core.Path.{◌≡◌, refl, ap, ◌∙◌, subst}
 use Prim.Native.Nat.{ℕ, zero, suc, ◌≤◌, ◌<◌}
 use native.Mathlib.Omega.{arith}
 use mathlib.Core.List.{List, [], ◌∷◌}
 use mathlib.Core.Logic.{inl, inr}
 use mathlib.Core.Option.{Option, none, some}
-use mathlib.Core.Bool.{Bool, true, false, not}
+use mathlib.Core.Bool.{Bool, true, false}
 use lib.Dec.{eqb}
 use Rattle.table.specs.Table.{Table, Block, Case, Terminal, absent, unreachable, throw, return, goto, if, branch, switch, do_while, while, for, for_of, for_in}
 use Rattle.table.specs.Table.{logical, ternary, optional, sequence, maybe_throw, try, scope, Variant, Break, Continue, Try, label, block_at, terminal_at, instruction_at, instruction_rows_at}
 use Rattle.definition.specs.Result.{Result, ok, refused, ◌>>=◌, refuse_if}
 use Rattle.table.specs.declared.columns.Span.{Span}
-use Rattle.definition.specs.Tree.{Kind, implicit, labeled, unlabeled, Value, RETURN, THROW, TRY, DOWHILE, Statement, INSTR, IF, SWITCH, WHILE, FOR, FOROF, FORIN, LABEL, SCOPE, BREAK, CONTINUE, PLAIN}
+use Rattle.definition.specs.Tree.{Kind, implicit, labeled, unlabeled, Value, RETURN, THROW, Statement, INSTR, IF, SWITCH, BREAK, CONTINUE, PLAIN}
 use Rattle.definition.specs.Tree.{Statements, done, ◌▸◌, Cases, no_cases, CASE}
-use Rattle.definition.specs.Context.{has, Context, start, is_scheduled, with_visits, schedule_catch_handler, target_case, target_loop, schedule, unschedule}
-use Rattle.definition.specs.Context.{Resolution, get_break_target, get_continue_target}
-use Rattle.definition.specs.Around.{Rule, rust, language, Enclosing, a_loop, a_switch, another, Around, outermost, within, kind_by, break_kind_in, unnamed, break_unnamed, continue_unnamed, is_switch_inside}
-use Rattle.definition.specs.Value.{most_visits, VisitValueBlock, visit_value_block, visit_value_block_terminal, value_block_result_to_sequence}
-use Rattle.definition.specs.Statement.{BlockResult, TerminalResult, TraverseBlock, TraverseInside, AlternateResult, CasesResult, enter_block, unless_scheduled}
-use Rattle.definition.specs.Statement.{unless_unreachable, schedule_if, schedule_switch, unschedule_if, mark_scope_fallthrough_if, break_to_scope, break_resolved}
+use Rattle.definition.specs.Context.{has, Context, start, is_scheduled, with_visits, schedule_catch_handler, target_case, schedule, unschedule}
+use Rattle.definition.specs.Context.{Resolution}
+use Rattle.definition.specs.Around.{rust, language, Enclosing, a_loop, a_switch, another, Around, kind_by, break_kind_in, unnamed, break_unnamed, continue_unnamed, is_switch_inside}
+use Rattle.definition.specs.Value.{most_visits, VisitValueBlock, visit_value_block}
+use Rattle.definition.specs.Statement.{BlockResult, TerminalResult, TraverseBlock, TraverseInside, AlternateResult, CasesResult, unless_scheduled}
+use Rattle.definition.specs.Statement.{unschedule_if, break_to_scope, break_resolved}
 use Rattle.definition.specs.Statement.{visit_break, continue_resolved, visit_continue, visit_goto, traverse_unscheduled, traverse_alternate, traverse_consequent, followed_by}
-use Rattle.definition.specs.Statement.{traverse_enclosed, loop_is_taken, traverse_loop, continue_block_of, visit_update, cases_last_first, traverse_cases, unschedule_all, schedule_ids}
+use Rattle.definition.specs.Statement.{traverse_enclosed, traverse_loop, cases_last_first, traverse_cases, unschedule_all, schedule_ids}
 use Rattle.definition.specs.Statement.{visit_value_statement, visit_terminal, instruction_statements, then_next, visit_block, traverse_block, build_tree}
 use Rattle.definition.specs.Relabeled.{relabeled_statement, relabeled, relabeled_cases, Apart, AlikeBlocks, alike_blocks, visits_after}
 use Rattle.definition.proofs.Steps.{Counted, counted_bind}

@@ -1,11 +1,11 @@
 -- M-102: trees that differ only in BREAKs that are Labeled in place of Unlabeled have equally many rows, and these differ only so. For crates/theorems.
-use mathlib.Core.Path.{◌≡◌, refl, sym, ap, subst, ◌∙◌}
+use mathlib.Core.Path.{◌≡◌, refl, ap, subst}
 use Prim.Native.Nat.{ℕ, suc}
 use mathlib.Core.List.{List, [], ◌∷◌, ◌++◌}
 use mathlib.Core.Option.{Option, none, some}
 use mathlib.Core.Bool.{true, false}
 use lib.ListN.{length}
-use Rattle.definition.specs.Tree.{Value, Statement, Statements, ◌▸◌, count_statements, Cases, count_cases, Row, row, or_none, value_rows, update_rows}
+use Rattle.definition.specs.Tree.{Value, Statement, Statements, count_statements, Cases, count_cases, Row, row, or_none, value_rows, update_rows}
 use Rattle.definition.specs.Tree.{statement_rows, statements_rows, block_rows, cases_rows, rows}
 use Rattle.definition.proofs.Relabels.{Relabeled, the_same, a_break, in_if, in_switch, in_do_while, in_while, in_for, in_for_of, in_for_in, in_label, in_try, in_scope}
 use Rattle.definition.proofs.Relabels.{RelabeledAll, none_left, and_then, RelabeledCases, no_case_left, a_case, relabels}

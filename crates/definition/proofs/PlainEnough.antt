@@ -9,10 +9,10 @@ use lib.ListN.{take, drop}
 use mathlib.Core.Bool.{Bool, true, false, ◌||◌, cond}
 use lib.Dec.{eqb}
 use Rattle.table.specs.Table.{Table, Case, Operation, other, load_local, store_local, Terminal, absent, unreachable, throw, return, goto, if, branch, switch, do_while, while, for, for_of, for_in, logical}
-use Rattle.table.specs.Table.{ternary, optional, label, sequence, maybe_throw, try, scope, Variant, Try, code_of, is_unreachable, terminal_at, instruction_at, instruction_rows_at}
+use Rattle.table.specs.Table.{ternary, optional, label, sequence, maybe_throw, try, scope, code_of, is_unreachable, terminal_at, instruction_at, instruction_rows_at}
 use Rattle.definition.specs.Completion.{contains}
-use Rattle.definition.specs.Plain.{Width, paper_01, with_switch, Plain, IsCase, blocks_of, case_blocks_of, paper_codes, plain_codes, fallthrough_of, other_names, is_branch, is_store, ends_in_store, NotBranch, All}
-use Rattle.definition.specs.PlainLoops.{Loop, new_loop, loop_of, ends_in_unnamed, ends_in_own_load, loop_codes, drop_own, proper_blocks_of, IsProper, Reached, entered_by, PlainLoops}
+use Rattle.definition.specs.Plain.{Width, paper_01, with_switch, Plain, IsCase, blocks_of, case_blocks_of, paper_codes, plain_codes, other_names, is_branch, is_store, ends_in_store, NotBranch, All}
+use Rattle.definition.specs.PlainLoops.{Loop, new_loop, loop_of, ends_in_unnamed, loop_codes, drop_own, proper_blocks_of, IsProper, Reached, entered_by, PlainLoops}
 use Rattle.definition.specs.Value.{stored_to_named}
 use Rattle.definition.specs.BlockRun.{case_list}
 use Rattle.definition.specs.Statement.{cases_last_first}

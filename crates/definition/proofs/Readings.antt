@@ -1,13 +1,12 @@
 -- The rows determine the tree: the reader (specs/Reader) gives every well-formed tree back from its rows. So one list of rows is read as one tree.
 -- For proofs/Law.
 use mathlib.Core.Path.{◌≡◌, refl, sym, ap, ◌∙◌}
-use Prim.Native.Nat.{ℕ, zero, suc, ◌+◌}
+use Prim.Native.Nat.{ℕ, suc, ◌+◌}
 use native.Mathlib.Nat.{zero-add, add-zero}
 use native.Mathlib.Omega.{arith}
 use mathlib.Core.List.{List, [], ◌∷◌}
 use mathlib.Core.Option.{Option, none, some}
 use mathlib.Core.Bool.{Bool, true, false}
-use lib.ListN.{get_or}
 use borrow.Author.Tests.{ne_eqb}
 use Rattle.table.specs.Words.{largest}
 use Rattle.table.specs.Table.{unless_none}

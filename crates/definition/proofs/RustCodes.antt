@@ -1,5 +1,5 @@
 -- Over any table: the Rust-equal entry never gives 29, M-102's refusal. For the reader; with proofs/Never its refusals are paper 01's, 10 to 28, 30 and 31.
-use mathlib.Core.Path.{◌≡◌, refl, sym, ap, ◌∙◌, subst}
+use mathlib.Core.Path.{◌≡◌, refl, ap, subst}
 use Prim.Native.Nat.{ℕ, zero, suc}
 use mathlib.Core.List.{List, [], ◌∷◌}
 use mathlib.Core.Option.{Option, none, some}
@@ -8,17 +8,17 @@ use lib.Dec.{T, eqb}
 use Rattle.table.specs.Table.{Table, Block, Case, Terminal, absent, unreachable, throw, return, goto, if, branch, switch, do_while, while, for, for_of, for_in}
 use Rattle.table.specs.Table.{logical, ternary, optional, label, sequence, maybe_throw, try, scope, Variant, Break, Continue, Try, block_at, terminal_at}
 use Rattle.table.specs.declared.columns.Span.{Span}
-use Rattle.table.specs.Table.{instruction_rows, is_absent}
+use Rattle.table.specs.Table.{instruction_rows}
 use Rattle.definition.specs.Tree.{Kind, implicit, labeled, unlabeled, Statement, Statements}
-use Rattle.definition.specs.Around.{Rule, rust, Around, outermost, within, unnamed, break_unnamed, continue_unnamed}
+use Rattle.definition.specs.Around.{Rule, rust, Around, outermost, unnamed, break_unnamed, continue_unnamed}
 use Rattle.definition.specs.Result.{Result, ok, refused, ◌>>=◌, refuse_if}
 use Rattle.definition.specs.Context.{has, ControlFlowTarget, target_if, target_switch, target_case, target_loop, Entry, Context, start, is_scheduled}
 use Rattle.definition.specs.Context.{with_visits, schedule_catch_handler, schedule, unscheduled_by, popped, unschedule_top, unschedule, Resolution}
 use Rattle.definition.specs.Context.{get_break_target, get_continue_target}
-use Rattle.definition.specs.Value.{begin_visit, ValueBlockResult, ValueTerminalResult, TestBlockResult, Ways, VisitValueBlock, branch_ways, extract_or_refuse}
+use Rattle.definition.specs.Value.{begin_visit, ValueBlockResult, ValueTerminalResult, Ways, VisitValueBlock, branch_ways, extract_or_refuse}
 use Rattle.definition.specs.Value.{test_block_ended, visit_test_block, visit_value_block_terminal, then_fallthrough, branch_value, is_empty_goto, maybe_throw_value}
 use Rattle.definition.specs.Value.{visit_value_block_at, visit_value_block}
-use Rattle.definition.specs.Statement.{BlockResult, TerminalResult, TraverseBlock, TraverseInside, enter_block, unless_scheduled, unless_unreachable}
+use Rattle.definition.specs.Statement.{BlockResult, TraverseBlock, TraverseInside, enter_block, unless_scheduled, unless_unreachable}
 use Rattle.definition.specs.Statement.{schedule_if, schedule_switch, unschedule_if, mark_scope_fallthrough_if, break_to_scope, break_resolved, visit_break}
 use Rattle.definition.specs.Statement.{continue_resolved, visit_continue, visit_goto, traverse_unscheduled, traverse_alternate, traverse_consequent}
 use Rattle.definition.specs.Statement.{traverse_enclosed, traverse_loop, visit_update, cases_last_first, traverse_cases, unschedule_all, schedule_ids}

@@ -4,10 +4,10 @@ use Prim.Native.Nat.{ℕ, zero, suc, ◌<◌}
 use native.Mathlib.Omega.{arith}
 use native.Mathlib.Nat.{le_refl}
 use mathlib.Core.Logic.{◌⊎◌, inl, inr}
-use mathlib.Core.List.{List, [], ◌∷◌, ◌++◌, reverse_aux, append_assoc, append-nil}
+use mathlib.Core.List.{List, [], ◌∷◌, ◌++◌, append_assoc, append-nil}
 use mathlib.Core.Option.{Option, none, some}
 use mathlib.Core.Bool.{Bool, true, false, not, ◌||◌, cond}
-use lib.ListN.{length, take, drop}
+use lib.ListN.{length}
 use lib.Dec.{eqb}
 use borrow.Author.Tests.{eqb-true, eq-eqb}
 use Rattle.table.specs.declared.columns.Span.{Span}
@@ -21,7 +21,7 @@ use Rattle.definition.specs.Plain.{Width, paper_01, with_switch, blocks_of, fall
 use Rattle.definition.specs.Around.{Rule, rust, language, Enclosing, Around, a_loop, a_switch, another, within, is_switch_inside, kind_by, break_kind_in, names_statement, unnamed, break_unnamed, continue_unnamed}
 use Rattle.definition.specs.Result.{Result, ok, ◌>>=◌, refuse_if}
 use Rattle.definition.specs.Run.{Answers}
-use Rattle.definition.specs.BlockRun.{case_list, move}
+use Rattle.definition.specs.BlockRun.{move}
 use Rattle.definition.specs.Completion.{contains, Completion, break, continue}
 use Rattle.definition.specs.TreeRun.{performs, performs_all, performs_update, run_statements, completed, prefix, then, then_on, jump_completion}
 use Rattle.definition.specs.Statement.{break_to_scope, visit_break, visit_continue, TerminalResult, BlockResult, TraverseBlock, TraverseInside, enter_block}

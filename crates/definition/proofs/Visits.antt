@@ -23,10 +23,10 @@ use Rattle.definition.specs.Value.{most_visits, begin_visit, VisitValueBlock, Va
 use Rattle.definition.specs.Value.{test_block_ended, visit_test_block, visit_value_block_terminal, then_fallthrough, branch_value, maybe_throw_value}
 use Rattle.definition.specs.Value.{visit_value_block_at, visit_value_block}
 use Rattle.definition.specs.Around.{Rule, Around, outermost}
-use Rattle.definition.specs.Statement.{TraverseBlock, TraverseInside, BlockResult, TerminalResult, AlternateResult, CasesResult, enter_block, unless_scheduled}
+use Rattle.definition.specs.Statement.{TraverseBlock, TraverseInside, BlockResult, enter_block, unless_scheduled}
 use Rattle.definition.specs.Statement.{unless_unreachable, schedule_if, schedule_switch, unschedule_if, mark_scope_fallthrough_if, break_to_scope, break_resolved}
 use Rattle.definition.specs.Statement.{visit_break, continue_resolved, visit_continue, visit_goto, traverse_unscheduled, traverse_alternate, traverse_consequent}
-use Rattle.definition.specs.Statement.{traverse_enclosed, traverse_loop, visit_update, traverse_cases, unschedule_all, cases_last_first, schedule_ids}
+use Rattle.definition.specs.Statement.{traverse_enclosed, traverse_loop, visit_update, traverse_cases, unschedule_all, cases_last_first}
 use Rattle.definition.specs.Statement.{visit_value_statement, visit_terminal, then_next, visit_block, traverse_block, build_tree}
 use Rattle.definition.specs.Build.{Report, accepted, rejected, reported, report, refusal, placed, outcome_of, after_check, built}
 use Rattle.definition.proofs.Steps.{Counted, counted_bind, counted_unless, counted_pick}

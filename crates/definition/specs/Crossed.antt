@@ -1,5 +1,5 @@
 -- M-107: "the number of loops on the control stack above the one it found". What a jump is resolved on. proofs/Crossed proves it of every break and continue.
-use Rattle.std.specs.Prelude.{◌≡◌, ℕ, ◌<◌, List, [], ◌∷◌, ◌++◌, Bool, true, false}
+use Rattle.std.specs.Prelude.{◌≡◌, ◌<◌, List, [], ◌∷◌, ◌++◌, Bool, true, false}
 use Rattle.definition.specs.Context.{ControlFlowTarget, is_loop, Entry, loops_on, Resolution}
 use Rattle.definition.specs.Tree.{labeled}
 

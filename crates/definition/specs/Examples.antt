@@ -1,5 +1,5 @@
 -- Example tables of demand 3 and M-113: W of paper 01 with instructions, two loops of which the inner continues the outer, and a switch in a loop.
-use Rattle.std.specs.Prelude.{ℕ, ◌+◌, List, [], ◌∷◌, ◌++◌}
+use Rattle.std.specs.Prelude.{ℕ, List, [], ◌∷◌, ◌++◌}
 
 -- first, count, code, a to e, id, from, to
 abbrev pub block_row : (first count code a b c d e id : ℕ) → List ℕ

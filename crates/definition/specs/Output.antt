@@ -1,7 +1,7 @@
 -- What is put out, by the machine and by the laws of rows and lines: a part's rows, behind what is out already.
-use Rattle.std.specs.Prelude.{ℕ, suc, ◌+◌, ◌-◌, List, [], ◌∷◌, ◌++◌, Bool, true, false}
+use Rattle.std.specs.Prelude.{ℕ, suc, List, [], ◌∷◌, ◌++◌, Bool, true, false}
 use Rattle.std.proofs.Math.Option.{Option, none, some}
-use Rattle.table.specs.Table.{Table, if, instruction_at, label}
+use Rattle.table.specs.Table.{Table, instruction_at}
 use Rattle.definition.specs.Index.{Line}
 use Rattle.definition.specs.Tree.{Value, Statement, Row, row, value_rows, statement_rows, instr_row}
 

@@ -3,7 +3,7 @@
 -- A loop is a While, a DoWhile or a For. Each field of `PlainLoops` stands below the sentence that it states; the sentences in quotes are ours, in paper 01's style.
 use Rattle.std.specs.Prelude.{◌≡◌, ℕ, List, [], ◌∷◌, Bool, true, false, cond, eqb}
 use Rattle.std.proofs.Math.Option.{Option, none, some}
-use Rattle.table.specs.Table.{Table, Case, Operation, Terminal, absent, unreachable, throw, return, goto, if, branch, switch, do_while, while, for, for_of, for_in}
+use Rattle.table.specs.Table.{Table, Case, Terminal, absent, unreachable, throw, return, goto, if, branch, switch, do_while, while, for, for_of, for_in}
 use Rattle.table.specs.Table.{logical, ternary, optional, label, sequence, maybe_throw, try, scope, Variant, Try, code_of, is_unreachable, terminal_at, instruction_at}
 use Rattle.table.specs.Table.{instruction_rows_at}
 use Rattle.definition.specs.Completion.{contains}

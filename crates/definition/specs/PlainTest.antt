@@ -1,6 +1,6 @@
 -- Boolean tests of the conditions of specs/Plain and specs/PlainLoops: `is_plain`, paper 01's and M-113's, and `is_plain_loops`, beyond the papers.
 -- proofs/PlainTest and proofs/LoopTest prove that they hold exactly of the tables with these conditions, which are the statement; `plainness` tells which hold.
-use Rattle.std.specs.Prelude.{ℕ, zero, suc, List, [], ◌∷◌, Bool, true, false, not, ◌&&◌, ◌||◌, cond, eqb}
+use Rattle.std.specs.Prelude.{ℕ, suc, List, [], ◌∷◌, Bool, true, false, not, ◌&&◌, ◌||◌, cond, eqb}
 use Rattle.std.proofs.Math.Option.{Option, none, some}
 use Rattle.table.specs.Table.{Table, Block, Case, Terminal, absent, unreachable, throw, return, goto, if, branch, switch, do_while, while, for, for_of}
 use Rattle.table.specs.Table.{for_in, logical, ternary, optional, label, sequence, maybe_throw, try, scope, Break, Continue, Try, code_of, is_unreachable, terminal_at}

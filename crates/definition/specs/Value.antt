@@ -306,7 +306,7 @@ abbrev pub innermost_value : Value → Value
 innermost_value (PLAIN row) = PLAIN row
 innermost_value (LOAD place) = LOAD place
 innermost_value (UNDEF span) = UNDEF span
-innermost_value (SEQ instructions id value) = innermost_value value
+innermost_value (SEQ _ id value) = innermost_value value
 innermost_value (LOGICAL operator left right) = LOGICAL operator left right
 innermost_value (COND test consequent alternate) = COND test consequent alternate
 innermost_value (OPTIONAL flag value) = OPTIONAL flag value
@@ -321,7 +321,7 @@ abbrev pub loaded_place : Table → Value → Option ℕ
 loaded_place t (PLAIN row) = loaded_by (instruction_at t row).operation
 loaded_place t (LOAD place) = some place
 loaded_place t (UNDEF span) = none
-loaded_place t (SEQ instructions id value) = none
+loaded_place t (SEQ _ id value) = none
 loaded_place t (LOGICAL operator left right) = none
 loaded_place t (COND test consequent alternate) = none
 loaded_place t (OPTIONAL flag value) = none
@@ -332,7 +332,7 @@ same_identifier t place none = false
 same_identifier t place (some loaded) = eqb (get_or t.places loaded 0) (get_or t.places place 0)
 
 unfoldable pub unless_same : Bool → Instructions → Instructions
-unless_same true instructions = no_instructions
+unless_same true _ = no_instructions
 unless_same false instructions = instructions
 
 -- "A final load of the result's own identifier is dropped."

@@ -97,7 +97,7 @@ pub fn lookup<'a>(
     code: &mut u32,
     at: &mut u32,
 ) -> &'a [u32]
-    ensures { record { code = code.exit.now; at = at.new; words = result.now } ≡ looked index.now lines label tree.now }
+    ensures { record { code = code.new; at = at.new; words = result.now } ≡ looked index.now lines label tree.now }
 {
     let found = find(index, lines, label, tree);
     *at = found.at;
@@ -108,8 +108,7 @@ pub fn lookup<'a>(
 }
 
 // The same for callers in C or Rust: the code, the place, and the bounds of the part.
-#[unsafe(no_mangle)]
-pub extern "C" fn tree_lookup(
+pub fn tree_lookup(
     index: &[u32],
     lines: u32,
     label: u32,

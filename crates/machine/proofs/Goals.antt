@@ -1,5 +1,5 @@
 -- A jump by its goal is the definition's jump, and the pass over the statements around gives the goal. For the walk and the arms of `statements` that jump.
-use mathlib.Core.Path.{◌≡◌, refl, sym, ap, ◌∙◌}
+use mathlib.Core.Path.{◌≡◌, refl, ap}
 use Prim.Native.Nat.{ℕ}
 use mathlib.Core.Option.{Option, none, some}
 use mathlib.Core.Bool.{Bool, true, false}
@@ -9,7 +9,7 @@ use Rattle.definition.specs.Around.{Rule, rust, language, Around, is_switch_insi
 use Rattle.machine.specs.Survey.{Survey, unseen, survey}
 use Rattle.definition.specs.Result.{Result, ok, refuse_if, ◌>>=◌}
 use Rattle.definition.specs.Statement.{break_to_scope, break_resolved, continue_resolved}
-use Rattle.machine.specs.Goal.{Goal, break_goal, continue_goal, goals, surveyed_break, surveyed_continue, break_to, continue_to}
+use Rattle.machine.specs.Goal.{break_goal, continue_goal, goals, surveyed_break, surveyed_continue, break_to, continue_to}
 use Rattle.machine.proofs.Surveys.{survey_kind, survey_break, survey_continue}
 
 -- 22 is asked of the kind that the stack gave: the rule changes no Implicit

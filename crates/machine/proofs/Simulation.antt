@@ -43,9 +43,9 @@ use Rattle.definition.proofs.Lines.{lines_in, list_put, block_put, cases_put, st
 use Rattle.definition.proofs.Lines.{continue_unlined, unlined_step, instr_put, throw_put, return_put, Parts, close_put, parts_if, parts_else, parts_do_while}
 use Rattle.definition.proofs.Lines.{parts_while, parts_for, parts_for_of, parts_for_in, parts_label, parts_try, parts_scope, parts_switch, case_put}
 use Rattle.definition.proofs.Lines.{no_case_put, single_put, chain_put, no_list_put}
-use Rattle.definition.proofs.Steps.{true_false, Any, Good, good_bind, good_unless, good_any, Fine, fine_good}
+use Rattle.definition.proofs.Steps.{Any, Good, good_bind, good_unless, good_any, Fine, fine_good}
 use Rattle.definition.proofs.ValueWalk.{BlockTook, TerminalTook, VisitTook, is_maybe_throw, terminal_took, value_took, begin_visit_took}
-use Rattle.definition.proofs.Never.{After, WalkFine, walk_fine, Free, untaken_free, reached_fine, schedule_free, or_false, false_of}
+use Rattle.definition.proofs.Never.{After, WalkFine, walk_fine, Free, untaken_free, reached_fine, schedule_free}
 
 -- what the rest of a turn comes to leads to a
 abbrev pub Under : Rule → Table → Result State → Report → Type 0

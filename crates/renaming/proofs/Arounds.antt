@@ -1,13 +1,13 @@
 -- M-102: the statements around a jump, with their labels renamed. What is asked of them goes by equality of labels alone.
-use mathlib.Core.Path.{◌≡◌, refl, sym, ap, ◌∙◌}
+use mathlib.Core.Path.{◌≡◌, refl, ap, ◌∙◌}
 use Prim.Native.Nat.{ℕ, zero, suc}
 use mathlib.Core.List.{List, [], ◌∷◌, map}
 use mathlib.Core.Option
 use mathlib.Core.Option.{Option, none, some}
-use mathlib.Core.Bool.{Bool, ◌||◌}
+use mathlib.Core.Bool.{Bool}
 use Rattle.definition.specs.Tree.{Kind}
 use Rattle.definition.specs.Context.{Resolution}
-use Rattle.definition.specs.Around.{Rule, Enclosing, a_loop, a_switch, another, Around, outermost, within, is_switch_inside, kind_by, break_kind_in, is_label}
+use Rattle.definition.specs.Around.{Enclosing, a_loop, a_switch, another, Around, is_switch_inside, kind_by, break_kind_in, is_label}
 use Rattle.definition.specs.Around.{names_statement, names_loop, unnamed, break_unnamed, continue_unnamed}
 use Rattle.renaming.proofs.Alike.{Moves, same_test}
 use Rattle.renaming.proofs.Contexts.{renamed_resolution}

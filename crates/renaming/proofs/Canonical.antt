@@ -5,15 +5,14 @@ use native.Mathlib.Omega.{arith}
 use mathlib.Core.List.{List, [], ◌∷◌, ◌++◌, map, map-append}
 use mathlib.Core.Option
 use mathlib.Core.Option.{Option, none, some}
-use mathlib.Core.Bool.{Bool, true, false, ◌||◌}
-use lib.ListN.{length, get_or, take, drop, length-map, get_or-map, get_or-eq_default}
+use mathlib.Core.Bool.{Bool, true, false}
+use lib.ListN.{length, get_or, take, drop, length-map}
 use lib.Dec.{eqb, ltb}
 use borrow.Author.Tests.{ltb-true, ltb-false}
 use Rattle.table.specs.Words.{entry_word, block_count, block_word, case_word}
 use Rattle.table.specs.Check.{accepted, checked}
 use Rattle.table.specs.Table.{Table, Block, Case, Terminal, absent, unreachable, throw, return, goto, if, branch, switch, do_while, while, for, for_of, for_in}
 use Rattle.table.specs.Table.{logical, ternary, optional, label, sequence, maybe_throw, try, scope, terminal_at, rows_from, table_of}
-use Rattle.table.specs.Promise.{Promise, Sized}
 use Rattle.table.proofs.PromiseLaws.{promised}
 use Rattle.table.proofs.TableLaws.{length_blocks}
 use Rattle.definition.specs.Completion.{contains}
@@ -24,9 +23,9 @@ use Rattle.renaming.specs.Order.{AllNamed, old_number, place_from, new_number, w
 use Rattle.renaming.proofs.Alike.{Moves, moves, same_test, new_below}
 use Rattle.renaming.proofs.Tables.{renamed_terminal, renamed_case, renamed_table, Reordered}
 use Rattle.renaming.proofs.Walk.{map_take, map_drop}
-use Rattle.renaming.proofs.Permutations.{by_equal, pick_true, pick_false, in_head, in_tail, in_cases, below_of, Permutes, permutes, in_rows}
+use Rattle.renaming.proofs.Permutations.{pick_true, pick_false, in_head, in_tail, below_of, Permutes, permutes}
 use Rattle.renaming.proofs.WordLaws.{renamed_is, one_renamed}
-use Rattle.renaming.proofs.Checks.{inverse, renamed_checked, renamed_sized}
+use Rattle.renaming.proofs.Checks.{inverse, renamed_checked}
 use Rattle.renaming.proofs.FromWords.{blocks_reordered, table_renamed}
 use Rattle.renaming.proofs.OrderLaws.{rows_below, walking_order_lem, walking_renaming}
 

@@ -1,18 +1,18 @@
 -- The renamed words are accepted by the table check where the first are, and there only.
-use mathlib.Core.Path.{◌≡◌, refl, sym, ap, ◌∙◌, subst}
-use Prim.Native.Nat.{ℕ, zero, suc, ◌+◌, ◌<◌, ◌≤◌}
+use mathlib.Core.Path.{◌≡◌, refl, sym, ap, ◌∙◌}
+use Prim.Native.Nat.{ℕ, zero, suc, ◌<◌, ◌≤◌}
 use native.Mathlib.Omega.{arith}
 use native.Mathlib.Decide.{ℕ_discrete}
 use mathlib.Core.List.{List, [], ◌∷◌}
 use mathlib.Core.Bool.{Bool, true, false, ◌||◌}
 use mathlib.Core.Logic.{◌⊎◌, inl, inr}
-use lib.ListN.{length, get_or}
+use lib.ListN.{get_or}
 use lib.Dec.{eqb, ltb}
-use borrow.Author.Tests.{eqb-true, eqb-false, eq-eqb, ltb-true, lt-ltb}
-use Rattle.table.specs.Words.{entry_word, block_count, instruction_count, case_count, place_count, identifier_count, words_needed, block_word, instruction_word, case_word, place_word, identifier_word, largest}
-use Rattle.table.specs.Check.{accepted, Rule, unused, number, row, row_or_none, rows_from, fits, block, block_or_none, place, place_or_none, rules_by_code}
+use borrow.Author.Tests.{eqb-true, eqb-false, eq-eqb, lt-ltb}
+use Rattle.table.specs.Words.{entry_word, block_count, instruction_count, case_count, place_count, identifier_count, block_word, case_word, largest}
+use Rattle.table.specs.Check.{accepted, Rule, unused, row, row_or_none, fits, block, block_or_none, place, place_or_none, rules_by_code}
 use Rattle.table.specs.Check.{terminal_rules, block_rules, operand_rules, instruction_rules, case_rules, checked}
-use Rattle.table.specs.Promise.{Limited, Sized, Promise}
+use Rattle.table.specs.Promise.{Sized, Promise}
 use Rattle.table.proofs.RuleLaws.{absent, present}
 use Rattle.table.proofs.PromiseLaws.{promised, promise_checked, none_or_below, row_below, row_fitting}
 use Rattle.renaming.specs.Renaming.{Renaming, names_by_code, names_block, renamed_if, renamed_block_row, renamed, RenamedWords}

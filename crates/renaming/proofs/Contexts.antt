@@ -7,19 +7,19 @@ use native.Mathlib.Decide.{ℕ_discrete}
 use mathlib.Core.List.{List, [], ◌∷◌, map}
 use mathlib.Core.Option
 use mathlib.Core.Option.{Option, none, some}
-use mathlib.Core.Bool.{Bool, true, false, not, ◌||◌}
+use mathlib.Core.Bool.{Bool, true, false, not}
 use lib.ListN.{length, get_or, set, length-set}
 use lib.Seq.{get_or-set_same, get_or-set_other, set_out}
 use lib.Dec.{eqb, ltb}
 use borrow.Author.Tests.{ltb-true, ltb-false}
-use Rattle.definition.specs.Result.{Result, ok, refused, ◌>>=◌, refuse_if, already_scheduled, unschedule_out_of_order}
+use Rattle.definition.specs.Result.{refused, unschedule_out_of_order}
 use Rattle.definition.specs.Context.{Flags, no_flags, has, add, remove, ControlFlowTarget, target_if, target_switch, target_case, target_loop, target_block}
 use Rattle.definition.specs.Context.{is_loop, loops_of, continues_at, Entry, Context, start, is_scheduled, emit, with_visits, mark_scope_fallthrough}
 use Rattle.definition.specs.Context.{schedule_catch_handler, is_blocked, block_asked, blocked_code, scheduled_by, owns, pushed, schedule, unscheduled_by, popped}
-use Rattle.definition.specs.Context.{unschedule_top, unschedule, Resolution, break_kind, break_target_from, get_break_target, continue_kind, continue_target_from}
+use Rattle.definition.specs.Context.{unschedule_top, unschedule, Resolution, break_target_from, get_break_target, continue_target_from}
 use Rattle.definition.specs.Context.{get_continue_target}
 use Rattle.definition.proofs.Flags.{has_none, length_none}
-use Rattle.renaming.proofs.Alike.{Moves, same_test, Alike, alike_bind, alike_by, alike_unless, alike_pick}
+use Rattle.renaming.proofs.Alike.{Moves, same_test, Alike, alike_unless, alike_pick}
 
 -- ---- what is related
 

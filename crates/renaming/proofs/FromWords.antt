@@ -1,17 +1,17 @@
 -- The table that the renamed words stand for is the first table, renamed.
 use mathlib.Core.Path.{◌≡◌, refl, sym, ap, ◌∙◌, subst}
-use Prim.Native.Nat.{ℕ, zero, suc, ◌+◌, ◌<◌, ◌≤◌}
+use Prim.Native.Nat.{ℕ, zero, suc, ◌<◌, ◌≤◌}
 use native.Mathlib.Omega.{arith}
-use mathlib.Core.List.{List, [], ◌∷◌, map}
+use mathlib.Core.List.{List, ◌∷◌, map}
 use mathlib.Core.Option
 use mathlib.Core.Option.{Option, none, some}
 use mathlib.Core.Bool.{Bool, true, false}
-use lib.ListN.{length, get_or, get_or-eq_default}
+use lib.ListN.{get_or, get_or-eq_default}
 use lib.Dec.{eqb, ltb}
 use borrow.Author.Tests.{eq-eqb, ne_eqb, eqb-true, eqb-false, ltb-true, ltb-false}
-use Rattle.table.specs.Words.{entry_word, block_count, instruction_count, case_count, place_count, identifier_count, block_word, instruction_word, case_word, place_word, identifier_word, largest}
-use Rattle.table.specs.Table.{Table, Block, no_block, Instruction, Case, Terminal, for, terminal_of, terminals_by_code, unless_none, variant_of, block_of}
-use Rattle.table.specs.Table.{instruction_of, operation_of, case_of, tabulate, table_of, block_at}
+use Rattle.table.specs.Words.{block_count, instruction_count, case_count, place_count, identifier_count, block_word, place_word, identifier_word, largest}
+use Rattle.table.specs.Table.{Table, Block, no_block, Instruction, Case, Terminal, for, terminal_of, unless_none, block_of}
+use Rattle.table.specs.Table.{instruction_of, case_of, tabulate, table_of, block_at}
 use Rattle.table.specs.Promise.{Promise}
 use Rattle.table.proofs.TableLaws.{length_blocks, block_at_lem}
 use Rattle.table.proofs.RangeLaws.{code_known}

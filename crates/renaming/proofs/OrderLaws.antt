@@ -4,11 +4,11 @@ use Prim.Native.Nat.{ℕ, zero, suc, ◌+◌, ◌<◌, ◌≤◌}
 use native.Mathlib.Omega.{arith}
 use mathlib.Core.List.{List, [], ◌∷◌, ◌++◌}
 use mathlib.Core.Option.{Option, none, some}
-use mathlib.Core.Bool.{Bool, true, false, not, ◌&&◌, ◌||◌}
+use mathlib.Core.Bool.{Bool, true, false, not, ◌||◌}
 use lib.ListN.{length, get_or, take, drop, get_or-eq_default, length-append, get_or-append}
 use lib.Dec.{eqb, ltb}
-use borrow.Author.Tests.{eq-eqb, ne_eqb, eqb-true, eqb-false, lt-ltb, le-ltb, ltb-true, ltb-false, not-true}
-use Rattle.table.specs.Words.{entry_word, block_count, case_count, place_count, case_word}
+use borrow.Author.Tests.{eq-eqb, ne_eqb, lt-ltb, ltb-true, ltb-false, not-true}
+use Rattle.table.specs.Words.{entry_word, block_count, case_count, place_count}
 use Rattle.table.specs.Check.{accepted, checked}
 use Rattle.table.specs.Table.{Table, Block, no_block, Case, Terminal, absent, unreachable, throw, return, goto, if, branch, switch, do_while, while, for, for_of}
 use Rattle.table.specs.Table.{for_in, logical, ternary, optional, label, sequence, maybe_throw, try, scope, terminal_at, rows_from, tabulate, case_of, table_of}
@@ -21,12 +21,12 @@ use Rattle.definition.specs.Around.{Rule}
 use Rattle.definition.specs.Build.{built}
 use Rattle.definition.specs.Completion.{contains}
 use Rattle.definition.proofs.Steps.{true_false}
-use Rattle.renaming.specs.Renaming.{Renaming, renamed, RenamedWords, renamed_outcome}
+use Rattle.renaming.specs.Renaming.{Renaming, RenamedWords, renamed_outcome}
 use Rattle.tree_grammar.proofs.Upto.{and_both}
 use Rattle.table.specs.Lines.{case_blocks, unless_no, named_by}
 use Rattle.renaming.specs.Order.{all_below, none_twice, is_permutation, old_number, place_from, new_number, with_named, walk_from, walking_order, rearranged}
-use Rattle.renaming.specs.Order.{restored_by, Rearrangement, rearrangement, Restoration, restoration}
-use Rattle.renaming.proofs.Permutations.{both_and, by_equal, pick_true, pick_false, in_head, in_tail, in_other, in_cases, fits_in, in_rows, rows_once, below_of, Permutes, permutes, renaming_of}
+use Rattle.renaming.specs.Order.{restored_by, Rearrangement, rearrangement, restoration}
+use Rattle.renaming.proofs.Permutations.{both_and, by_equal, pick_true, pick_false, in_head, in_other, in_cases, fits_in, in_rows, rows_once, below_of, permutes, renaming_of}
 use Rattle.renaming.proofs.WordLaws.{renamed_is}
 use Rattle.renaming.proofs.Checks.{restored, renamed_checked}
 use Rattle.renaming.proofs.Theorem.{built_renamed}

@@ -1,13 +1,13 @@
 -- M-101: the lines of a renamed tree are those of the tree with each label renamed, in their places.
 use mathlib.Core.Path.{◌≡◌, refl, sym, ap, ◌∙◌}
-use Prim.Native.Nat.{ℕ, suc, ◌+◌, ◌-◌}
+use Prim.Native.Nat.{ℕ, ◌+◌, ◌-◌}
 use mathlib.Core.List.{List, [], ◌∷◌, ◌++◌, map, map-append}
 use mathlib.Core.Option
 use mathlib.Core.Option.{Option, none, some}
 use mathlib.Core.Bool.{true, false}
 use lib.ListN.{length, length-map}
 use Rattle.definition.specs.Tree.{Statement, INSTR, IF, SWITCH, DOWHILE, WHILE, FOR, FOROF, FORIN, LABEL, TRY, SCOPE, RETURN, THROW, BREAK, CONTINUE}
-use Rattle.definition.specs.Tree.{Statements, done, ◌▸◌, Cases, no_cases, CASE, Row, value_rows, update_rows, statement_rows, block_rows}
+use Rattle.definition.specs.Tree.{Statements, done, ◌▸◌, Cases, no_cases, CASE, value_rows, update_rows, statement_rows, block_rows}
 use Rattle.definition.specs.Index.{label_of, rows_in, Labelled, labelled_by, in_parts, in_list, in_cases, labelled, Line, line_of, lines, line_words}
 use Rattle.renaming.specs.Renaming.{renamed_row, renamed_index}
 use Rattle.renaming.proofs.Alike.{Moves}

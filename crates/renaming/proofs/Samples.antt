@@ -5,7 +5,7 @@ use mathlib.Core.List.{List, [], ◌∷◌, ◌++◌, map}
 use mathlib.Core.Option.{none, some}
 use Rattle.table.specs.Table.{Table, Block, Case, Terminal, absent, return, goto, if, switch, for, Break, no_block, table_of, tabulate, block_of, case_of, instruction_of, terminal_of, unless_none, variant_of}
 use Rattle.table.specs.Words.{word, entry_word, block_count, instruction_count, case_count, place_count, identifier_count, blocks_begin, instructions_begin, cases_begin}
-use Rattle.table.specs.Words.{places_begin, identifiers_begin, words_needed, block_word, instruction_word, case_word, place_word, identifier_word}
+use Rattle.table.specs.Words.{places_begin, identifiers_begin, block_word, instruction_word, case_word, place_word, identifier_word}
 use Rattle.table.specs.Lines.{named_by}
 use Rattle.renaming.specs.Renaming.{renamed, rows_of, renamed_block_row, instruction_row, renamed_case_row, names_block}
 use Rattle.renaming.specs.Order.{walking_order, walk_from, rearranged, new_number, old_number, restored_by}

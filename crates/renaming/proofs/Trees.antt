@@ -1,14 +1,14 @@
 -- A tree with its labels and jumps' targets renamed, and its rows: those of the tree, renamed.
 use mathlib.Core.Path.{◌≡◌, refl, sym, ap, ◌∙◌}
-use Prim.Native.Nat.{ℕ, suc, ◌≤◌}
+use Prim.Native.Nat.{ℕ, suc}
 use native.Mathlib.Omega.{arith}
 use mathlib.Core.List.{List, [], ◌∷◌, map}
 use mathlib.Core.Option
 use mathlib.Core.Option.{Option, none, some}
-use mathlib.Core.Bool.{Bool, true, false}
+use mathlib.Core.Bool.{true, false}
 use Rattle.definition.specs.Tree.{Value, PLAIN, LOAD, UNDEF, SEQ, LOGICAL, COND, OPTIONAL, Instructions, no_instructions, instruction, Statement, INSTR, IF}
 use Rattle.definition.specs.Tree.{SWITCH, DOWHILE, WHILE, FOR, FOROF, FORIN, LABEL, TRY, SCOPE, RETURN, THROW, BREAK, CONTINUE, Statements, done, ◌▸◌, Cases}
-use Rattle.definition.specs.Tree.{no_cases, CASE, Row, row, instr_row, for_of_row, for_in_row, or_none, kind_number, update_present, count_instructions, count_statements}
+use Rattle.definition.specs.Tree.{no_cases, CASE, Row, row, instr_row, for_of_row, for_in_row, or_none, update_present, count_statements}
 use Rattle.definition.specs.Tree.{count_cases, value_rows, instructions_rows, update_rows, statement_rows, statements_rows, block_rows, cases_rows, rows}
 use Rattle.renaming.specs.Renaming.{renamed_row}
 use Rattle.renaming.proofs.Alike.{Moves}

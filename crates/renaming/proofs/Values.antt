@@ -1,24 +1,22 @@
 -- The value walk over a renamed table: the same values, places, ids and visits, and the block renamed. No row of a value names a block.
 use mathlib.Core.Path.{◌≡◌, refl, sym, ap, ◌∙◌, subst}
 use Prim.Native.Nat.{ℕ, zero, suc}
-use mathlib.Core.List.{List, [], ◌∷◌, map}
+use mathlib.Core.List.{List, [], ◌∷◌}
 use mathlib.Core.Option
 use mathlib.Core.Option.{Option, none, some}
 use mathlib.Core.Bool.{Bool, true, false, ◌&&◌}
-use lib.ListN.{get_or}
 use lib.Dec.{eqb}
 use Rattle.table.specs.declared.columns.Span.{Span}
-use Rattle.table.specs.Table.{Table, Block, no_block, Instruction, Operation, other, load_local, store_local, Terminal, absent, unreachable, throw, return, goto}
+use Rattle.table.specs.Table.{Table, Block, Operation, other, load_local, store_local, Terminal, absent, unreachable, throw, return, goto}
 use Rattle.table.specs.Table.{if, branch, switch, do_while, while, for, for_of, for_in, logical, ternary, optional, label, sequence, maybe_throw, try, scope}
-use Rattle.table.specs.Table.{is_absent, is_goto, block_at, terminal_at, instruction_at, instruction_rows}
+use Rattle.table.specs.Table.{block_at, terminal_at, instruction_at, instruction_rows}
 use Rattle.definition.specs.Tree.{Value, PLAIN, LOAD, UNDEF, SEQ, LOGICAL, COND, OPTIONAL, Instructions, no_instructions, instruction}
-use Rattle.definition.specs.Result.{Result, ok, refused, ◌>>=◌, refuse_if}
-use Rattle.definition.specs.Value.{begin_visit, ValueBlockResult, ValueTerminalResult, is_empty, instructions_of, wrap_with_sequence, final_value, final_place}
-use Rattle.definition.specs.Value.{stored_to_named, all_but_last, last, extract_value_block_result, extract_or_refuse, VisitValueBlock, Ways, branch_ways}
+use Rattle.definition.specs.Value.{begin_visit, ValueBlockResult, ValueTerminalResult, is_empty, instructions_of, wrap_with_sequence}
+use Rattle.definition.specs.Value.{stored_to_named, last, extract_value_block_result, extract_or_refuse, VisitValueBlock, Ways, branch_ways}
 use Rattle.definition.specs.Value.{TestBlockResult, test_block_ended, visit_test_block, single_instruction, visit_value_block_terminal, then_fallthrough, branch_value}
 use Rattle.definition.specs.Value.{is_empty_goto, maybe_throw_value, terminal_then_fallthrough, visit_value_block_at, is_fallthrough, visit_value_block, innermost_value}
-use Rattle.definition.specs.Value.{loaded_by, loaded_place, same_identifier, unless_same, value_block_result_to_sequence}
-use Rattle.renaming.proofs.Alike.{Moves, same_test, Alike, alike_bind, alike_by, alike_unless, alike_pick}
+use Rattle.definition.specs.Value.{loaded_place, same_identifier, value_block_result_to_sequence}
+use Rattle.renaming.proofs.Alike.{Moves, same_test, Alike, alike_by, alike_unless}
 use Rattle.renaming.proofs.Tables.{renamed_terminal, renamed_block, renamed_table, Reordered, code_same, absent_same}
 
 abbrev pub renamed_value : (new : ℕ → ℕ) → ValueBlockResult → ValueBlockResult

@@ -4,20 +4,20 @@ use Prim.Native.Nat.{ℕ, zero, suc}
 use mathlib.Core.List.{List, [], ◌∷◌, map, reverse, reverse_aux}
 use mathlib.Core.Option
 use mathlib.Core.Option.{Option, none, some}
-use mathlib.Core.Bool.{Bool, true, false, not, ◌||◌}
-use lib.ListN.{get_or, take, drop}
+use mathlib.Core.Bool.{Bool, true, false, not}
+use lib.ListN.{take, drop}
 use lib.Dec.{eqb}
 use Rattle.table.specs.declared.columns.Span.{Span}
 use Rattle.table.specs.Table.{Table, Block, Case, Terminal, absent, unreachable, throw, return, goto, if, branch, switch, do_while, while, for, for_of, for_in}
 use Rattle.table.specs.Table.{logical, ternary, optional, label, sequence, maybe_throw, try, scope, Variant, Break, Continue, Try, block_at, terminal_at}
 use Rattle.table.specs.Table.{instruction_at, instruction_rows, instruction_rows_at, is_unreachable}
-use Rattle.definition.specs.Tree.{Kind, implicit, labeled, unlabeled, Value, PLAIN, Statement, INSTR, IF, SWITCH, DOWHILE, WHILE, FOR, FOROF, FORIN, LABEL, TRY}
-use Rattle.definition.specs.Tree.{SCOPE, BREAK, Statements, done, ◌▸◌, Cases, no_cases, CASE}
-use Rattle.definition.specs.Result.{Result, ok, refused, ◌>>=◌, refuse_if}
-use Rattle.definition.specs.Context.{has, target_if, target_switch, target_case, target_loop, Context, start, is_scheduled, emit, with_visits}
-use Rattle.definition.specs.Context.{schedule_catch_handler, schedule, unschedule, Resolution, get_break_target, get_continue_target}
-use Rattle.definition.specs.Around.{Rule, Around, outermost, within, a_loop, a_switch, another, break_kind_in, break_unnamed, continue_unnamed}
-use Rattle.definition.specs.Value.{begin_visit, VisitValueBlock, ValueBlockResult, visit_value_block_terminal, visit_value_block, value_block_result_to_sequence}
+use Rattle.definition.specs.Tree.{Kind, implicit, labeled, unlabeled, Value, PLAIN, Statement, INSTR, FOR, FOROF, FORIN}
+use Rattle.definition.specs.Tree.{BREAK, Statements, done, ◌▸◌, Cases}
+use Rattle.definition.specs.Result.{Result, ok, ◌>>=◌}
+use Rattle.definition.specs.Context.{target_if, target_switch, target_case, target_loop, Context, start, is_scheduled, with_visits}
+use Rattle.definition.specs.Context.{schedule_catch_handler, Resolution, get_break_target, get_continue_target}
+use Rattle.definition.specs.Around.{Rule, Around, outermost, within, a_loop, a_switch, another}
+use Rattle.definition.specs.Value.{begin_visit, VisitValueBlock, visit_value_block_terminal, visit_value_block, value_block_result_to_sequence}
 use Rattle.definition.specs.Statement.{BlockResult, TerminalResult, TraverseBlock, TraverseInside, enter_block, unless_scheduled, unless_unreachable, schedule_if}
 use Rattle.definition.specs.Statement.{schedule_switch, unschedule_if, mark_scope_fallthrough_if, break_to_scope, break_resolved, visit_break, continue_resolved}
 use Rattle.definition.specs.Statement.{visit_continue, visit_goto, traverse_unscheduled, AlternateResult, traverse_alternate, followed_by, traverse_consequent}

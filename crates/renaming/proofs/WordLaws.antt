@@ -12,7 +12,7 @@ use borrow.Author.Tests.{ltb-true, ltb-false}
 use Rattle.table.specs.Words.{word, entry_word, block_count, instruction_count, case_count, place_count, identifier_count, blocks_begin, instructions_begin, cases_begin}
 use Rattle.table.specs.Words.{places_begin, identifiers_begin, words_needed, block_word, instruction_word, case_word, place_word, identifier_word}
 use Rattle.table.specs.Promise.{Sized}
-use Rattle.renaming.specs.Renaming.{Renaming, names_block, renamed_if, renamed_block_row, instruction_row, renamed_case_row, rows_of, renamed, RenamedWords}
+use Rattle.renaming.specs.Renaming.{names_block, renamed_if, renamed_block_row, instruction_row, renamed_case_row, rows_of, renamed, RenamedWords}
 
 -- ---- rows of one width, one after the other
 

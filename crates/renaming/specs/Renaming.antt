@@ -1,6 +1,6 @@
 -- M-111: a table with every block renamed, and what the build gives of it.
 -- `new` gives a block's new number, `old` the old one. Both leave a number as it is if it is no block of the table, so that 65,535 stays none.
-use Rattle.std.specs.Prelude.{ℕ, zero, suc, ◌+◌, ◌<◌, ◌≤◌, ◌≡◌, List, [], ◌∷◌, ◌++◌, map, Bool, true, false, ◌&&◌, get_or, length, leb}
+use Rattle.std.specs.Prelude.{ℕ, zero, suc, ◌<◌, ◌≤◌, ◌≡◌, List, [], ◌∷◌, ◌++◌, Bool, true, false, ◌&&◌, get_or, length, leb}
 use Rattle.table.specs.Words.{entry_word, block_count, instruction_count, case_count, place_count, identifier_count, block_word, instruction_word, case_word, place_word, identifier_word}
 use Rattle.definition.specs.Tree.{Row, row}
 use Rattle.definition.specs.Build.{Outcome}

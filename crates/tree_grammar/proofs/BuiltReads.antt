@@ -8,9 +8,8 @@ use mathlib.Core.Logic.{◌⊎◌, inl, inr, ⊎_elim}
 use lib.ListN.{length, get_or, take, get_or-eq_default}
 use lib.Dec.{eqb, leb, ltb}
 use borrow.Author.Tests.{leb-true, eqb-true, eqb-false, ltb-true, ltb-false}
-use Rattle.table.specs.Words.{block_count, instruction_count, case_count, place_count, block_word, instruction_word, largest}
-use Rattle.table.specs.Check.{unused, number, end_of, fits, block_rules, instruction_rules}
-use Rattle.table.specs.Check as check
+use Rattle.table.specs.Words.{block_count, instruction_count, case_count, place_count, block_word, instruction_word}
+use Rattle.table.specs.Check.{unused, end_of, fits, block_rules, instruction_rules}
 use Rattle.table.specs.Table.{Block, no_block, Case, instruction_of, case_of, tabulate, table_of, block_at}
 use Rattle.table.specs.Promise.{Promise, InRange}
 use Rattle.table.proofs.RuleLaws.{present}

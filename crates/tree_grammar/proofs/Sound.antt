@@ -21,7 +21,7 @@ use Rattle.table.specs.declared.columns.Span.{Span}
 use Rattle.definition.specs.Reading.{BelowNone, WellFormedStatement, WellFormed, WellFormedCases, Part, value, statement, block, case, part_rows, WellFormedPart, Forest, forest_rows, WellFormedForest}
 use Rattle.definition.proofs.Steps.{none_some}
 use Rattle.definition.specs.Reader.{Step, take_value, take_statement, take_block, take_case, as_instruction, take_instructions, take_statements, take_cases, pushes}
-use Rattle.definition.specs.Reader.{kind_of, close_if, close_for, closings, close, read}
+use Rattle.definition.specs.Reader.{kind_of, close_if, close_for, closings, close}
 use Rattle.tree_grammar.proofs.Upto.{upto, ends, ◌and◌, and_both}
 use Rattle.tree_grammar.specs.Ranges.{rules_by_op, row_rules, fits_column, in_range}
 

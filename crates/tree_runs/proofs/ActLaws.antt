@@ -6,9 +6,9 @@ use mathlib.Core.Option.{Option, none, some}
 use mathlib.Core.Bool.{Bool, true, false}
 use Rattle.definition.specs.Run.{Answers}
 use Rattle.definition.specs.Completion.{Completion, normal, break, continue, stop, label_set, loop_continues, breakable, labelled}
-use Rattle.definition.specs.TreeRun.{Completed, completed}
+use Rattle.definition.specs.TreeRun.{Completed}
 use Rattle.tree_runs.specs.Layout.{Node, an_instr, a_block, an_if, a_case, a_switch, a_loop, a_label, a_scope, a_leaf, Layout}
-use Rattle.tree_runs.specs.Machine.{Place, enter, leave, State, state, Turn, going, halt, asked, asked_place, down, up, up_from, leaving, step, turns_left}
+use Rattle.tree_runs.specs.Machine.{Place, enter, leave, state, Turn, going, halt, asked, asked_place, down, up, up_from, leaving, step, turns_left}
 use Rattle.tree_runs.specs.Acts.{Then, go, ask, pick, Act, act, do_then, do_act, act_down, round_again, act_up}
 
 -- nothing performed

@@ -8,7 +8,7 @@ use Rattle.definition.specs.Run.{Answers}
 use Rattle.definition.specs.Completion.{Completion, normal, break, continue, stop, label_set, loop_continues, breakable, labelled}
 use Rattle.definition.specs.TreeRun.{Completed, completed}
 use Rattle.tree_runs.specs.Layout.{Node, an_instr, a_block, an_if, a_case, a_switch, a_loop, a_label, a_scope, a_leaf, Layout}
-use Rattle.tree_runs.specs.Machine.{Place, enter, leave, State, state, Turn, going, halt, asked, asked_place, down, up, up_from, leaving, step, Completes, halts, goes}
+use Rattle.tree_runs.specs.Machine.{enter, leave, State, state, Turn, going, halt, asked, asked_place, down, up, up_from, leaving, step, Completes, halts, goes}
 
 abbrev pub performed_of : State → List ℕ
 performed_of (state place performed left) = performed

@@ -7,18 +7,18 @@ use mathlib.Core.Bool.{Bool, true, false}
 use lib.ListN.{length, length-append}
 use Rattle.definition.specs.Tree.{Kind, implicit, labeled, unlabeled, Value, PLAIN, LOAD, UNDEF, SEQ, LOGICAL, COND, OPTIONAL, Instructions, no_instructions}
 use Rattle.definition.specs.Tree.{instruction, Statement, INSTR, IF, SWITCH, DOWHILE, WHILE, FOR, FOROF, FORIN, LABEL, TRY, SCOPE, RETURN, THROW, BREAK}
-use Rattle.definition.specs.Tree.{CONTINUE, Statements, done, ◌▸◌, Cases, no_cases, CASE, Row, row, instr_row, for_of_row, for_in_row, or_none, value_rows}
-use Rattle.definition.specs.Tree.{instructions_rows, count_instructions, count_statements, count_cases, statement_rows, statements_rows, block_rows, cases_rows, rows}
+use Rattle.definition.specs.Tree.{CONTINUE, Statements, done, ◌▸◌, Cases, no_cases, CASE, Row, row, instr_row, or_none, value_rows}
+use Rattle.definition.specs.Tree.{instructions_rows, count_instructions, count_statements, count_cases, statement_rows, statements_rows, block_rows, cases_rows}
 use Rattle.definition.specs.Reading.{WellFormedStatement, WellFormed, WellFormedCases}
-use Rattle.definition.specs.Run.{Answers, Reason, no_answer_left, not_plain}
+use Rattle.definition.specs.Run.{Answers, Reason}
 use Rattle.definition.specs.Completion.{Completion, normal, break, continue, stop, contains, label_set, loop_continues, breakable, labelled}
 use Rattle.definition.specs.TreeRun.{entry_at, choose_place, switch_ends, entries_from, Completed, completed, completing, prefix, then_on, then, choose, performs}
-use Rattle.definition.specs.TreeRun.{performs_all, performs_update, after_body, while_rounds, while_loop, for_loop, do_while_loop, jump_completion, loop, run_statement}
+use Rattle.definition.specs.TreeRun.{performs_all, after_body, while_rounds, while_loop, for_loop, do_while_loop, jump_completion, loop, run_statement}
 use Rattle.definition.specs.TreeRun.{run_statements}
-use Rattle.tree_runs.specs.Numbered.{close_value, end_instructions, end_update, close_statement, end_statements, end_cases, numbered_value, numbered_instructions}
-use Rattle.tree_runs.specs.Numbered.{numbered_update, numbered_statement, numbered, numbered_cases}
+use Rattle.tree_runs.specs.Numbered.{close_value, end_instructions, close_statement, end_statements, numbered_value, numbered_instructions}
+use Rattle.tree_runs.specs.Numbered.{numbered_statement, numbered, numbered_cases}
 use Rattle.tree_runs.specs.Links.{Links}
-use Rattle.tree_runs.proofs.Lays.{Stand, onward, the_row, ValueAt, value_at, instructions_at, statement_at, block_at_lem, list_at}
+use Rattle.tree_runs.proofs.Lays.{Stand, onward, the_row, value_at, instructions_at, statement_at, block_at_lem}
 
 -- completions that differ at most in the jump's id
 pub data AlikeEnds : Completion → Completion → Type 0 where

@@ -3,12 +3,10 @@ use mathlib.Core.Path.{◌≡◌, refl, sym, ap, ◌∙◌, subst}
 use mathlib.Core.Logic.{◌⊎◌, inl, inr}
 use Prim.Native.Nat.{ℕ, zero, suc, ◌+◌, ◌-◌, ◌≤◌, ◌<◌}
 use native.Mathlib.Omega.{arith}
-use native.Mathlib.Nat.{le_refl, le_trans, zero-add, add-zero}
-use mathlib.Core.List.{List, [], ◌∷◌, ◌++◌, append-nil, append_assoc}
+use native.Mathlib.Nat.{le_refl, zero-add, add-zero}
+use mathlib.Core.List.{List, [], ◌∷◌, ◌++◌, append-nil}
 use mathlib.Core.Option.{Option, none, some}
 use mathlib.Core.Bool.{Bool, true, false}
-use lib.ListN.{get_or}
-use lib.Dec.{eqb}
 use borrow.Author.Tests.{ne_eqb, eq-eqb}
 use Rattle.table.specs.Words.{largest}
 use Rattle.table.specs.Table.{unless_none}
@@ -16,15 +14,14 @@ use Rattle.definition.specs.Tree.{Kind, implicit, labeled, unlabeled, Value, PLA
 use Rattle.definition.specs.Tree.{instruction, Statement, INSTR, IF, SWITCH, DOWHILE, WHILE, FOR, FOROF, FORIN, LABEL, TRY, SCOPE, RETURN, THROW, BREAK}
 use Rattle.definition.specs.Tree.{CONTINUE, Statements, done, ◌▸◌, Cases, no_cases, CASE, Row, row, instr_row, for_of_row, for_in_row, or_none, kind_number, value_rows}
 use Rattle.definition.specs.Tree.{instructions_rows, count_instructions, count_statements, count_cases, statement_rows, statements_rows, block_rows, cases_rows, rows}
-use Rattle.definition.specs.Reading.{BelowNone, EmptyUnless, WellFormedStatement, WellFormed, WellFormedCases}
-use Rattle.definition.specs.Run.{returned, threw, not_plain}
-use Rattle.definition.specs.Completion.{Completion, break, continue, stop}
-use Rattle.definition.specs.TreeRun.{performs, performs_all, performs_update, jump_completion}
-use Rattle.tree_runs.specs.Numbered.{close_value, end_instructions, end_update, close_statement, end_statements, end_cases, numbered_value, numbered_instructions}
-use Rattle.tree_runs.specs.Numbered.{numbered_update, numbered_statement, numbered, numbered_cases}
-use Rattle.tree_runs.specs.Layout.{Node, an_instr, a_block, an_if, a_case, a_switch, a_loop, a_label, a_scope, a_leaf, Layout, Laid, LaidBlock, LaidList, LaidCases}
-use Rattle.tree_runs.specs.Links.{Links, before, parts_of, Parts, no_part, a_part, Linked, is_plain, plains_from, plains, first_of, kind_of, jump_as, cases_back}
-use Rattle.tree_runs.specs.Links.{if_node, test_end, for_node, node_of, unless_zero, case_before, is_case, next_of, parent_of, layout_of}
+use Rattle.definition.specs.Reading.{BelowNone, WellFormedStatement, WellFormed, WellFormedCases}
+use Rattle.definition.specs.Completion.{Completion, break, continue}
+use Rattle.definition.specs.TreeRun.{performs, performs_all, jump_completion}
+use Rattle.tree_runs.specs.Numbered.{close_value, end_instructions, close_statement, end_statements, end_cases, numbered_value, numbered_instructions}
+use Rattle.tree_runs.specs.Numbered.{numbered_statement, numbered, numbered_cases}
+use Rattle.tree_runs.specs.Layout.{an_instr, a_block, an_if, a_switch, a_loop, a_label, a_leaf, Layout, Laid, LaidBlock, LaidList, LaidCases}
+use Rattle.tree_runs.specs.Links.{Links, before, parts_of, Parts, no_part, a_part, Linked, is_plain, plains_from, plains, kind_of, jump_as, cases_back}
+use Rattle.tree_runs.specs.Links.{for_node, node_of, unless_zero, case_before, is_case, next_of, parent_of, layout_of}
 
 -- a jump's target is a block, and not none
 abbrev pub Targets : Row → Type 0

@@ -17,8 +17,7 @@ use Prim.Native.Nat.{◌≤◌}
 use mathlib.Core.Option.{Option, none, some}
 use mathlib.Core.Bool.{true}
 use lib.ListN.{length}
-use Rattle.definition.specs.Tree.{rows}
-use Rattle.definition.specs.Reading.{block, Forest}
+use Rattle.definition.specs.Reading.{block}
 use Rattle.definition.specs.Reader.{read}
 use Rattle.definition.proofs.Readings.{forest_read}
 use Rattle.tree_grammar.specs.Ranges.{all_in_range}

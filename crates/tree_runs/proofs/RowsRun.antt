@@ -4,22 +4,22 @@ use lib.ListN.{length, get_or}
 use Rattle.tree_runs.specs.Layout.{turns_in}
 use native.Mathlib.Omega.{arith}
 use Rattle.tree_runs.proofs.Turns.{block_turns}
-use mathlib.Core.Path.{◌≡◌, refl, sym, ap, ◌∙◌}
-use mathlib.Core.List.{List, [], map}
+use mathlib.Core.Path.{◌≡◌, sym, ap, ◌∙◌}
+use mathlib.Core.List.{List, []}
 use mathlib.Core.Option.{Option, none}
-use mathlib.Core.Bool.{Bool, true, false}
+use mathlib.Core.Bool.{true, false}
 use lib.Dec.{leb}
 use Rattle.definition.specs.Tree.{Row, Statements, rows}
 use Rattle.definition.specs.Reading.{WellFormed}
 use Rattle.definition.specs.Run.{Answers}
-use Rattle.definition.specs.TreeRun.{Completed, run_statements, reason_of, tree_run}
+use Rattle.definition.specs.TreeRun.{run_statements, reason_of, tree_run}
 use Rattle.tree_runs.specs.Numbered.{end_statements, numbered}
 use Rattle.tree_runs.specs.Links.{Links, layout_of}
 use Rattle.tree_runs.specs.Machine.{enter, state, Completes}
 use Rattle.tree_runs.proofs.Lays.{Stand, root_laid}
 use Rattle.tree_runs.proofs.Walk.{walk_runs}
 use Rattle.tree_runs.proofs.Images.{instruction_at, block_alike}
-use Rattle.tree_runs.specs.Ran.{Outcome, first_not_run, ended, refusal, given, after_sorts, ran, from_reached}
+use Rattle.tree_runs.specs.Ran.{first_not_run, ended, refusal, given, after_sorts, ran, from_reached}
 
 -- within three turns and one for each row, and as many more for each answer
 pub rows_run : (row_at : ℕ → Row) (t : Links) (number : ℕ) (root : Statements) → WellFormed root → Stand row_at t number 0 (rows root) → (answers : Answers)

@@ -2,13 +2,13 @@
 use mathlib.Core.Path.{◌≡◌, refl}
 use Prim.Native.Nat.{ℕ}
 use mathlib.Core.List.{List, [], ◌∷◌}
-use mathlib.Core.Option.{Option, none, some}
-use mathlib.Core.Bool.{true, false}
-use Rattle.definition.specs.Tree.{Kind, implicit, labeled, unlabeled, Value, PLAIN, LOAD, OPTIONAL, Statement, INSTR, IF, SWITCH, DOWHILE, WHILE, FOR, LABEL}
-use Rattle.definition.specs.Tree.{RETURN, BREAK, CONTINUE, Statements, done, ◌▸◌, Cases, no_cases, CASE}
+use mathlib.Core.Option.{none, some}
+use mathlib.Core.Bool.{false}
+use Rattle.definition.specs.Tree.{labeled, unlabeled, PLAIN, LOAD, OPTIONAL, Statement, INSTR, IF, SWITCH, DOWHILE, WHILE, FOR, LABEL}
+use Rattle.definition.specs.Tree.{RETURN, BREAK, CONTINUE, Statements, done, ◌▸◌, no_cases, CASE}
 use Rattle.definition.specs.Completion.{loop_continues, breakable, labelled}
 use Rattle.definition.specs.TreeRun.{completed, completing, prefix, then_on, then, choose, after_body, while_rounds, while_loop, for_loop, do_while_loop, loop}
-use Rattle.definition.specs.TreeRun.{switch_ends, entry_at, choose_place, jump_completion, run_statement, run_statements, reason_of, tree_run}
+use Rattle.definition.specs.TreeRun.{switch_ends, entry_at, choose_place, jump_completion, run_statement, reason_of, tree_run}
 use Rattle.tree_runs.specs.Numbered.{numbered_statement}
 use Rattle.tree_runs.specs.Ran.{Outcome, refusal, first_not_run, performed_all, ended, given, after_sorts, ran}
 

@@ -8,13 +8,13 @@ use mathlib.Core.Option.{Option, none, some}
 use mathlib.Core.Bool.{Bool, true, false}
 use lib.ListN.{length}
 use Rattle.definition.specs.Tree.{Statement, INSTR, IF, SWITCH, DOWHILE, WHILE, FOR, FOROF, FORIN, LABEL, TRY, SCOPE, RETURN, THROW, BREAK, CONTINUE, Statements, done, ◌▸◌, Cases, no_cases, CASE}
-use Rattle.definition.specs.Run.{Answers, Reason, no_answer_left, not_plain}
+use Rattle.definition.specs.Run.{Answers, Reason, no_answer_left}
 use Rattle.definition.specs.Completion.{Completion, normal, break, continue, stop, label_set, loop_continues, breakable, labelled}
 use Rattle.definition.specs.TreeRun.{entry_at, choose_place, switch_ends, entries_from, Completed, completed, completing, prefix, then_on, then, choose, performs}
-use Rattle.definition.specs.TreeRun.{performs_update, after_body, while_rounds, while_loop, for_loop, do_while_loop, jump_completion, loop, run_statement, run_statements}
+use Rattle.definition.specs.TreeRun.{performs_update, after_body, while_rounds, while_loop, for_loop, do_while_loop, loop, run_statement, run_statements}
 use Rattle.definition.proofs.Loops.{Taken, taken_shorter, takes_statements}
 use Rattle.tree_runs.specs.Layout.{Node, an_instr, a_block, an_if, a_case, a_switch, a_loop, a_label, a_scope, a_leaf, Layout, Laid, LaidBlock, LaidList, LaidCases, turns_of, turns_in, turns_in_cases}
-use Rattle.tree_runs.specs.Machine.{Place, enter, leave, State, state, Turn, going, halt, or_leave, asked, case_at, asked_place, down, on_if_normal, up, up_from, leaving, step, Completes, halts, goes}
+use Rattle.tree_runs.specs.Machine.{enter, leave, State, state, going, halt, or_leave, asked, case_at, asked_place, down, on_if_normal, up, up_from, leaving, step, Completes, halts, goes}
 
 module _ (L : Layout) where
   more_turns : {n : ℕ} {s : State} {end : Completed} → Completes L n s end → (m : ℕ) → n ≤ m → Completes L m s end

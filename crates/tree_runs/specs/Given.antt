@@ -1,8 +1,8 @@
 -- M-103, the whole: what the runner gives for any words, any answers and any lent buffer. "M-100's refusals come before these."
 use Rattle.std.specs.Prelude.{◌≡◌, ℕ, ◌≤◌, List, [], ◌∷◌, true, length}
 use Rattle.std.proofs.Math.Option.{Option, none, some}
-use Rattle.definition.specs.Tree.{Row, Statements, done, ◌▸◌}
-use Rattle.definition.specs.Reading.{ReadAs, Part, value, statement, block, case, Forest}
+use Rattle.definition.specs.Tree.{Row, Statements, done}
+use Rattle.definition.specs.Reading.{ReadAs, value, statement, block, case, Forest}
 use Rattle.definition.specs.Reader.{read}
 use Rattle.definition.specs.Build.{words_of}
 use Rattle.definition.specs.Run.{Answers}

@@ -1,5 +1,5 @@
 -- M-103: what the runner gives for rows that read as a tree, for every list of answers and every lent buffer.
-use Rattle.std.specs.Prelude.{ℕ, zero, suc, ◌-◌, List, [], ◌∷◌, ◌++◌, map, Bool, true, false, ◌||◌, length, get_or, replicate, eqb, leb}
+use Rattle.std.specs.Prelude.{ℕ, suc, ◌-◌, List, [], ◌∷◌, ◌++◌, map, Bool, true, false, ◌||◌, length, get_or, replicate, eqb, leb}
 use Rattle.std.proofs.Math.Option.{Option, none, some}
 use Rattle.definition.specs.Tree.{Row, row, Statements, rows}
 use Rattle.definition.specs.Run.{Answers, Reason, returned, threw, no_answer_left, not_plain, no_target, end_of_tree, no_such_case, Run, unfinished, stopped}

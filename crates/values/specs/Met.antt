@@ -54,7 +54,7 @@ abbrev pub trailing_sequences : Value → ℕ
 trailing_sequences (PLAIN instruction_row) = 0
 trailing_sequences (LOAD place) = 0
 trailing_sequences (UNDEF span) = 0
-trailing_sequences (SEQ instructions id value) = suc (trailing_sequences value)
+trailing_sequences (SEQ _ id value) = suc (trailing_sequences value)
 trailing_sequences (LOGICAL operator left right) = 0
 trailing_sequences (COND test consequent alternate) = 0
 trailing_sequences (OPTIONAL flag value) = 0

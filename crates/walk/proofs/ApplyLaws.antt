@@ -1,5 +1,5 @@
 -- A plan, applied to the Context: what it asks, and what it does to the definition's Context. For the loop of the walk.
-use Prim.Native.Nat.{ℕ, ◌+◌, ◌-◌, ◌<◌}
+use Prim.Native.Nat.{ℕ, ◌-◌, ◌<◌}
 use native.Mathlib.Omega.{arith}
 use mathlib.Core.Path.{◌≡◌, refl, sym, ap, ◌∙◌, subst}
 use mathlib.Core.Bool.{Bool, true, false}
@@ -12,7 +12,7 @@ use Rattle.table.proofs.BlockLaws.{no_number, some_number}
 use Rattle.definition.specs.Context.{Flags, add, emit, remove, block_asked, scheduled_by, schedule_catch_handler, mark_scope_fallthrough, unscheduled_by}
 use Rattle.definition.specs.Context.{ControlFlowTarget, target_if, target_switch, target_case, target_loop}
 use Rattle.definition.specs.Context as definition
-use Rattle.definition.specs.Result.{Result, ok, refused}
+use Rattle.definition.specs.Result.{ok, refused}
 use Rattle.control.specs.declared.ControlFlowTarget as code
 use Rattle.control.specs.declared.Context.{Context}
 use Rattle.control.specs.declared.Entry.{Entry}

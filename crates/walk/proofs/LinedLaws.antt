@@ -7,10 +7,9 @@ use mathlib.Core.List.{List, [], ◌∷◌, ◌++◌, append-nil}
 use lib.Dec.{ltb}
 use lib.ListN.{length, take, drop, length-append}
 use lib.Seq.{sets, sets-eq, length-sets, length-take-le, take_at}
-use borrow.Author.Tests.{lt-ltb, le-ltb, ltb-true, ltb-false}
+use borrow.Author.Tests.{lt-ltb, le-ltb}
 use Rattle.definition.specs.Index.{Line, line_words}
-use Rattle.definition.specs.Output.{Output, ◌⊕◌}
-use Rattle.definition.specs.Tree.{Row}
+use Rattle.definition.specs.Output.{Output}
 use Rattle.statements.specs.declared.plan.Line as plan
 use Rattle.statements.specs.declared.plan.Line.TheVariants as line
 use Rattle.statements.specs.Plans.{lines_by, lined}

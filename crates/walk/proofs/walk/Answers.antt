@@ -27,7 +27,6 @@ use Rattle.walk.specs.FrameWords.{frame_in, frames_in}
 use Rattle.walk.proofs.FrameLaws.{frames_count, frame_in_lem, frame_kept, stored_long}
 use Rattle.walk.proofs.CheckedLaws.{checked_table}
 use Rattle.statements.proofs.SearchLaws.{search_start, search_on, search_none, search_found}
-use Rattle.walk.proofs.walk.Invariants.{Inv}
 use Rattle.walk.proofs.walk.Goals.{then-at-eq0, else-at-eq0+then-meets, then-plan, else-plan, Joined-at-eq0, Joined-plan, After-put_line-lines, After-mark-in-loop-top-2}
 use Rattle.walk.proofs.walk.Goals as goal
 

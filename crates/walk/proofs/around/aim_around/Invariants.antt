@@ -1,5 +1,4 @@
 -- The pass over the statements around: what is left of it gives what all give, until none is left or a label was seen.
-use Prim.Native.Nat.{◌-◌}
 use Rattle.control.specs.Abstraction.{resolved_of}
 use Rattle.control.specs.AroundAbstraction.{rule_of, survey_of}
 use Rattle.statements.proofs.AroundLaws.{Surveying}
