@@ -89,7 +89,7 @@ module _ {width : Width} (t : Table) (pl : PlainLoops width t) where
   moves_to b (sequence x f) e id answers k left h = absurd (halt_goes h)
   moves_to b (maybe_throw n) e id answers k left h = absurd (halt_goes h)
   moves_to b (try x y f n) e id answers k left h = absurd (halt_goes h)
-  moves_to b (goto g v) e id answers k left h = subst (λ (z : ℕ). Reached t z) (go_block h) (entered b (goto g v) e).0
+  moves_to b (goto g v) e id answers k left h = let p : All (Reached t) (g ∷ []) = entered b (goto g v) e in subst (λ (z : ℕ). Reached t z) (go_block h) p.0
   moves_to b (if x y a f) e id answers k left h = let p : All (Reached t) (y ∷ a ∷ []) = entered b (if x y a f) e in by_answer_lem y a p.0 p.1.0 answers k left h
   moves_to b (branch x y a) e id answers k left h = let p : All (Reached t) (y ∷ a ∷ []) = entered b (branch x y a) e in by_answer_lem y a p.0 p.1.0 answers k left h
   moves_to b (switch x i n f) e id answers k left h = by_place_lem b x i n f e answers k left h
