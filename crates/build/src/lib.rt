@@ -38,6 +38,7 @@ fn refuse(
 }
 
 // If the table is accepted, the buffers hold the rows and the lines, then zeros. The code is 40 if the rows do not fit, else 41 if the lines do not.
+#[tactic(auto, using(crate::proofs::EntryLaws::overfull_outcome))]
 fn finish(tree: &mut [u32], index: &mut [u32], walked: Outcome) -> Outcome
     ensures { (report : Report) → Reported report walked tree.old index.old → outcome result tree.new index.new ≡ outcome_of (length tree.old) (length index.old) report }
 {
