@@ -144,13 +144,13 @@ static inline reactive_span reactive_row_span(const uint32_t *row) {
  * Returns the code: 0, and the buffers hold *rows rows and *lines lines, and then zeros; or a refusal (docs/FORMAT.md), and both hold
  * zeros. *at is the refusal's place, *visits the number of visits. If refused *lines is 0, and *rows but for code 40: then it is the number
  * of rows to lend. Code 41 says that the rows would have fitted and the lines did not. reactive_preview gives both numbers beforehand.
- * Stack: reactive_build 108 KB. */
+ * Stack: reactive_build 92 KB. */
 uint32_t reactive_build(const uint32_t *words, size_t word_count, uint32_t *tree, size_t tree_length, uint32_t *index, size_t index_length,
                         uint32_t *at, uint32_t *rows, uint32_t *visits, uint32_t *lines);
 
 /* The same by the language's rule (docs/FORMAT.md): a break to a loop is Labeled also where a switch is being built in between, and the label
  * that a Labeled jump names is there; else the refusal is 29, which reactive_build never gives.
- * Stack: reactive_build_language 108 KB. */
+ * Stack: reactive_build_language 92 KB. */
 uint32_t reactive_build_language(const uint32_t *words, size_t word_count, uint32_t *tree, size_t tree_length, uint32_t *index,
                                  size_t index_length, uint32_t *at, uint32_t *rows, uint32_t *visits, uint32_t *lines);
 
@@ -162,10 +162,10 @@ uint32_t reactive_build_language(const uint32_t *words, size_t word_count, uint3
  *
  * Returns the code, never 40 or 41; the others are as of reactive_build. With fewer places for rows than *rows reactive_build
  * gives 40, else with fewer for lines than *lines 41.
- * Stack: reactive_preview 108 KB. */
+ * Stack: reactive_preview 92 KB. */
 uint32_t reactive_preview(const uint32_t *words, size_t word_count, uint32_t *at, uint32_t *rows, uint32_t *visits, uint32_t *lines);
 
-/* The same of reactive_build_language. Stack: reactive_preview_language 108 KB. */
+/* The same of reactive_build_language. Stack: reactive_preview_language 92 KB. */
 uint32_t reactive_preview_language(const uint32_t *words, size_t word_count, uint32_t *at, uint32_t *rows, uint32_t *visits,
                                    uint32_t *lines);
 
@@ -198,7 +198,7 @@ uint32_t tree_lookup(const uint32_t *index, size_t index_length, uint32_t lines,
  *                      zeros after them are no rows
  *
  * Returns the code: 0 if the list is the rows of one tree; 60, 61 or 62 (docs/FORMAT.md). *at is the row refused 60 or 61, else 0.
- * Stack: tree_check 12 KB. */
+ * Stack: tree_check 28 KB. */
 uint32_t tree_check(const uint32_t *tree, size_t tree_length, uint32_t *at);
 
 /* ---- A tree run on paper (M-103) ---- */
@@ -220,7 +220,7 @@ uint32_t tree_check(const uint32_t *tree, size_t tree_length, uint32_t *at);
  * FORIN); 63 at a jump reached that has no target; 65 at the first PLAIN reached that the buffer can't take. *at is that row of the tree, or 0; *number the
  * number of rows performed, 0 where refused; *reason one of the four above, 0 where refused.
  * The call ends: each round of a loop takes an answer.
- * Stack: tree_run 84 KB. */
+ * Stack: tree_run 108 KB. */
 uint32_t tree_run(const uint32_t *tree, size_t tree_length, const uint32_t *answers, size_t answers_length, uint32_t *performed, size_t performed_length,
                   uint32_t *at, size_t *number, uint32_t *reason);
 

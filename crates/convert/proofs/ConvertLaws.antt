@@ -1,17 +1,16 @@
 -- From what reading, checking and writing give to the answers of the converters.
 use Prim.Native.Nat.{ℕ, zero, suc, ◌+◌, ◌*◌, ◌≤◌}
 use mathlib.Core.Path.{◌≡◌, refl, sym, ap, ◌∙◌}
-use mathlib.Core.Bool.{Bool, true, false, not}
+use mathlib.Core.Bool.{true, false}
 use mathlib.Core.List.{List}
 use native.Mathlib.Omega.{arith}
-use lib.ListN.{length, get_or, take}
-use borrow.Author.Tests.{not-true, not-false}
-use Rattle.table.specs.Words.{word, block_count, instruction_count, case_count, place_count, identifier_count, blocks_begin, instructions_begin, cases_begin, places_begin, identifiers_begin, words_needed}
+use lib.ListN.{length, take}
+use Rattle.table.specs.Words.{word, block_count, instruction_count, blocks_begin, instructions_begin, cases_begin, places_begin, identifiers_begin, words_needed}
 use Rattle.table.specs.Check.{Verdict, accepted, refused, and_then, checked}
 use Rattle.table.specs.Answer.{code_of, place_of, is_accepted}
 use Rattle.table.specs.Promise.{Sized}
 use Rattle.text.specs.Layout.{Layout, layout}
-use Rattle.text.specs.Answer.{Accepted, Refusal, Answered}
+use Rattle.text.specs.Answer.{Refusal, Answered}
 use Rattle.text.specs.Reading.{reading}
 use Rattle.text.specs.Placed.{Placing, refusal, placed}
 use Rattle.text.specs.declared.read.Answer.TheVariants.{Words}

@@ -1,11 +1,11 @@
 -- Laws of words cut into rows.
 use Prim.Native.Nat.{ℕ, zero, suc, ◌+◌, ◌*◌, ◌-◌, ◌≤◌, ◌<◌}
-use mathlib.Core.Path.{◌≡◌, refl, sym, ap, ◌∙◌}
+use mathlib.Core.Path.{◌≡◌, refl, ap, ◌∙◌}
 use mathlib.Core.List.{List, [], ◌∷◌, ◌++◌, append_assoc}
 use native.Mathlib.Omega.{arith}
 use lib.ListN.{length, take, drop, length-take, length-drop}
 use lib.Seq.{drop-drop, take-add, take_at, drop_at, length-take-le}
-use Rattle.text.specs.File.{Row, Rows}
+use Rattle.text.specs.File.{Rows}
 use Rattle.text.specs.Line.{line, lines, flat}
 use Rattle.text.proofs.WriteLaws.{Narrow, narrow_words, narrow_take, narrow_drop, line_most}
 use Rattle.convert.specs.Cut.{cut}

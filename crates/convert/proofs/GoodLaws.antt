@@ -1,14 +1,13 @@
 -- The text of words is a good file with these words, and a good file is the text of its words: so the text is canonical.
-use Prim.Native.Nat.{ℕ, zero, suc, ◌+◌, ◌*◌, ◌-◌, ◌^◌, ◌≤◌, ◌<◌}
+use Prim.Native.Nat.{ℕ, zero, suc, ◌+◌, ◌*◌, ◌≤◌, ◌<◌}
 use mathlib.Core.Path.{◌≡◌, refl, sym, ap, ◌∙◌}
 use mathlib.Core.List.{List, [], ◌∷◌, ◌++◌, append_assoc, append-nil}
 use native.Mathlib.Omega.{arith}
-use lib.ListN.{length, get_or, take, drop, length-append, length-take, length-drop, take-append-drop, get_or-append}
-use lib.Seq.{take-add, drop-drop, take_all, take_at, drop_at, length-take-le, get_or-take, drop-append-add}
-use Rattle.table.specs.Promise.{Sized}
+use lib.ListN.{length, get_or, take, drop, length-append, length-drop, take-append-drop, get_or-append}
+use lib.Seq.{take-add, drop-drop, take_all, take_at, drop_at, length-take-le, get_or-take}
 use Rattle.text.specs.Layout.{Layout, layout}
 use Rattle.text.specs.Line.{flat}
-use Rattle.text.specs.File.{Tables, Words, Row, Rows, Table, Formed, Good, text_of, words_of}
+use Rattle.text.specs.File.{Tables, Words, Rows, Table, Formed, Good, text_of, words_of}
 use Rattle.text.specs.declared.version.Version.{Version}
 use Rattle.text.specs.declared.version.Version.TheVariants.{Old, New}
 use Rattle.text.proofs.WriteLaws.{Narrow, narrow_words, narrow_take, narrow_drop}

@@ -1,12 +1,11 @@
 -- How long the texts are: the old one is no longer than the new one, and the new one at most twice as long as the old one, and six bytes.
 use Prim.Native.Nat.{ℕ, zero, suc, ◌+◌, ◌-◌, ◌*◌, ◌≤◌, ◌<◌}
-use mathlib.Core.Path.{◌≡◌, refl, sym, ap, ◌∙◌}
+use mathlib.Core.Path.{◌≡◌, refl, ap, ◌∙◌}
 use mathlib.Core.List.{List, [], ◌∷◌, ◌++◌, map, append_assoc}
 use native.Mathlib.Omega.{arith}
 use native.Mathlib.Numerals.{add-one}
 use lib.ListN.{length, get_or, take, drop, length-append, length-drop}
 use lib.Seq.{take-add, take_at, drop_at, length-take-le}
-use Rattle.text.specs.Decimal.{decimal}
 use Rattle.text.specs.Line.{line, lines}
 use Rattle.text.specs.Layout.{Layout, layout}
 use Rattle.text.specs.File.{Tables, text_of}

@@ -1,14 +1,14 @@
 -- The old check is today's on the widened words, with each `to` left out of the count of its places.
-use Prim.Native.Nat.{ℕ, zero, suc, ◌+◌, ◌-◌, ◌*◌, ◌/◌, ◌≤◌, ◌<◌}
+use Prim.Native.Nat.{ℕ, zero, suc, ◌+◌, ◌-◌, ◌*◌, ◌≤◌, ◌<◌}
 use mathlib.Core.Path.{◌≡◌, refl, sym, ap, ◌∙◌}
 use mathlib.Core.Bool.{Bool, true, false}
 use mathlib.Core.List.{List, [], ◌∷◌, ◌++◌}
 use native.Mathlib.Omega.{arith}
-use native.Mathlib.Nat.{add-zero, zero-add}
+use native.Mathlib.Nat.{zero-add}
 use lib.Dec.{eqb, ltb, leb}
-use lib.ListN.{length, get_or, take, drop, length-append, length-drop}
+use lib.ListN.{length, get_or, take, drop, length-drop}
 use lib.Seq.{length-take-le, get_or-take, get_or-drop}
-use borrow.Author.Tests.{lt-ltb, le-ltb, eq-eqb, ne_eqb, le-leb, eqb-true, leb-true}
+use borrow.Author.Tests.{le-ltb, eq-eqb, le-leb}
 use Rattle.table.specs.Words.{word, entry_word, block_count, instruction_count, case_count, place_count, identifier_count, blocks_begin, instructions_begin, cases_begin}
 use Rattle.table.specs.Words.{places_begin, identifiers_begin, words_needed, block_word, instruction_word, largest}
 use Rattle.table.specs.Check.{Verdict, accepted, refused, Rule, unused, number, row, row_or_none, rows_from, end_of, fits, block, block_or_none, place}
@@ -17,7 +17,7 @@ use Rattle.table.specs.Check.{identifier_rules, and_then, row_verdict, rows_verd
 use Rattle.table.proofs.RowLaws.{row_fits}
 use Rattle.table.proofs.RuleLaws.{block_width, instruction_width, case_width, place_width, identifier_width}
 use Rattle.text.specs.Layout.{layout}
-use Rattle.text.specs.declared.version.Version.TheVariants.{Old, New}
+use Rattle.text.specs.declared.version.Version.TheVariants.{Old}
 use Rattle.convert.specs.Cut.{instructions_at, cases_at, places_at, identifiers_at, end_at, Shaped}
 use Rattle.convert.specs.Write.{table_text, unless_refused}
 use Rattle.convert.specs.OldCheck.{old_block_word, old_instruction_word, old_block_rules, old_instruction_rules, old_words_verdict, old_checked}

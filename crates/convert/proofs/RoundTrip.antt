@@ -6,9 +6,9 @@ use mathlib.Core.Bool.{Bool, true, false}
 use mathlib.Core.List.{List, [], ◌∷◌, ◌++◌, map, append_assoc, append-nil}
 use native.Mathlib.Omega.{arith}
 use lib.Dec.{eqb}
-use lib.ListN.{length, get_or, take, drop, length-append, length-drop}
-use lib.Seq.{take_at, take-suc, take_all, drop-drop, get_or-take, get_or-drop, length-take-le}
-use borrow.Author.Tests.{eq-eqb, eqb-true}
+use lib.ListN.{length, get_or, take, drop, length-drop}
+use lib.Seq.{take_at, take-suc, drop-drop, get_or-take, get_or-drop, length-take-le}
+use borrow.Author.Tests.{eqb-true}
 use Rattle.table.specs.Words.{word, block_count, instruction_count, blocks_begin, instructions_begin}
 use Rattle.table.specs.Check.{Verdict, accepted, refused, and_then, checked}
 use Rattle.table.specs.Promise.{Sized}
@@ -16,10 +16,8 @@ use Rattle.table.proofs.PromiseLaws.{promised}
 use Rattle.table.proofs.RowLaws.{both}
 use Rattle.text.specs.Layout.{layout}
 use Rattle.text.specs.Line.{flat}
-use Rattle.text.specs.Lent.{padded}
 use Rattle.text.specs.File.{Tables, Good, words_of, text_of}
 use Rattle.text.specs.Answer.{Accepted}
-use Rattle.text.specs.Placed.{Placing, placed}
 use Rattle.text.specs.declared.version.Version.TheVariants.{Old, New}
 use Rattle.text.proofs.ReadingLaws.{accepted_reads}
 use Rattle.text.proofs.PlacedLaws.{placed_fits}
@@ -27,7 +25,7 @@ use Rattle.text.proofs.WriteLaws.{Narrow, narrow_take, narrow_drop}
 use Rattle.convert.specs.Cut.{cut, instructions_at, cases_at, places_at, identifiers_at, end_at, Shaped, tables_in, text_in}
 use Rattle.convert.specs.Write.{table_text, unless_refused}
 use Rattle.convert.proofs.TextLaws.{sized_shaped}
-use Rattle.convert.proofs.GoodLaws.{old_narrower, tables_formed, text_good, tables_cut, tables_shaped, words_cut, good_shaped, good_is_text, good_narrow, narrow_append, from_cases}
+use Rattle.convert.proofs.GoodLaws.{old_narrower, tables_formed, text_good, tables_cut, words_cut, good_shaped, good_is_text, good_narrow, narrow_append, from_cases}
 use Rattle.convert.specs.OldCheck.{old_checked}
 use Rattle.convert.specs.Widen.{doubled, doubled_rows, widened}
 use Rattle.convert.specs.Convert.{wholly, text_of_answer}

@@ -1,13 +1,12 @@
 -- Laws of the two ends of spans, and of places without the second.
 use Prim.Native.Nat.{ℕ, zero, suc, ◌+◌, ◌-◌, ◌*◌, ◌/◌, ◌≤◌, ◌<◌}
-use mathlib.Core.Path.{◌≡◌, refl, sym, ap, ◌∙◌}
-use mathlib.Core.Bool.{true, false}
+use mathlib.Core.Path.{◌≡◌, refl}
 use mathlib.Core.List.{List}
 use native.Mathlib.Omega.{arith}
-use lib.ListN.{get_or, length}
+use lib.ListN.{get_or}
 use borrow.Author.Tests.{lt-ltb, le-ltb, eq-eqb, ne_eqb}
 use Rattle.table.specs.Words.{word, block_count, instruction_count, blocks_begin, instructions_begin}
-use Rattle.table.specs.Check.{Verdict, accepted, refused, and_then}
+use Rattle.table.specs.Check.{accepted, refused, and_then}
 use Rattle.convert.specs.Convert.{ends_agree, spans_verdict}
 use Rattle.convert.specs.Parts.{old_place, apart_at}
 

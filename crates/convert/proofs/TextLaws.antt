@@ -1,10 +1,10 @@
 -- From the tables' texts to the text of the whole; and where the tables lie in the words.
 use Prim.Native.Nat.{ℕ, ◌+◌, ◌*◌, ◌≤◌}
-use mathlib.Core.Path.{◌≡◌, refl, sym, ap, ◌∙◌}
+use mathlib.Core.Path.{◌≡◌, sym}
 use mathlib.Core.Bool.{true, false}
-use mathlib.Core.List.{List, [], ◌∷◌, ◌++◌, append_assoc, append-nil}
+use mathlib.Core.List.{List, [], ◌++◌, append_assoc, append-nil}
 use native.Mathlib.Omega.{arith}
-use lib.ListN.{length, get_or, take, drop}
+use lib.ListN.{length, get_or, take}
 use Rattle.table.specs.Words.{word, block_count, instruction_count, case_count, place_count, identifier_count, blocks_begin, instructions_begin, cases_begin, places_begin, identifiers_begin, words_needed}
 use Rattle.table.specs.Check.{Verdict, accepted, refused, checked}
 use Rattle.table.specs.Answer.{code_of, place_of, is_accepted}
@@ -15,7 +15,7 @@ use Rattle.text.specs.Line.{line, lines}
 use Rattle.text.specs.Printed.{Wrote}
 use Rattle.text.specs.Placed.{Placing, refusal, placed}
 use Rattle.text.specs.declared.version.Version.{Version}
-use Rattle.text.specs.declared.version.Version.TheVariants.{Old, New}
+use Rattle.text.specs.declared.version.Version.TheVariants.{New}
 use Rattle.text.proofs.WriteLaws.{wrote_then}
 use Rattle.convert.specs.Cut.{cut, instructions_at, cases_at, places_at, identifiers_at, end_at, Shaped, tables_in, text_in}
 use Rattle.convert.specs.WrittenParts.{part_text, head_text, rest_text}

@@ -1,14 +1,12 @@
 -- Whether a list is a permutation, by the first of its words that another stands in the way of.
-use mathlib.Core.Path.{◌≡◌, refl, sym, ap, ◌∙◌}
+use mathlib.Core.Path.{◌≡◌, refl, sym, ◌∙◌}
 use Prim.Native.Nat.{ℕ, ◌<◌, ◌≤◌}
 use native.Mathlib.Omega.{arith}
 use mathlib.Core.List.{List}
-use mathlib.Core.Bool.{Bool, true, false, ◌&&◌}
+use mathlib.Core.Bool.{Bool, true, false}
 use lib.ListN.{length, get_or, take}
-use lib.Seq.{take_all, take-length, get_or-take}
-use lib.Dec.{eqb}
-use borrow.Author.Tests.{eq-eqb, ne_eqb}
-use Rattle.definition.specs.Completion.{contains}
+use lib.Seq.{take_all, get_or-take}
+use borrow.Author.Tests.{eq-eqb}
 use Rattle.renaming.specs.Order.{all_below, none_twice, is_permutation}
 use Rattle.renaming.proofs.Permutations.{both_and, Permutes, permutes, place_in, in_place, once_at}
 use Rattle.order.specs.Queue.{Queue, Numbers}

@@ -4,19 +4,19 @@ use Prim.Native.Nat.{ℕ, zero, suc, ◌+◌, ◌<◌, ◌≤◌}
 use native.Mathlib.Omega.{arith}
 use native.Mathlib.Numerals.{add-one}
 use mathlib.Core.List.{List, [], ◌∷◌, ◌++◌}
-use mathlib.Core.Bool.{Bool, true, false, not, ◌&&◌, ◌||◌}
+use mathlib.Core.Bool.{Bool, true, false, not, ◌||◌}
 use lib.ListN.{length, get_or, take, set, length-set}
 use lib.Seq.{length-take-le, take-suc, take-suc-set, take-set-le, get_or-set_same, get_or-set_other}
-use lib.Dec.{eqb, ltb}
+use lib.Dec.{eqb}
 use borrow.Author.Tests.{eq-eqb, ne_eqb, lt-ltb}
 use Rattle.table.specs.Words.{largest}
 use Rattle.table.specs.Table.{rows_from}
 use Rattle.table.proofs.BlockLaws.{length_rows}
 use Rattle.definition.specs.Completion.{contains}
 use Rattle.definition.proofs.Steps.{true_false}
-use Rattle.renaming.specs.Order.{all_below, none_twice, is_permutation, place_from, new_number, with_named}
-use Rattle.renaming.proofs.Permutations.{both_and, by_equal, pick_true, pick_false, in_head, in_tail, in_other, in_cases, fits_in, in_rows, below_of, place_in, Permutes}
-use Rattle.renaming.proofs.OrderLaws.{in_append, in_left, in_end, below_end, once_end}
+use Rattle.renaming.specs.Order.{place_from, new_number, with_named}
+use Rattle.renaming.proofs.Permutations.{both_and, by_equal, pick_true, pick_false, in_head, in_other, in_cases, fits_in, in_rows, below_of, place_in, Permutes}
+use Rattle.renaming.proofs.OrderLaws.{in_append, in_end, below_end, once_end}
 use Rattle.order.specs.Queue.{place_or_none, Queue, Fresh, Joined, Numbers}
 
 -- ---- places

@@ -2,8 +2,7 @@
 use mathlib.Core.Path.{◌≡◌, refl, sym, ap, ◌∙◌, subst}
 use Prim.Native.Nat.{ℕ, zero, suc, ◌+◌, ◌-◌, ◌*◌, ◌<◌, ◌≤◌}
 use native.Mathlib.Omega.{arith}
-use native.Mathlib.Numerals.{add-one}
-use mathlib.Core.List.{List, [], ◌∷◌}
+use mathlib.Core.List.{List}
 use mathlib.Core.Bool.{Bool, true, false}
 use lib.ListN.{length, get_or, set, length-set}
 use lib.Seq.{get_or-set_same, get_or-set_other, ext_get_or}
@@ -12,7 +11,7 @@ use borrow.Author.Tests.{lt-ltb, le-ltb, ltb-true, ltb-false}
 use Rattle.table.specs.Words.{word, entry_word, block_count, instruction_count, case_count, place_count, identifier_count, blocks_begin, instructions_begin, cases_begin}
 use Rattle.table.specs.Words.{places_begin, identifiers_begin, words_needed, code_at, block_word, instruction_word, case_word, place_word, identifier_word}
 use Rattle.table.specs.Promise.{Promise}
-use Rattle.renaming.specs.Renaming.{names_block, renamed_if, renamed_block_row, renamed_case_row, renamed, RenamedWords}
+use Rattle.renaming.specs.Renaming.{renamed_if, renamed_block_row, renamed_case_row, RenamedWords}
 use Rattle.renaming.proofs.Permutations.{by_equal, pick_true, pick_false}
 use Rattle.renaming.proofs.WordLaws.{by_rows, renamed_is, instruction_word_lem, case_word_lem, place_word_lem, identifier_word_lem}
 use Rattle.order.specs.Write.{number_in, columns_of, renumbered, Writing, Copied}

@@ -1,5 +1,5 @@
 -- The list of old numbers as the walk's queue, and beside it the place of each block that is found.
-use Rattle.std.specs.Prelude.{ℕ, ◌<◌, ◌≤◌, ◌≡◌, List, Bool, true, false, get_or, length, take}
+use Rattle.std.specs.Prelude.{ℕ, ◌<◌, ◌≤◌, ◌≡◌, List, true, false, get_or, length, take}
 use Rattle.table.specs.Words.{largest}
 use Rattle.definition.specs.Completion.{contains}
 use Rattle.renaming.specs.Order.{all_below, none_twice, new_number, with_named}

@@ -1,5 +1,5 @@
 -- What the writer of a renamed table has written.
-use Rattle.std.specs.Prelude.{ℕ, ◌+◌, ◌<◌, ◌≤◌, ◌≡◌, List, [], ◌∷◌, Bool, true, false, get_or, length, ltb}
+use Rattle.std.specs.Prelude.{ℕ, ◌<◌, ◌≤◌, ◌≡◌, List, [], ◌∷◌, Bool, true, false, get_or, length, ltb}
 use Rattle.table.specs.Words.{block_count}
 use Rattle.table.specs.Promise.{Promise}
 use Rattle.renaming.specs.Renaming.{names_block, renamed}

@@ -11,7 +11,7 @@ use lib.Dec.{eqb, ltb}
 use borrow.Author.Tests.{eq-eqb, ne_eqb, le-leb, lt-ltb, ltb-true, ltb-false}
 use Rattle.text.specs.Form.{ending}
 use Rattle.text.specs.Decimal.{decimal}
-use Rattle.text.specs.Line.{after, line, lines, flat}
+use Rattle.text.specs.Line.{line, lines, flat}
 use Rattle.text.specs.File.{Words, Rows}
 use Rattle.text.specs.Printed.{tree_names}
 use Rattle.text.proofs.DecimalLaws.{decimal_small, decimal_more}

@@ -1,6 +1,6 @@
 -- The words of one table's file: its line of names, then lines of numbers, to the file's end. Rows as treebuild prints them are such a file, of six
 -- numbers a line; so are answers (room tree_run), one a line. The names and the last column are parameters.
-use Rattle.std.specs.Prelude.{ℕ, zero, suc, ◌+◌, ◌-◌, ◌*◌, ◌^◌, List, [], ◌∷◌, ◌++◌, Bool, true, false, not, ◌&&◌, ◌||◌, cond, length, drop, eqb, leb, ltb}
+use Rattle.std.specs.Prelude.{ℕ, suc, ◌+◌, ◌-◌, ◌*◌, ◌^◌, List, [], ◌∷◌, ◌++◌, Bool, true, false, not, ◌&&◌, ◌||◌, cond, length, drop, eqb, leb, ltb}
 use Rattle.text.specs.Form.{ending}
 use Rattle.text.specs.Printed.{tree_names}
 use Rattle.tree_check.specs.declared.scan.Scan.{Scan}

@@ -1,18 +1,18 @@
 -- Where an answer leads.
-use mathlib.Core.Path.{◌≡◌, refl, sym, ap, ◌∙◌}
+use mathlib.Core.Path.{◌≡◌, refl, ap}
 use Prim.Native.Nat.{ℕ, zero, suc, ◌+◌, ◌-◌, ◌<◌, ◌≤◌}
 use native.Mathlib.Omega.{arith}
 use mathlib.Core.List.{List, [], ◌∷◌}
-use mathlib.Core.Option.{Option, none, some}
+use mathlib.Core.Option.{none, some}
 use lib.ListN.{length, get_or, drop, drop_of_length-le}
 use lib.Seq.{drop-cons}
 use native.Mathlib.Numerals.{add-one}
 use Rattle.definition.specs.Run.{Answers, no_answer_left}
 use Rattle.definition.specs.Completion.{normal, stop}
-use Rattle.tree_runs.specs.Links.{Links, before, cases_back}
+use Rattle.tree_runs.specs.Links.{before, cases_back}
 use Rattle.tree_runs.specs.Machine as machine
 use Rattle.tree_runs.specs.Machine.{enter, leave, State, state, or_leave, case_at}
-use Rattle.tree_runs.specs.Acts.{Then, go, ask, pick, do_then}
+use Rattle.tree_runs.specs.Acts.{Then, pick, do_then}
 use Rattle.tree_run.specs.Abstraction.{links_of, then_by, chosen_by}
 use Rattle.tree_run.specs.Holds.{back_by}
 

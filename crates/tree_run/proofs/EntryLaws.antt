@@ -5,22 +5,21 @@ use Prim.Native.Nat.{ℕ, zero, suc, ◌+◌, ◌*◌, ◌-◌, ◌/◌, ◌<◌
 use native.Mathlib.Omega.{arith}
 use mathlib.Core.List.{List, [], ◌∷◌, ◌++◌, map}
 use mathlib.Core.Option.{Option, none, some}
-use mathlib.Core.Bool.{Bool, true, false, ◌&&◌}
+use mathlib.Core.Bool.{Bool, true, false}
 use lib.ListN.{length, get_or, take, replicate, length-map, length-take}
 use lib.Seq.{ext_get_or, get_or-take}
-use lib.Dec.{leb}
 use borrow.Author.Tests.{le-leb, lt-leb}
 use Rattle.table.specs.Table.{unless_none}
 use Rattle.table.specs.Check as check
 use Rattle.table.specs.Check.{unused, fits}
 use Rattle.definition.specs.Tree.{Row, row, Statements}
 use Rattle.definition.specs.Tree as tree
-use Rattle.definition.specs.Reading.{WellFormed, ReadAs}
+use Rattle.definition.specs.Reading.{ReadAs}
 use Rattle.definition.specs.Build.{words_of}
 use Rattle.definition.specs.Run.{Answers, Reason, returned, threw, no_answer_left, not_plain, no_target, end_of_tree, no_such_case}
 use Rattle.definition.specs.TreeRun.{Completed, run_statements, reason_of}
 use Rattle.tree_grammar.specs.Ranges.{rules_by_op, in_range, all_in_range}
-use Rattle.tree_grammar.specs.Grammar.{most_rows, Answer, no_list, of_rows, RowsAnswer, one_tree, out_of_range, no_parts, remainder}
+use Rattle.tree_grammar.specs.Grammar.{most_rows, Answer, no_list, of_rows, one_tree, out_of_range, no_parts, remainder}
 use Rattle.tree_grammar.proofs.Upto.{and_both}
 use Rattle.tree_grammar.proofs.Sound.{in_range_lem}
 use Rattle.tree_check.specs.declared.TreeRead.{TreeRead}

@@ -4,10 +4,10 @@ use Prim.Native.Nat.{ℕ, zero, suc, ◌+◌, ◌-◌, ◌/◌, ◌%◌, ◌<◌
 use native.Mathlib.Omega.{arith}
 use mathlib.Core.List.{List, [], ◌∷◌, ◌++◌, append-nil, append_assoc}
 use mathlib.Core.Bool.{Bool, true, false, ◌&&◌}
-use lib.ListN.{length, take, drop, length-append, length-take, length-drop, take-append-drop}
+use lib.ListN.{length, take, drop, length-append, length-drop, take-append-drop}
 use lib.Seq.{take_at, drop_at, take-add, take-append-le, take-take, length-take-le}
 use lib.Dec.{eqb, leb, ltb}
-use borrow.Author.Tests.{ne_eqb, ltb-true, ltb-false, leb-true, leb-false}
+use borrow.Author.Tests.{ne_eqb, ltb-true, ltb-false, leb-false}
 use Rattle.text.specs.Decimal.{decimal}
 use Rattle.text.specs.Line.{after, line, lines, flat}
 use Rattle.text.specs.Printed.{tree_names}
@@ -16,7 +16,7 @@ use Rattle.tree_check.specs.Scan.{Scanned, words, table_words, file_words}
 use Rattle.tree_check.specs.Scan as scan
 use Rattle.tree_check.specs.Good.{TableFile, RefusedAt}
 use Rattle.tree_check.proofs.FirstByte.{good_read, read_good, refused_first}
-use Rattle.tree_run.specs.Given.{Given, stopped, read, answer_names, opens_answers, answers_from, joined, file_given}
+use Rattle.tree_run.specs.Given.{stopped, read, answer_names, opens_answers, answers_from, joined, file_given}
 use Rattle.tree_run.specs.Good.{RunFile}
 
 stopped_read : {at : ℕ} {rows answers : List ℕ} → stopped at ≡ read rows answers → ⊥

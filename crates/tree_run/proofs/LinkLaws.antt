@@ -4,17 +4,17 @@ use Prim.Native.Nat.{ℕ, zero, suc, ◌+◌, ◌-◌, ◌<◌, ◌≤◌}
 use native.Mathlib.Omega.{arith}
 use native.Mathlib.Numerals.{add-one}
 use mathlib.Core.List.{List, [], ◌∷◌}
-use mathlib.Core.Option.{Option, none, some}
+use mathlib.Core.Option.{none, some}
 use mathlib.Core.Bool.{Bool, true, false}
 use lib.ListN.{length, get_or, set, length-set, get_or-eq_default}
 use lib.Seq.{get_or-set_same, get_or-set_other}
 use lib.Dec.{eqb, leb}
-use borrow.Author.Tests.{eqb-true, eqb-false, eq-eqb, ne_eqb, leb-true, leb-false}
+use borrow.Author.Tests.{eqb-true, eqb-false, leb-true, leb-false}
 use Rattle.tree_grammar.specs.Needs.{Sort, serves, made_by, many, needs_by_op}
 use Rattle.tree_grammar.specs.Needs as goal
 use Rattle.tree_grammar.proofs.Upto.{upto, ends, ◌and◌}
 use Rattle.tree_check.specs.Found.{word_at, row_at, parts_begin, Begun}
-use Rattle.tree_runs.specs.Links.{Links, parts_by_op, parts_of, Linked, put, with_part, with_row}
+use Rattle.tree_runs.specs.Links.{Links, parts_by_op, parts_of, put, with_part, with_row}
 use Rattle.tree_runs.proofs.Linking.{Linking, Taking, linking_start, taking_start, taking_part, taking_end}
 use Rattle.tree_run.specs.Abstraction.{links_of, RowsLinked}
 

@@ -1,14 +1,12 @@
 -- The run of a file is the one outcome that `FileGives` allows, where no reader of trees is in the definition.
-use mathlib.Core.Path.{◌≡◌, refl, sym, ap, ◌∙◌, subst}
+use mathlib.Core.Path.{◌≡◌, refl, sym, ap, ◌∙◌}
 use mathlib.Core.Bool.{Bool, true, false}
 use Prim.Native.Nat.{ℕ, ◌≤◌}
-use native.Mathlib.Omega.{arith}
 use mathlib.Core.List.{List}
 use lib.Dec.{leb}
 use lib.ListN.{length}
 use borrow.Author.Tests.{leb-true, leb-false, le-leb, lt-leb}
 use Rattle.tree_runs.specs.Ran.{Outcome, refusal}
-use Rattle.tree_runs.specs.Given.{RunGives, run_of}
 use Rattle.tree_runs.proofs.OneOutcome.{given_is, is_given}
 use Rattle.tree_run.specs.Given.{Given, stopped, read, file_given, run_given, file_run, FileGives, long, misread, runs}
 

@@ -1,13 +1,13 @@
 -- The first row that is not run; a refusal.
 use mathlib.Core.Path.{◌≡◌, refl, sym, ap, ◌∙◌}
-use Prim.Native.Nat.{ℕ, zero, suc, ◌+◌, ◌-◌, ◌<◌, ◌≤◌}
+use Prim.Native.Nat.{ℕ, suc, ◌+◌, ◌-◌, ◌<◌, ◌≤◌}
 use native.Mathlib.Omega.{arith}
 use native.Mathlib.Numerals.{add-one}
 use mathlib.Core.List.{List, ◌++◌}
 use mathlib.Core.Bool.{Bool, true, false}
 use lib.ListN.{length, take, replicate}
 use Rattle.tree_check.specs.Found.{word_at}
-use Rattle.tree_runs.specs.Ran.{Outcome, not_run, refusal}
+use Rattle.tree_runs.specs.Ran.{not_run, refusal}
 use Rattle.tree_run.specs.declared.Ran.{Ran}
 use Rattle.tree_run.specs.Holds.{not_run_from, outcome_of}
 

@@ -3,7 +3,7 @@ use mathlib.Core.Path.{◌≡◌, refl, sym, ap, ◌∙◌}
 use Prim.Native.Nat.{ℕ, zero, suc, ◌+◌, ◌-◌, ◌<◌, ◌≤◌}
 use native.Mathlib.Omega.{arith}
 use native.Mathlib.Numerals.{add-one}
-use mathlib.Core.List.{List, [], ◌∷◌, ◌++◌, append-nil}
+use mathlib.Core.List.{List, [], ◌++◌, append-nil}
 use mathlib.Core.Option.{Option, none, some}
 use mathlib.Core.Bool.{Bool, true, false}
 use lib.ListN.{get_or, get_or-eq_default}
@@ -12,13 +12,13 @@ use borrow.Author.Tests.{eq-eqb, ne_eqb, leb-true, leb-false, le-ltb, lt-ltb, lt
 use Rattle.table.specs.Table.{unless_none}
 use Rattle.definition.specs.Completion as definition
 use Rattle.definition.specs.Completion.{normal, break, continue, stop, label_set, loop_continues, breakable, labelled}
-use Rattle.definition.specs.Run.{Answers, Reason, returned, threw, not_plain}
+use Rattle.definition.specs.Run.{returned, threw, not_plain}
 use Rattle.definition.specs.TreeRun.{reason_of}
-use Rattle.definition.specs.Tree.{Kind, implicit, labeled, unlabeled}
+use Rattle.definition.specs.Tree.{unlabeled}
 use Rattle.tree_grammar.proofs.Upto.{upto, ends, ◌and◌}
 use Rattle.tree_check.specs.Found.{word_at, row_at}
 use Rattle.tree_runs.specs.Layout.{Node, a_leaf}
-use Rattle.tree_runs.specs.Links.{Links, before, plains, plains_from, first_of, kind_of, jump_as, cases_back, if_node, test_end, for_again, nodes_by_op, node_of, is_case, case_before, unless_zero, next_of, parent_of}
+use Rattle.tree_runs.specs.Links.{Links, before, plains, plains_from, first_of, kind_of, jump_as, cases_back, if_node, test_end, for_again, nodes_by_op, node_of, case_before, unless_zero, next_of, parent_of}
 use Rattle.tree_runs.specs.Machine as machine
 use Rattle.tree_runs.specs.Machine.{enter, leave, or_leave, on_if_normal, State, state, going, up_from, leaving, step}
 use Rattle.tree_runs.specs.Acts.{Act, act, go, ask, pick, do_then, do_act, act_down, act_up, round_again}
@@ -28,8 +28,8 @@ use Rattle.tree_run.specs.declared.turns.Place.{Place}
 use Rattle.tree_run.specs.declared.turns.Next.{Next}
 use Rattle.tree_run.specs.declared.Ran.{Ran}
 use Rattle.tree_run.specs.Holds.{told, After, stays, moves}
-use Rattle.tree_run.specs.Abstraction.{completion_by, completion_of, place_of, links_of, node_at, layout_at, next_in, halted_at}
-use Rattle.tree_run.proofs.CompletionLaws.{none_is, some_is, normal_is}
+use Rattle.tree_run.specs.Abstraction.{completion_by, completion_of, place_of, node_at, layout_at, next_in, halted_at}
+use Rattle.tree_run.proofs.CompletionLaws.{none_is, normal_is}
 
 pub before_is : (n : ℕ) → (n ≡ 0 → ⊥) → n - 1 ≡ before n
 before_is zero f = absurd (f refl)

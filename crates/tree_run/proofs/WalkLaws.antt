@@ -4,21 +4,21 @@ use Prim.Native.Nat.{ℕ, zero, suc, ◌+◌, ◌*◌, ◌-◌, ◌<◌, ◌≤�
 use native.Mathlib.Omega.{arith}
 use native.Mathlib.Numerals.{add-one}
 use native.Mathlib.Nat.{le_refl}
-use mathlib.Core.List.{List, [], ◌∷◌, ◌++◌, append-nil}
-use mathlib.Core.Option.{Option, none, some}
+use mathlib.Core.List.{List, [], ◌∷◌, ◌++◌}
+use mathlib.Core.Option.{none, some}
 use mathlib.Core.Bool.{Bool, true, false}
 use lib.ListN.{length, get_or, drop, length-append, get_or-append}
 use lib.Dec.{eqb, ltb}
-use borrow.Author.Tests.{eqb-true, ltb-true, ltb-false}
+use borrow.Author.Tests.{ltb-true, ltb-false}
 use Rattle.definition.specs.Run.{Answers}
-use Rattle.definition.specs.Completion.{normal, stop}
+use Rattle.definition.specs.Completion.{normal}
 use Rattle.definition.specs.TreeRun.{Completed, completed, reason_of}
-use Rattle.tree_check.specs.Found.{word_at, row_at}
+use Rattle.tree_check.specs.Found.{row_at}
 use Rattle.tree_runs.specs.Layout.{Layout}
 use Rattle.tree_runs.specs.Links.{Links, plains, plains_from, parent_of}
 use Rattle.tree_runs.specs.Machine as machine
 use Rattle.tree_runs.specs.Machine.{enter, leave, State, state, Turn, going, halt, up_from, leaving, step, Completes, halts, goes, turns_left}
-use Rattle.tree_runs.specs.Acts.{Then, go, ask, pick, Act, act, do_then, do_act}
+use Rattle.tree_runs.specs.Acts.{Then, go, ask, pick, act, do_then, do_act}
 use Rattle.tree_runs.proofs.Appends.{Begins, performed_of, end_begins}
 use Rattle.tree_runs.proofs.Measure.{gives_next, gives_halt, turns_fall}
 use Rattle.tree_runs.proofs.ActLaws.{turns_alike}

@@ -1,5 +1,5 @@
 -- What the code's structs stand for: completions, places and turns of the walk (tree_runs/specs/Machine, Acts), and the links of the rows.
-use Rattle.std.specs.Prelude.{◌≡◌, ℕ, zero, suc, ◌+◌, ◌<◌, List, [], ◌++◌, Bool, true, false, get_or, eqb, ltb}
+use Rattle.std.specs.Prelude.{ℕ, zero, suc, ◌+◌, ◌<◌, List, [], ◌++◌, Bool, true, false, get_or, eqb, ltb}
 use Rattle.std.proofs.Math.Option.{Option, none, some}
 use Rattle.table.specs.Table.{unless_none}
 use Rattle.definition.specs.Completion as definition

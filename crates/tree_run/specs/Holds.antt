@@ -1,5 +1,5 @@
 -- What the lent buffer holds while the walk goes on: the instructions of the rows reached.
-use Rattle.std.specs.Prelude.{◌≡◌, ℕ, zero, suc, ◌*◌, ◌-◌, ◌<◌, ◌≤◌, List, [], Bool, true, false, length, get_or}
+use Rattle.std.specs.Prelude.{◌≡◌, ℕ, zero, suc, ◌*◌, ◌-◌, ◌<◌, ◌≤◌, List, [], true, false, length, get_or}
 use Rattle.tree_check.specs.Found.{word_at}
 use Rattle.definition.specs.Run.{Answers, Reason, returned, threw, no_answer_left, not_plain, no_target, end_of_tree, no_such_case}
 use Rattle.definition.specs.Completion.{normal}

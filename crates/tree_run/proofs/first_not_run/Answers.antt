@@ -1,4 +1,3 @@
-use Prim.Native.Nat.{◌-◌}
 use Rattle.tree_run.proofs.SeekLaws.{seek_start, seek_found, seek_on, seek_end}
 use Rattle.tree_run.proofs.first_not_run.Goals as goal
 

@@ -2,7 +2,7 @@
 -- and the end; text's WriteLaws joins what is written.
 use mathlib.Core.Path.{◌≡◌}
 use mathlib.Core.List.{List, ◌++◌}
-use Prim.Native.Nat.{ℕ, ◌+◌, ◌-◌, ◌*◌, ◌≤◌}
+use Prim.Native.Nat.{ℕ, ◌+◌, ◌*◌, ◌≤◌}
 use lib.ListN.{length, drop}
 use Rattle.text.specs.Printed.{Wrote}
 use Rattle.convert.specs.Widen.{doubled_rows}

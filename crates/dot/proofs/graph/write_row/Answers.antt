@@ -1,7 +1,6 @@
 use native.Mathlib.Omega.{arith}
 use mathlib.Core.Path.{refl, sym, ◌∙◌}
 use mathlib.Core.List.{[], ◌++◌, append-nil}
-use Prim.Native.Nat.{◌+◌, ◌-◌}
 use Rattle.table.specs.Table.{table_of}
 use Rattle.text.proofs.WriteLaws.{wrote_none, wrote_then}
 use Rattle.table.specs.Lines.{named_at}

@@ -1,6 +1,5 @@
 use native.Mathlib.Omega.{arith}
 use mathlib.Core.Path.{refl, ◌∙◌}
-use Prim.Native.Nat.{◌-◌}
 use native.Mathlib.Numerals.{add-one}
 use lib.Seq.{length-take-le, take-suc, take_all}
 use Rattle.text.proofs.WriteLaws.{wrote_none, wrote_then}

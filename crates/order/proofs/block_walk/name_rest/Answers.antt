@@ -1,6 +1,5 @@
 use native.Mathlib.Omega.{arith}
 use mathlib.Core.Path.{◌≡◌, refl, ◌∙◌}
-use Prim.Native.Nat.{◌-◌}
 use Rattle.order.proofs.QueueLaws.{joined_none, joined_then, rows_next}
 use Rattle.order.proofs.block_walk.name_rest.Goals as goal
 

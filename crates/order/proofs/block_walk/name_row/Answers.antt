@@ -1,6 +1,5 @@
 use native.Mathlib.Omega.{arith}
 use mathlib.Core.Path.{refl, ◌∙◌}
-use Prim.Native.Nat.{◌-◌}
 use Rattle.table.proofs.NamedLaws.{lines_count, few_lines}
 use Rattle.order.proofs.QueueLaws.{joined_none}
 use Rattle.order.proofs.WalkLaws.{line_joined, lines_joined}

@@ -1,6 +1,5 @@
 use native.Mathlib.Omega.{arith}
 use mathlib.Core.Path.{refl, ◌∙◌}
-use Prim.Native.Nat.{◌-◌}
 use Rattle.order.proofs.QueueLaws.{fresh_queue}
 use Rattle.order.proofs.WalkLaws.{walked_first, walked_next, walked_all, walked_block}
 use Rattle.order.proofs.block_walk.walk.Goals as goal

@@ -1,6 +1,5 @@
 use native.Mathlib.Omega.{arith}
 use mathlib.Core.Path.{refl, sym}
-use Prim.Native.Nat.{◌-◌}
 use native.Mathlib.Numerals.{add-one}
 use Rattle.definition.proofs.Steps.{true_false}
 use Rattle.order.proofs.QueueLaws.{fresh_queue, queue_next}

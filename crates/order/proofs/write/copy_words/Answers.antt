@@ -1,6 +1,5 @@
 use native.Mathlib.Omega.{arith}
 use mathlib.Core.Path.{◌≡◌}
-use Prim.Native.Nat.{◌-◌}
 use Rattle.order.proofs.WriteLaws.{copied_none, copied_more}
 use Rattle.order.proofs.write.copy_words.Goals as goal
 

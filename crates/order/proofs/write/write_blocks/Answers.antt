@@ -1,5 +1,4 @@
 use native.Mathlib.Omega.{arith}
-use Prim.Native.Nat.{◌-◌}
 use Rattle.order.proofs.WriteLaws.{sizes, at}
 use Rattle.order.proofs.write.write_blocks.Goals as goal
 

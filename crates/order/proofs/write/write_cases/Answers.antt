@@ -1,5 +1,4 @@
 use native.Mathlib.Omega.{arith}
-use Prim.Native.Nat.{◌-◌}
 use lib.ListN.{length-set}
 use Rattle.order.proofs.WriteLaws.{sizes, at, case_written}
 use Rattle.order.proofs.write.write_cases.Goals as goal

@@ -1,4 +1,3 @@
-use Prim.Native.Nat.{◌-◌}
 use Rattle.tree_check.proofs.FileLaws.{matching_start, file_short, names_differ, names_agree, names_end}
 use Rattle.tree_check.proofs.file.names_end.Goals as goal
 

@@ -1,4 +1,3 @@
-use Prim.Native.Nat.{◌-◌}
 use native.Mathlib.Omega.{arith}
 use Rattle.tree_check.proofs.FileLaws.{names_refused, scanning_start, scan_refused, scan_on, scan_ends}
 use Rattle.tree_check.proofs.file.read_table.Goals as goal

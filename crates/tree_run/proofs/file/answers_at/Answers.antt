@@ -1,4 +1,3 @@
-use Prim.Native.Nat.{◌-◌}
 use Rattle.tree_run.proofs.FileLaws.{looking_start, found_here, look_on, none_there}
 use Rattle.tree_run.proofs.file.answers_at.Goals as goal
 

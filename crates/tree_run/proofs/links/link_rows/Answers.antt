@@ -1,4 +1,4 @@
-use Prim.Native.Nat.{ℕ, ◌-◌}
+use Prim.Native.Nat.{ℕ}
 use lib.ListN.{length-replicate}
 use borrow.Author.Rules.{rules}
 use Rattle.tree_run.proofs.LinkLaws.{cursor_falls, rows_start, parts_start, parts_more, row_done, rows_linked}

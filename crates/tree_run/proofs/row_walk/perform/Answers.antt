@@ -1,4 +1,3 @@
-use Prim.Native.Nat.{◌-◌}
 use borrow.Author.Rules.{rules}
 use Rattle.tree_run.proofs.PerformLaws.{performing_start, performing_full, performing_next, performing_end}
 use Rattle.tree_run.proofs.row_walk.perform.Goals as goal
