@@ -11,7 +11,14 @@ pub returns-then-apart-ne0 : goal.returns-then-apart-ne0
 returns-then-apart-ne0 c = spans_blocks _ _ (rw c.block_count.ensures at c.apart_in-apart.ensures) c.if-apart-ne0.true
 
 pub apart_in-requires : goal.apart_in-requires
-apart_in-requires c = record { width_in_bounds = omega (arith, c.instruction_count.ensures, c.instructions_begin.ensures, sized_within _ c.requires, sized_short _ c.requires); words_len_bound = omega (arith, c.instruction_count.ensures, c.instructions_begin.ensures, sized_within _ c.requires, sized_short _ c.requires); le_width = omega (arith, c.instruction_count.ensures, c.instructions_begin.ensures, sized_within _ c.requires, sized_short _ c.requires) }
+apart_in-requires c =
+    let within = sized_within _ c.requires in
+    let short = sized_short _ c.requires in
+    record {
+      width_in_bounds = omega (arith, c.instruction_count.ensures, c.instructions_begin.ensures, within, short);
+      words_len_bound = omega (arith, c.instruction_count.ensures, c.instructions_begin.ensures, within, short);
+      le_width = omega (arith, c.instruction_count.ensures, c.instructions_begin.ensures, within, short);
+    }
 
 pub returns : goal.returns
 returns c =

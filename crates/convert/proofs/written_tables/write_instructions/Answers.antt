@@ -3,7 +3,16 @@ use Rattle.convert.proofs.TextLaws.{sized_within}
 use Rattle.convert.proofs.written_tables.write_instructions.Goals as goal
 
 pub write_part-requires : goal.write_part-requires
-write_part-requires c = let within = sized_within _ c.requires.sized in record { names_len_bound = omega (arith, c.instruction_count-rows.ensures, c.instructions_begin-first.ensures, within, c.requires.start_bound); rows_bound = omega (arith, c.instruction_count-rows.ensures, c.instructions_begin-first.ensures, within, c.requires.start_bound); columns_le_stride = omega (arith, c.instruction_count-rows.ensures, c.instructions_begin-first.ensures, within, c.requires.start_bound); stride_bound = omega (arith, c.instruction_count-rows.ensures, c.instructions_begin-first.ensures, within, c.requires.start_bound); stride_in_bounds = omega (arith, c.instruction_count-rows.ensures, c.instructions_begin-first.ensures, within, c.requires.start_bound); start_bound = omega (arith, c.instruction_count-rows.ensures, c.instructions_begin-first.ensures, within, c.requires.start_bound) }
+write_part-requires c =
+    let within = sized_within _ c.requires.sized in
+    record {
+      names_len_bound = omega (arith, c.instruction_count-rows.ensures, c.instructions_begin-first.ensures, within, c.requires.start_bound);
+      rows_bound = omega (arith, c.instruction_count-rows.ensures, c.instructions_begin-first.ensures, within, c.requires.start_bound);
+      columns_le_stride = omega (arith, c.instruction_count-rows.ensures, c.instructions_begin-first.ensures, within, c.requires.start_bound);
+      stride_bound = omega (arith, c.instruction_count-rows.ensures, c.instructions_begin-first.ensures, within, c.requires.start_bound);
+      stride_in_bounds = omega (arith, c.instruction_count-rows.ensures, c.instructions_begin-first.ensures, within, c.requires.start_bound);
+      start_bound = omega (arith, c.instruction_count-rows.ensures, c.instructions_begin-first.ensures, within, c.requires.start_bound);
+    }
 
 pub write_part-requires-in-New : goal.write_part-requires-in-New
 write_part-requires-in-New c =

@@ -16,7 +16,16 @@ write_part-place_end-requires c =
     omega (arith, c.place_count.ensures, c.places_begin-places.ensures, within, c.requires.start_bound, c.write_part-case_end.ensures.upper_bound)
 
 pub write_part-requires : goal.write_part-requires
-write_part-requires c = let within = sized_within _ c.requires.sized in record { names_len_bound = omega (arith, c.identifier_count.ensures, c.identifiers_begin-identifiers.ensures, within, c.requires.start_bound, c.write_part-case_end.ensures.upper_bound, c.write_part-place_end.ensures.upper_bound); rows_bound = omega (arith, c.identifier_count.ensures, c.identifiers_begin-identifiers.ensures, within, c.requires.start_bound, c.write_part-case_end.ensures.upper_bound, c.write_part-place_end.ensures.upper_bound); columns_le_stride = omega (arith, c.identifier_count.ensures, c.identifiers_begin-identifiers.ensures, within, c.requires.start_bound, c.write_part-case_end.ensures.upper_bound, c.write_part-place_end.ensures.upper_bound); stride_bound = omega (arith, c.identifier_count.ensures, c.identifiers_begin-identifiers.ensures, within, c.requires.start_bound, c.write_part-case_end.ensures.upper_bound, c.write_part-place_end.ensures.upper_bound); stride_in_bounds = omega (arith, c.identifier_count.ensures, c.identifiers_begin-identifiers.ensures, within, c.requires.start_bound, c.write_part-case_end.ensures.upper_bound, c.write_part-place_end.ensures.upper_bound); start_bound = omega (arith, c.identifier_count.ensures, c.identifiers_begin-identifiers.ensures, within, c.requires.start_bound, c.write_part-case_end.ensures.upper_bound, c.write_part-place_end.ensures.upper_bound) }
+write_part-requires c =
+    let within = sized_within _ c.requires.sized in
+    record {
+      names_len_bound = omega (arith, c.identifier_count.ensures, c.identifiers_begin-identifiers.ensures, within, c.requires.start_bound, c.write_part-case_end.ensures.upper_bound, c.write_part-place_end.ensures.upper_bound);
+      rows_bound = omega (arith, c.identifier_count.ensures, c.identifiers_begin-identifiers.ensures, within, c.requires.start_bound, c.write_part-case_end.ensures.upper_bound, c.write_part-place_end.ensures.upper_bound);
+      columns_le_stride = omega (arith, c.identifier_count.ensures, c.identifiers_begin-identifiers.ensures, within, c.requires.start_bound, c.write_part-case_end.ensures.upper_bound, c.write_part-place_end.ensures.upper_bound);
+      stride_bound = omega (arith, c.identifier_count.ensures, c.identifiers_begin-identifiers.ensures, within, c.requires.start_bound, c.write_part-case_end.ensures.upper_bound, c.write_part-place_end.ensures.upper_bound);
+      stride_in_bounds = omega (arith, c.identifier_count.ensures, c.identifiers_begin-identifiers.ensures, within, c.requires.start_bound, c.write_part-case_end.ensures.upper_bound, c.write_part-place_end.ensures.upper_bound);
+      start_bound = omega (arith, c.identifier_count.ensures, c.identifiers_begin-identifiers.ensures, within, c.requires.start_bound, c.write_part-case_end.ensures.upper_bound, c.write_part-place_end.ensures.upper_bound);
+    }
 
 pub returns : goal.returns
 returns c =
