@@ -198,7 +198,7 @@ uint32_t tree_lookup(const uint32_t *index, size_t index_length, uint32_t lines,
  *                      zeros after them are no rows
  *
  * Returns the code: 0 if the list is the rows of one tree; 60, 61 or 62 (docs/FORMAT.md). *at is the row refused 60 or 61, else 0.
- * Stack: tree_check 28 KB. */
+ * Stack: tree_check 12 KB. */
 uint32_t tree_check(const uint32_t *tree, size_t tree_length, uint32_t *at);
 
 /* ---- A tree run on paper (M-103) ---- */
@@ -220,7 +220,7 @@ uint32_t tree_check(const uint32_t *tree, size_t tree_length, uint32_t *at);
  * FORIN); 63 at a jump reached that has no target; 65 at the first PLAIN reached that the buffer can't take. *at is that row of the tree, or 0; *number the
  * number of rows performed, 0 where refused; *reason one of the four above, 0 where refused.
  * The call ends: each round of a loop takes an answer.
- * Stack: tree_run 108 KB. */
+ * Stack: tree_run 60 KB. */
 uint32_t tree_run(const uint32_t *tree, size_t tree_length, const uint32_t *answers, size_t answers_length, uint32_t *performed, size_t performed_length,
                   uint32_t *at, size_t *number, uint32_t *reason);
 
@@ -276,7 +276,7 @@ uint32_t table_old_to_new(const uint8_t *file, size_t file_length, uint8_t *text
 
 /* A file of the new form in the old one. The same refusals, with *at in words of the new form, and before 53: 52, at the word of the first
  * `to` that differs from its `from`.
- * Stack: table_new_to_old 68 KB. */
+ * Stack: table_new_to_old 144 KB. */
 uint32_t table_new_to_old(const uint8_t *file, size_t file_length, uint8_t *text, size_t text_length, uint32_t *at, size_t *length);
 
 /* ---- The blocks in walking order (M-111) ---- */
@@ -290,7 +290,7 @@ uint32_t table_new_to_old(const uint8_t *file, size_t file_length, uint8_t *text
  *
  * Returns the code: 0, and both buffers are full; or a refusal (docs/FORMAT.md), and both hold zeros. *at is the refusal's place.
  * 45: a buffer is shorter or longer than just needed.
- * Stack: blocks_rearrange 8 KB. */
+ * Stack: blocks_rearrange 16 KB. */
 uint32_t blocks_rearrange(const uint32_t *words, size_t word_count, uint32_t *new_words, size_t new_word_count, uint32_t *old_numbers, size_t old_number_count, uint32_t *at);
 
 /* Gives every block of a table, the entry too, its old number in the list: of a table and a list that blocks_rearrange gave, the first

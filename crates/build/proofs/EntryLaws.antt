@@ -2,15 +2,12 @@
 use Prim.Native.Nat.{ℕ, ◌*◌, ◌-◌, ◌/◌, ◌≤◌, ◌<◌}
 use native.Mathlib.Omega.{arith}
 use mathlib.Core.Path.{◌≡◌, refl, sym, ◌∙◌}
-use mathlib.Core.Bool.{true, false}
 use mathlib.Core.List.{List, [], ◌++◌}
 use lib.ListN.{length, take, replicate}
 use borrow.Author.Tests.{le-leb, lt-leb}
-use Rattle.table.specs.Check.{Verdict, checked}
+use Rattle.table.specs.Check.{checked}
 use Rattle.table.specs.Check as check
 use Rattle.table.specs.Table.{table_of}
-use Rattle.table.specs.Answer.{code_of, place_of, is_accepted}
-use Rattle.definition.proofs.Steps.{true_false}
 use Rattle.definition.specs.Around.{Rule}
 use Rattle.definition.specs.Build.{Report, accepted, rejected, report, refusal, words_of, outcome_of, after_check, built}
 use Rattle.definition.specs.Build as definition
@@ -87,18 +84,12 @@ module _ (walked : Outcome) (buffer index : List ℕ) where
 
 -- ---- the whole
 
-pub unchecked_built : (rule : Rule) (words : List ℕ) (lent lent_index : ℕ) (o : definition.Outcome) (verdict : Verdict) → verdict ≡ checked words → is_accepted verdict ≡ false
-    → o ≡ refusal (code_of verdict) (place_of verdict) 0 0 lent lent_index → o ≡ built rule words lent lent_index
-unfolding built after_check
-unchecked_built rule words lent lent_index o check.accepted v z e = absurd (true_false z)
-unchecked_built rule words lent lent_index o (check.refused code at) v z e = rw (← v) e
+module _ (rule : Rule) (words : List ℕ) (lent lent_index : ℕ) {o : definition.Outcome} where
+  pub unchecked_built : {code at : ℕ} → check.refused code at ≡ checked words → o ≡ refusal code at 0 0 lent lent_index → o ≡ built rule words lent lent_index
+  unfolding built after_check
+  unchecked_built v e = rw (← v) e
 
-pub checked_built : (rule : Rule) (words : List ℕ) (lent lent' lent_index lent_index' : ℕ) (o : definition.Outcome) (verdict : Verdict) → verdict ≡ checked words → is_accepted verdict ≡ true
-    → lent' ≡ lent → lent_index' ≡ lent_index → o ≡ outcome_of lent' lent_index' (report rule (table_of words)) → o ≡ built rule words lent lent_index
-unfolding built after_check
-checked_built rule words lent lent' lent_index lent_index' o check.accepted v z l k e = rw (← v) (rw (l, k) at e)
-checked_built rule words lent lent' lent_index lent_index' o (check.refused code at) v z l k e = absurd (true_false (sym z))
-
-pub accepted_checked : (words : List ℕ) (verdict : Verdict) → verdict ≡ checked words → is_accepted verdict ≡ true → checked words ≡ check.accepted
-accepted_checked words check.accepted v z = sym v
-accepted_checked words (check.refused code at) v z = absurd (true_false (sym z))
+  pub checked_built : {lent' lent_index' : ℕ} → check.accepted ≡ checked words → lent' ≡ lent → lent_index' ≡ lent_index
+      → o ≡ outcome_of lent' lent_index' (report rule (table_of words)) → o ≡ built rule words lent lent_index
+  unfolding built after_check
+  checked_built v l k e = rw (← v) (rw (l, k) at e)

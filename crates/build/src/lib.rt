@@ -29,10 +29,10 @@ fn refuse(
     clear(tree, 0);
     clear(index, 0);
     Outcome {
-        code: code,
-        at: at,
-        rows: rows,
-        visits: visits,
+        code,
+        at,
+        rows,
+        visits,
         lines: 0,
     }
 }
@@ -68,12 +68,13 @@ fn finish(tree: &mut [u32], index: &mut [u32], walked: Outcome) -> Outcome
 pub fn build(rule: Rule, words: &[u32], tree: &mut [u32], index: &mut [u32]) -> Outcome
     ensures { outcome result tree.new index.new ≡ built (rule_of rule) words.now (length tree.old) (length index.old) }
 {
-    let checked = check(words);
-    if checked.is_accepted() {
-        let walked = walk(rule, words, tree, index);
-        return finish(tree, index, walked);
+    match check(words) {
+        Ok(()) => {
+            let walked = walk(rule, words, tree, index);
+            finish(tree, index, walked)
+        }
+        Err(refusal) => refuse(tree, index, refusal.code(), refusal.place(), 0, 0),
     }
-    refuse(tree, index, checked.code(), checked.place(), 0, 0)
 }
 
 pub fn build_reactive_function(words: &[u32], tree: &mut [u32], index: &mut [u32]) -> Outcome
@@ -101,12 +102,7 @@ pub fn reactive_build(
 ) -> u32
     ensures { record { code = result; at = at.new; rows = rows.new; visits = visits.new; lines = lines.new; buffer = tree.new; index = index.new } ≡ built rust words.now (length tree.old) (length index.old) }
 {
-    let built = build_reactive_function(words, tree, index);
-    *at = built.at;
-    *rows = built.rows;
-    *visits = built.visits;
-    *lines = built.lines;
-    built.code
+    build_reactive_function(words, tree, index).tell(at, rows, visits, lines)
 }
 
 pub fn reactive_build_language(
@@ -120,10 +116,5 @@ pub fn reactive_build_language(
 ) -> u32
     ensures { record { code = result; at = at.new; rows = rows.new; visits = visits.new; lines = lines.new; buffer = tree.new; index = index.new } ≡ built language words.now (length tree.old) (length index.old) }
 {
-    let built = build_language(words, tree, index);
-    *at = built.at;
-    *rows = built.rows;
-    *visits = built.visits;
-    *lines = built.lines;
-    built.code
+    build_language(words, tree, index).tell(at, rows, visits, lines)
 }

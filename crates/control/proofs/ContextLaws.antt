@@ -6,14 +6,16 @@ use native.Mathlib.Omega.{arith}
 use native.Mathlib.Numerals.{add-one}
 use mathlib.Core.List.{List, ◌∷◌}
 use mathlib.Core.Bool.{Bool, true, false, ◌||◌}
-use mathlib.Core.Logic.{⊎_elim}
+use mathlib.Core.Logic.{◌⊎◌, inl, inr, ⊎_elim}
 use lib.ListN.{get_or, set, length, replicate}
 use lib.Seq.{get_or-set_same, get_or-set_other}
-use lib.Dec.{eqb}
-use borrow.Author.Tests.{eq-eqb, ne_eqb}
-use Rattle.definition.specs.Result.{ok, refused, ◌>>=◌, refuse_if}
+use borrow.Author.Tests.{eq-eqb}
+use Rattle.std.specs.Prelude.{None}
+use Rattle.std.specs.Bool.{then_some}
+use Rattle.std.specs.Prelude as std
+use Rattle.definition.specs.Result.{ok, ◌>>=◌, refuse_if}
 use Rattle.definition.specs.Context as definition
-use Rattle.definition.specs.Context.{Flags, has, add, no_flags, start, is_scheduled, emit, mark_scope_fallthrough, schedule_catch_handler, target_block, target_if}
+use Rattle.definition.specs.Context.{Flags, has, add, remove, no_flags, start, is_scheduled, emit, mark_scope_fallthrough, schedule_catch_handler, target_block, target_if}
 use Rattle.definition.specs.Context.{target_switch, target_case, target_loop, is_blocked, block_asked, blocked_code, pushed, popped, schedule, scheduled_by, owns, unscheduled_by}
 use Rattle.definition.specs.Context.{unschedule, unschedule_top}
 use Rattle.machine.specs.Machine as machine
@@ -21,8 +23,10 @@ use Rattle.control.specs.declared.ControlFlowTarget.{ControlFlowTarget}
 use Rattle.control.specs.declared.ControlFlowTarget.TheVariants.{If, Switch, Case, Loop}
 use Rattle.control.specs.declared.Entry.{Entry}
 use Rattle.control.specs.declared.Context.{Context}
-use Rattle.control.specs.Abstraction.{target_of, entry_of, no_entry, stack_of, context_of, entered_of, stored}
-use Rattle.control.specs.Contract.{refusal_if, Named, Bounded, Room, Last, with_entry, without_last, Created, Scheduled, Unscheduled}
+use Rattle.control.specs.declared.Blocked.{Blocked}
+use Rattle.control.specs.declared.Blocked.TheVariants.{Block}
+use Rattle.control.specs.Abstraction.{target_of, entry_of, no_entry, stack_of, context_of, entered_of, result_of, stored}
+use Rattle.control.specs.Contract.{reason, Named, Bounded, Room, Last, with_entry, without_last, Created, Scheduled, Unscheduled}
 
 -- ---- targets
 
@@ -31,6 +35,21 @@ named_block (If block) h = h
 named_block (Switch block) h = h
 named_block (Case block) h = h
 named_block (Loop block continue_block loop_block) h = h.0
+
+-- a target that is no loop, where the code takes the three kinds together
+pub record Unlooped (target : ControlFlowTarget) (block : ℕ) : Type 0 where
+  pub asks : block_asked (target_of target) ≡ block
+  pub reasons : reason target ≡ Block
+  pub owns_none : (flags : Flags) → owns (target_of target) flags ≡ false
+  pub blocked : (flags : Flags) → is_blocked (target_of target) flags ≡ has flags block
+  pub into : (flags : Flags) → scheduled_by (target_of target) flags ≡ add flags block
+  pub out : (owner : Bool) (flags : Flags) → unscheduled_by (target_of target) owner flags ≡ remove flags block
+
+pub unlooped_of : (target : ControlFlowTarget) (block : ℕ) → (target ≡ If block) ⊎ ((target ≡ Switch block) ⊎ (target ≡ Case block)) → Unlooped target block
+unfolding unscheduled_by
+unlooped_of target block (inl e) = rw e (record { asks = refl; reasons = refl; owns_none = λ _. refl; blocked = λ _. refl; into = λ _. refl; out = λ _ _. refl })
+unlooped_of target block (inr (inl e)) = rw e (record { asks = refl; reasons = refl; owns_none = λ _. refl; blocked = λ _. refl; into = λ _. refl; out = λ _ _. refl })
+unlooped_of target block (inr (inr e)) = rw e (record { asks = refl; reasons = refl; owns_none = λ _. refl; blocked = λ _. refl; into = λ _. refl; out = λ _ _. refl })
 
 -- ---- the stack
 
@@ -118,7 +137,7 @@ pub created : Created (record {
   len = 0;
   scheduled = replicate 1024 false;
   pushed = no_entry;
-  refused = 0;
+  refused = None;
   next_schedule_id = 0;
   stack = replicate 1152 no_entry;
 })
@@ -143,17 +162,14 @@ stores visits cx h k =
     rw s
 
 -- a refusal, or the next Context
-asked : (blocked : Bool) (code at visits : ℕ) (next : definition.Context) → (code ≡ 0 → ⊥)
-    → (refuse_if blocked code at visits >>= λ _. ok next) ≡ elim (eqb (refusal_if blocked code) 0) [ true ↦ ok next | false ↦ refused (refusal_if blocked code) at visits ]
+asked : (target : ControlFlowTarget) (blocked : Bool) (visits : ℕ) (next : Context) → next.refused ≡ then_some blocked (reason target) → next.pushed.target ≡ target
+    → (refuse_if blocked (blocked_code (target_of target)) (block_asked (target_of target)) visits >>= λ _. ok (entered_of visits next)) ≡ result_of visits next
 unfolding refuse_if ◌>>=◌
-asked true code at visits next h = rw (ne_eqb code 0 h) refl
-asked false code at visits next h = refl
-
-pub refuses : (target : definition.ControlFlowTarget) → blocked_code target ≡ 0 → ⊥
-refuses (target_if b) e = omega (arith, e)
-refuses (target_switch b) e = omega (arith, e)
-refuses (target_case b) e = omega (arith, e)
-refuses (target_loop b c l) e = omega (arith, e)
+asked target false visits next r t = rw r refl
+asked (If block) true visits next r t = rw (r, t) refl
+asked (Switch block) true visits next r t = rw (r, t) refl
+asked (Case block) true visits next r t = rw (r, t) refl
+asked (Loop block continue_block loop_block) true visits next r t = rw (r, t) refl
 
 pushes : (visits : ℕ) (target : ControlFlowTarget) (cx : Context) → entered_of visits (with_entry target cx) ≡ pushed (target_of target) (context_of visits cx)
 unfolding context_of entered_of pushed
@@ -188,16 +204,15 @@ module _ (target : ControlFlowTarget) (cx : Context) (named : Named target) (roo
         λ visits. by_definition visits (target_of target) cx ∙ ap
         (λ (next : definition.Context). refuse_if (is_blocked (target_of target) cx.scheduled) (blocked_code (target_of target)) (block_asked (target_of target))
         visits >>= λ _. ok next) (sym (pushes visits target cx))
-        ∙ asked (is_blocked (target_of target) cx.scheduled) (blocked_code (target_of target)) (block_asked (target_of target)) visits
-        (entered_of visits (with_entry target cx)) (refuses (target_of target));
+        ∙ asked target (is_blocked (target_of target) cx.scheduled) visits (with_entry target cx) refl refl;
     len = refl;
     id = refl;
     bounded = bounded_stored _ _ _ named inside room.len;
   }
 
 -- the same where the arms of `schedule` meet
-pub entered : {target t : ControlFlowTarget} {cx : Context} {flags : Flags} {code : ℕ} {owner : Bool} → t ≡ target → flags ≡ scheduled_by (target_of target) cx.scheduled
-    → code ≡ refusal_if (is_blocked (target_of target) cx.scheduled) (blocked_code (target_of target)) → owner ≡ owns (target_of target) cx.scheduled
+pub entered : {target t : ControlFlowTarget} {cx : Context} {flags : Flags} {refusal : std.Option Blocked} {owner : Bool} → t ≡ target → flags ≡ scheduled_by (target_of target) cx.scheduled
+    → refusal ≡ then_some (is_blocked (target_of target) cx.scheduled) (reason target) → owner ≡ owns (target_of target) cx.scheduled
     → Scheduled target cx (with_entry target cx) → Scheduled target cx (record {
       emitted = cx.emitted;
       catch_handlers = cx.catch_handlers;
@@ -205,11 +220,11 @@ pub entered : {target t : ControlFlowTarget} {cx : Context} {flags : Flags} {cod
       len = cx.len + 1;
       scheduled = flags;
       pushed = record { id = cx.next_schedule_id; target = t; owns_loop = owner };
-      refused = code;
+      refused = refusal;
       next_schedule_id = cx.next_schedule_id + 1;
       stack = cx.stack;
     })
-entered t f c o h = rw (t, f, c, o) h
+entered t f r o h = rw (t, f, r, o) h
 
 -- ---- unschedule
 

@@ -1,8 +1,9 @@
 -- A statement of the table to a jump inside of it, and what passing it leaves. For the code's pass.
-use Prim.Native.Nat.{ℕ, zero, suc, ◌+◌, ◌<◌}
+use Prim.Native.Nat.{ℕ, ◌≤◌, ◌<◌}
 use native.Mathlib.Omega.{arith}
-use mathlib.Core.Path.{◌≡◌, refl, sym, ap, ◌∙◌}
-use mathlib.Core.Bool.{Bool, true, false, ◌&&◌}
+use mathlib.Core.Path.{◌≡◌, refl, sym, ◌∙◌}
+use mathlib.Core.Bool.{Bool, true, false}
+use mathlib.Core.Logic.{◌⊎◌, inl, inr}
 use mathlib.Core.Option.{Option, none, some}
 use lib.Dec.{eqb}
 use borrow.Author.Tests.{ne_eqb, eqb-true}
@@ -10,50 +11,86 @@ use Rattle.table.specs.Table.{Terminal, absent, unreachable, throw, return, goto
 use Rattle.table.specs.Table.{optional, label, sequence, maybe_throw, try, scope, code_of, unless_none}
 use Rattle.definition.specs.Around.{Enclosing, a_loop, a_switch, another, is_label}
 use Rattle.machine.specs.Machine.{enclosing_by}
-use Rattle.machine.specs.Survey.{Survey, unseen, fewer, is_next, pass}
+use Rattle.machine.specs.Survey.{Survey, pass}
 use Rattle.control.specs.Pass.{passed_loop, passed_switch, passed_another}
 
--- any other statement
-pub other_statement : (e : Terminal) (taken : Option ℕ) → (code_of e ≡ 7 → ⊥) → (code_of e ≡ 8 → ⊥) → (code_of e ≡ 9 → ⊥) → (code_of e ≡ 10 → ⊥) → (code_of e ≡ 11 → ⊥)
-    → (code_of e ≡ 12 → ⊥) → (code_of e ≡ 20 → ⊥) → (code_of e ≡ 21 → ⊥) → enclosing_by e taken ≡ another taken
-other_statement absent g f7 f8 f9 f10 f11 f12 f20 f21 = refl
-other_statement unreachable g f7 f8 f9 f10 f11 f12 f20 f21 = refl
-other_statement (throw v) g f7 f8 f9 f10 f11 f12 f20 f21 = refl
-other_statement (return v) g f7 f8 f9 f10 f11 f12 f20 f21 = refl
-other_statement (goto b v) g f7 f8 f9 f10 f11 f12 f20 f21 = refl
-other_statement (if x y a f) g f7 f8 f9 f10 f11 f12 f20 f21 = refl
-other_statement (branch x y a) g f7 f8 f9 f10 f11 f12 f20 f21 = refl
-other_statement (switch x i n f) g f7 f8 f9 f10 f11 f12 f20 f21 = absurd (f7 refl)
-other_statement (do_while l x f) g f7 f8 f9 f10 f11 f12 f20 f21 = absurd (f8 refl)
-other_statement (while x l f) g f7 f8 f9 f10 f11 f12 f20 f21 = absurd (f9 refl)
-other_statement (for i x u l f) g f7 f8 f9 f10 f11 f12 f20 f21 = absurd (f10 refl)
-other_statement (for_of i x l f) g f7 f8 f9 f10 f11 f12 f20 f21 = absurd (f11 refl)
-other_statement (for_in i l f) g f7 f8 f9 f10 f11 f12 f20 f21 = absurd (f12 refl)
-other_statement (logical o x f) g f7 f8 f9 f10 f11 f12 f20 f21 = refl
-other_statement (ternary x f) g f7 f8 f9 f10 f11 f12 f20 f21 = refl
-other_statement (optional o x f) g f7 f8 f9 f10 f11 f12 f20 f21 = refl
-other_statement (label x f) g f7 f8 f9 f10 f11 f12 f20 f21 = refl
-other_statement (sequence x f) g f7 f8 f9 f10 f11 f12 f20 f21 = refl
-other_statement (maybe_throw x) g f7 f8 f9 f10 f11 f12 f20 f21 = refl
-other_statement (try x y f n) g f7 f8 f9 f10 f11 f12 f20 f21 = refl
-other_statement (scope false x f n) g f7 f8 f9 f10 f11 f12 f20 f21 = absurd (f20 refl)
-other_statement (scope true x f n) g f7 f8 f9 f10 f11 f12 f20 f21 = absurd (f21 refl)
+-- ---- the sort of a statement, by its code
 
--- ---- numbers
+pub loop_statement : (e : Terminal) (taken : Option ℕ) → 8 ≤ code_of e → code_of e ≤ 12 → enclosing_by e taken ≡ a_loop taken
+loop_statement absent g low high = absurd (omega (arith, low, high))
+loop_statement unreachable g low high = absurd (omega (arith, low, high))
+loop_statement (throw v) g low high = absurd (omega (arith, low, high))
+loop_statement (return v) g low high = absurd (omega (arith, low, high))
+loop_statement (goto b v) g low high = absurd (omega (arith, low, high))
+loop_statement (if x y a f) g low high = absurd (omega (arith, low, high))
+loop_statement (branch x y a) g low high = absurd (omega (arith, low, high))
+loop_statement (switch x i n f) g low high = absurd (omega (arith, low, high))
+loop_statement (do_while l x f) g low high = refl
+loop_statement (while x l f) g low high = refl
+loop_statement (for i x u l f) g low high = refl
+loop_statement (for_of i x l f) g low high = refl
+loop_statement (for_in i l f) g low high = refl
+loop_statement (logical o x f) g low high = absurd (omega (arith, low, high))
+loop_statement (ternary x f) g low high = absurd (omega (arith, low, high))
+loop_statement (optional o x f) g low high = absurd (omega (arith, low, high))
+loop_statement (label x f) g low high = absurd (omega (arith, low, high))
+loop_statement (sequence x f) g low high = absurd (omega (arith, low, high))
+loop_statement (maybe_throw x) g low high = absurd (omega (arith, low, high))
+loop_statement (try x y f n) g low high = absurd (omega (arith, low, high))
+loop_statement (scope false x f n) g low high = absurd (omega (arith, low, high))
+loop_statement (scope true x f n) g low high = absurd (omega (arith, low, high))
 
-pub fewer_by : (n : ℕ) → (n ≡ 0 → ⊥) → suc (fewer n) ≡ n
-fewer_by zero h = absurd (h refl)
-fewer_by (suc n) h = refl
+pub scope_statement : (e : Terminal) (taken : Option ℕ) → 20 ≤ code_of e → enclosing_by e taken ≡ another none
+scope_statement absent g low = absurd (omega (arith, low))
+scope_statement unreachable g low = absurd (omega (arith, low))
+scope_statement (throw v) g low = absurd (omega (arith, low))
+scope_statement (return v) g low = absurd (omega (arith, low))
+scope_statement (goto b v) g low = absurd (omega (arith, low))
+scope_statement (if x y a f) g low = absurd (omega (arith, low))
+scope_statement (branch x y a) g low = absurd (omega (arith, low))
+scope_statement (switch x i n f) g low = absurd (omega (arith, low))
+scope_statement (do_while l x f) g low = absurd (omega (arith, low))
+scope_statement (while x l f) g low = absurd (omega (arith, low))
+scope_statement (for i x u l f) g low = absurd (omega (arith, low))
+scope_statement (for_of i x l f) g low = absurd (omega (arith, low))
+scope_statement (for_in i l f) g low = absurd (omega (arith, low))
+scope_statement (logical o x f) g low = absurd (omega (arith, low))
+scope_statement (ternary x f) g low = absurd (omega (arith, low))
+scope_statement (optional o x f) g low = absurd (omega (arith, low))
+scope_statement (label x f) g low = absurd (omega (arith, low))
+scope_statement (sequence x f) g low = absurd (omega (arith, low))
+scope_statement (maybe_throw x) g low = absurd (omega (arith, low))
+scope_statement (try x y f n) g low = absurd (omega (arith, low))
+scope_statement (scope false x f n) g low = refl
+scope_statement (scope true x f n) g low = refl
 
-pub not_next : (n : ℕ) (here : Bool) → (n ≡ 1 → ⊥) → is_next n && here ≡ false
-not_next zero here h = refl
-not_next (suc zero) here h = absurd (h refl)
-not_next (suc (suc n)) here h = refl
+neither : {n low high : ℕ} → (n < low) ⊎ (high ≤ n) → low ≤ n → n < high → ⊥
+neither (inl less) l h = omega (arith, less, l)
+neither (inr more) l h = omega (arith, more, h)
 
-pub unseen_after : (n loops : ℕ) → n ≡ loops + 1 → record { between = true; is_switch_inside = false; named = false; loops_left = n; loop_named = false } ≡ unseen loops
-unseen_after n loops e =
-    let q : n ≡ suc loops = omega (arith, e) in
-    ap (λ (z : ℕ). record { between = true; is_switch_inside = false; named = false; loops_left = z; loop_named = false }) q
+pub other_statement : (e : Terminal) (taken : Option ℕ) → (code_of e < 7) ⊎ (13 ≤ code_of e) → (code_of e < 20) ⊎ (22 ≤ code_of e) → enclosing_by e taken ≡ another taken
+other_statement absent g side few = refl
+other_statement unreachable g side few = refl
+other_statement (throw v) g side few = refl
+other_statement (return v) g side few = refl
+other_statement (goto b v) g side few = refl
+other_statement (if x y a f) g side few = refl
+other_statement (branch x y a) g side few = refl
+other_statement (switch x i n f) g side few = absurd (neither side (omega arith) (omega arith))
+other_statement (do_while l x f) g side few = absurd (neither side (omega arith) (omega arith))
+other_statement (while x l f) g side few = absurd (neither side (omega arith) (omega arith))
+other_statement (for i x u l f) g side few = absurd (neither side (omega arith) (omega arith))
+other_statement (for_of i x l f) g side few = absurd (neither side (omega arith) (omega arith))
+other_statement (for_in i l f) g side few = absurd (neither side (omega arith) (omega arith))
+other_statement (logical o x f) g side few = refl
+other_statement (ternary x f) g side few = refl
+other_statement (optional o x f) g side few = refl
+other_statement (label x f) g side few = refl
+other_statement (sequence x f) g side few = refl
+other_statement (maybe_throw x) g side few = refl
+other_statement (try x y f n) g side few = refl
+other_statement (scope false x f n) g side few = absurd (neither few (omega arith) (omega arith))
+other_statement (scope true x f n) g side few = absurd (neither few (omega arith) (omega arith))
 
 -- ---- labels
 

@@ -1,5 +1,6 @@
 -- From the code's Context to the definition's.
-use Rattle.std.specs.Prelude.{ℕ, zero, suc, ◌-◌, List, [], ◌∷◌, true, false, get_or, set, eqb}
+use Rattle.std.specs.Prelude.{ℕ, zero, suc, ◌-◌, false, List, [], ◌∷◌, get_or, set, None, Some}
+use Rattle.std.specs.Prelude as std
 use Rattle.std.proofs.Math.Option.{Option, none, some}
 use Rattle.definition.specs.Result.{Result, ok, refused}
 use Rattle.definition.specs.Tree.{Kind, implicit, labeled, unlabeled}
@@ -12,8 +13,8 @@ use Rattle.control.specs.declared.Context.{Context}
 use Rattle.control.specs.declared.ReactiveTerminalTargetKind.{ReactiveTerminalTargetKind}
 use Rattle.control.specs.declared.ReactiveTerminalTargetKind.TheVariants.{Implicit, Labeled, Unlabeled}
 use Rattle.control.specs.declared.Resolution.{Resolution}
-use Rattle.control.specs.declared.Resolved.{Resolved}
-use Rattle.control.specs.declared.Resolved.TheVariants.{Nothing, Found}
+use Rattle.control.specs.declared.Blocked.{Blocked}
+use Rattle.control.specs.declared.Blocked.TheVariants.{ContinueBlock, Block}
 
 abbrev pub target_of : ControlFlowTarget → definition.ControlFlowTarget
 target_of (If block) = target_if block
@@ -41,9 +42,18 @@ context_of visits cx = record { next_id = cx.next_schedule_id; emitted = cx.emit
 unfoldable pub entered_of : (visits : ℕ) → Context → definition.Context
 entered_of visits cx = record { next_id = cx.next_schedule_id; emitted = cx.emitted; scope_fallthroughs = cx.scope_fallthroughs; scheduled = cx.scheduled; catch_handlers = cx.catch_handlers; stack = entry_of cx.pushed ∷ stack_of cx.stack (cx.len - 1); visits = visits }
 
+-- the number of a refusal of `schedule`
+abbrev pub blocked_number : Blocked → ℕ
+blocked_number ContinueBlock = 15
+blocked_number Block = 90
+
 -- What `schedule` gives: the next Context, or a refusal at the block that the target asks about.
+abbrev pub result_by : std.Option Blocked → (visits : ℕ) → Context → Result definition.Context
+result_by None visits cx = ok (entered_of visits cx)
+result_by (Some why) visits cx = refused (blocked_number why) (block_asked (target_of cx.pushed.target)) visits
+
 abbrev pub result_of : (visits : ℕ) → Context → Result definition.Context
-result_of visits cx = elim (eqb cx.refused 0) [ true ↦ ok (entered_of visits cx) | false ↦ refused cx.refused (block_asked (target_of cx.pushed.target)) visits ]
+result_of visits cx = result_by cx.refused visits cx
 
 -- the Context once its caller has stored the new entry at its place in the array
 unfoldable pub stored : Context → Context
@@ -61,6 +71,6 @@ found_block resolution = target_block (target_of resolution.entry.target)
 abbrev pub resolution_of : Resolution → definition.Resolution
 resolution_of resolution = record { target = found_block resolution; kind = kind_of resolution.kind; loops = resolution.loops }
 
-abbrev pub resolved_of : Resolved → Option definition.Resolution
-resolved_of Nothing = none
-resolved_of (Found resolution) = some (resolution_of resolution)
+abbrev pub resolved_of : std.Option Resolution → Option definition.Resolution
+resolved_of None = none
+resolved_of (Some resolution) = some (resolution_of resolution)

@@ -1,12 +1,12 @@
 -- From the code's records to the definition's.
-use Rattle.std.specs.Prelude.{ℕ, ◌<◌}
+use Rattle.std.specs.Prelude.{ℕ, ◌<◌, None, Some}
+use Rattle.std.specs.Prelude as std
 use Rattle.std.proofs.Math.Option.{Option, none, some}
 use Rattle.definition.specs.Around.{Enclosing, a_loop, a_switch, another}
 use Rattle.definition.specs.Around as definition
 use Rattle.machine.specs.Goal as goal
 use Rattle.machine.specs.Survey as survey
-use Rattle.control.specs.declared.Resolved.{Resolved}
-use Rattle.control.specs.declared.Resolved.TheVariants as found
+use Rattle.control.specs.declared.Resolution.{Resolution}
 use Rattle.control.specs.Abstraction.{kind_of, found_block}
 use Rattle.control.specs.declared.rule.Rule.{Rule}
 use Rattle.control.specs.declared.rule.Rule.TheVariants.{Rust, Language}
@@ -14,8 +14,6 @@ use Rattle.control.specs.declared.around.Sort.{Sort}
 use Rattle.control.specs.declared.around.Sort.TheVariants.{Loop, Switch, Scope, Another}
 use Rattle.control.specs.declared.around.Survey.{Survey}
 use Rattle.control.specs.declared.around.Goal.{Goal}
-use Rattle.control.specs.declared.around.Aim.{Aim}
-use Rattle.control.specs.declared.around.Aim.TheVariants.{Nothing, At}
 
 abbrev pub rule_of : Rule → definition.Rule
 rule_of Rust = definition.rust
@@ -33,15 +31,15 @@ survey_of seen = record { between = seen.between; is_switch_inside = seen.switch
 abbrev pub goal_of : Goal → goal.Goal
 goal_of goal = record { target = goal.target; kind = kind_of goal.kind; loops = goal.loops; unnamed = goal.unnamed }
 
-abbrev pub aim_of : Aim → Option goal.Goal
-aim_of Nothing = none
-aim_of (At goal) = some (goal_of goal)
+abbrev pub aim_of : std.Option Goal → Option goal.Goal
+aim_of None = none
+aim_of (Some goal) = some (goal_of goal)
 
 -- the target that was found is one of the 1,024 blocks
-abbrev pub FoundBelow : Resolved → Type 0
-FoundBelow found.Nothing = Unit {0}
-FoundBelow (found.Found resolution) = found_block resolution < 1024
+abbrev pub FoundBelow : std.Option Resolution → Type 0
+FoundBelow None = Unit {0}
+FoundBelow (Some resolution) = found_block resolution < 1024
 
-abbrev pub AimBelow : Aim → Type 0
-AimBelow Nothing = Unit {0}
-AimBelow (At goal) = goal.target < 1024
+abbrev pub AimBelow : std.Option Goal → Type 0
+AimBelow None = Unit {0}
+AimBelow (Some goal) = goal.target < 1024

@@ -1,12 +1,15 @@
 -- What the methods promise of the Context that they hand back.
-use Rattle.std.specs.Prelude.{ℕ, ◌+◌, ◌-◌, ◌≤◌, ◌<◌, ◌≡◌, Bool, true, false, List, get_or, set, replicate}
+use Rattle.std.specs.Prelude.{ℕ, ◌+◌, ◌-◌, ◌≤◌, ◌<◌, ◌≡◌, Bool, List, get_or, set, replicate}
+use Rattle.std.specs.Bool.{then_some}
 use Rattle.definition.specs.Result.{ok}
 use Rattle.definition.specs.Context as definition
 use Rattle.machine.specs.Machine as machine
-use Rattle.definition.specs.Context.{target_block, is_loop, is_blocked, blocked_code, scheduled_by, owns, unscheduled_by, break_kind, continue_kind, start, schedule, unschedule}
+use Rattle.definition.specs.Context.{target_block, is_loop, is_blocked, scheduled_by, owns, unscheduled_by, break_kind, continue_kind, start, schedule, unschedule}
 use Rattle.control.specs.declared.ControlFlowTarget.{ControlFlowTarget}
 use Rattle.control.specs.declared.ControlFlowTarget.TheVariants.{If, Switch, Case, Loop}
 use Rattle.control.specs.declared.Entry.{Entry}
+use Rattle.control.specs.declared.Blocked.{Blocked}
+use Rattle.control.specs.declared.Blocked.TheVariants.{ContinueBlock, Block}
 use Rattle.control.specs.declared.Context.{Context}
 use Rattle.control.specs.Abstraction.{target_of, no_entry, context_of, result_of}
 
@@ -32,16 +35,18 @@ pub record Last (cx : Context) (entry : Entry) : Type 0 where
   pub read : entry ≡ get_or cx.stack (cx.len - 1) no_entry
   pub named : Named entry.target
 
--- the number of a refusal, 0 where there is none
-abbrev pub refusal_if : (blocked : Bool) → (code : ℕ) → ℕ
-refusal_if true code = code
-refusal_if false code = 0
+-- why a target is refused, where it is
+abbrev pub reason : ControlFlowTarget → Blocked
+reason (If block) = Block
+reason (Switch block) = Block
+reason (Case block) = Block
+reason (Loop block continue_block loop_block) = ContinueBlock
 
 -- ---- the Contexts that the methods hand back, field by field
 
 -- a target under the next id, and its blocks in the scheduled set
 abbrev pub with_entry : ControlFlowTarget → Context → Context
-with_entry target cx = record { emitted = cx.emitted; catch_handlers = cx.catch_handlers; scope_fallthroughs = cx.scope_fallthroughs; len = cx.len + 1; scheduled = scheduled_by (target_of target) cx.scheduled; pushed = record { id = cx.next_schedule_id; target = target; owns_loop = owns (target_of target) cx.scheduled }; refused = refusal_if (is_blocked (target_of target) cx.scheduled) (blocked_code (target_of target)); next_schedule_id = cx.next_schedule_id + 1; stack = cx.stack }
+with_entry target cx = record { emitted = cx.emitted; catch_handlers = cx.catch_handlers; scope_fallthroughs = cx.scope_fallthroughs; len = cx.len + 1; scheduled = scheduled_by (target_of target) cx.scheduled; pushed = record { id = cx.next_schedule_id; target = target; owns_loop = owns (target_of target) cx.scheduled }; refused = then_some (is_blocked (target_of target) cx.scheduled) (reason target); next_schedule_id = cx.next_schedule_id + 1; stack = cx.stack }
 
 -- one entry less, and its blocks out of the set; the array of entries is as it was
 abbrev pub without_last : Entry → Context → Context

@@ -5,21 +5,20 @@ ghost use Rattle.std.proofs.Math.Option.{Option};
 ghost use Rattle.table.specs.Words.{block_count};
 ghost use Rattle.table.specs.Promise.{Promise};
 ghost use Rattle.table.specs.Table.{table_of, terminal_at, unless_none};
-ghost use Rattle.definition.specs.Around.{language, kind_by, unnamed};
+ghost use Rattle.definition.specs.Around.{kind_by, unnamed};
 ghost use Rattle.machine.specs.Goal.{surveyed_break, surveyed_continue};
 ghost use Rattle.machine.specs.Machine.{enclosing_by};
-ghost use Rattle.machine.specs.Survey.{fewer};
 ghost use Rattle.machine.specs.Survey as definition;
 ghost use Rattle.control.specs.Abstraction.{kind_of, resolution_of, resolved_of};
 ghost use Rattle.control.specs.AroundAbstraction.{rule_of, survey_of, goal_of, enclosing, FoundBelow};
 ghost use Rattle.control.specs.Pass.{passed_loop, passed_switch, passed_another, asks_around, passed_from, target_sought, unseen_by};
 
 use crate::rule::Rule;
-use crate::{ReactiveTerminalTargetKind, Resolution, Resolved};
+use crate::{ReactiveTerminalTargetKind, Resolution};
 use table::columns::code_at;
 
 // The sort of a statement, as a jump inside it sees it. A scope's row has no label.
-#[derive(Drop)]
+#[derive(Clone, Copy, Drop)]
 pub enum Sort {
     Loop,
     Switch,
@@ -39,7 +38,7 @@ pub struct Survey {
 }
 
 // Where a jump goes: its kind by the rule, and whether it is Labeled but names no label around it.
-#[derive(Drop)]
+#[derive(Clone, Copy, Drop)]
 pub struct Goal {
     pub target: u32,
     pub kind: ReactiveTerminalTargetKind,
@@ -47,74 +46,45 @@ pub struct Goal {
     pub unnamed: bool,
 }
 
-#[derive(Drop)]
-pub enum Aim {
-    Nothing,
-    At(Goal),
-}
-
-fn either(a: bool, b: bool) -> bool
-    ensures { result ≡ a || b }
-{
-    if a {
-        return true;
-    }
-    b
-}
-
 // ---- before the first
 
 // Only the language entry asks the statements around, and only for a jump that found its target.
-pub fn asks(rule: Rule, found: Resolved) -> bool
+pub fn asks(rule: Rule, found: Option<Resolution>) -> bool
     ensures { result ≡ asks_around (rule_of rule) (resolved_of found) }
 {
-    match rule {
-        Rule::Rust => false,
-        Rule::Language => match found {
-            Resolved::Nothing => false,
-            Resolved::Found(_) => true,
-        },
-    }
+    matches!(rule, Rule::Language) && found.is_some()
 }
 
 // The number of statements to pass over.
 pub fn pass_from(asked: bool, depth: u32) -> usize
     ensures { result ≡ passed_from asked depth }
 {
-    if asked {
-        return depth as usize;
-    }
-    0
+    if asked { depth as usize } else { 0 }
 }
 
-pub fn target_of(found: Resolved) -> u32
+pub fn target_of(found: Option<Resolution>) -> u32
     requires { FoundBelow found }
     ensures { (result ≡ target_sought (resolved_of found)) × (result < 1024) }
 {
     match found {
-        Resolved::Nothing => 0,
-        Resolved::Found(resolution) => resolution.block() as u32,
+        None => 0,
+        Some(resolution) => resolution.block() as u32,
     }
 }
 
-fn unseen_after(loops: u32) -> Survey
-    ensures { survey_of result ≡ definition.unseen loops }
+pub fn unseen(found: Option<Resolution>) -> Survey
+    ensures { survey_of result ≡ unseen_by (resolved_of found) }
 {
+    let loops = match found {
+        None => 0,
+        Some(resolution) => resolution.loops,
+    };
     Survey {
         between: true,
         switch_inside: false,
         named: false,
         loops_left: loops as u64 + 1,
         loop_named: false,
-    }
-}
-
-pub fn unseen(found: Resolved) -> Survey
-    ensures { survey_of result ≡ unseen_by (resolved_of found) }
-{
-    match found {
-        Resolved::Nothing => unseen_after(0),
-        Resolved::Found(resolution) => unseen_after(resolution.loops),
     }
 }
 
@@ -127,45 +97,22 @@ fn sort_at(words: &[u32], block: u32) -> Sort
 {
     match code_at(words, block) {
         7 => Sort::Switch,
-        8 => Sort::Loop,
-        9 => Sort::Loop,
-        10 => Sort::Loop,
-        11 => Sort::Loop,
-        12 => Sort::Loop,
-        20 => Sort::Scope,
-        21 => Sort::Scope,
+        8..=12 => Sort::Loop,
+        20 | 21 => Sort::Scope,
         _ => Sort::Another,
     }
 }
 
-fn one_fewer(loops: u64) -> u64
-    ensures { result ≡ fewer loops }
-{
-    if loops == 0 {
-        return 0;
-    }
-    loops - 1
-}
-
 // The loop that a continue resolved to has the label, if it is this one.
-fn names_loop(loops: u64, here: bool) -> bool
-    ensures { result ≡ definition.is_next loops && here }
-{
-    if loops == 1 {
-        return here;
-    }
-    false
-}
-
 fn pass_loop(here: bool, seen: Survey) -> Survey
     ensures { survey_of result ≡ passed_loop here (survey_of seen) }
 {
     Survey {
         between: false,
-        switch_inside: seen.switch_inside,
-        named: either(seen.named, here),
-        loops_left: one_fewer(seen.loops_left),
-        loop_named: either(seen.loop_named, names_loop(seen.loops_left, here)),
+        named: seen.named || here,
+        loops_left: seen.loops_left.saturating_sub(1),
+        loop_named: seen.loop_named || (seen.loops_left == 1 && here),
+        ..seen
     }
 }
 
@@ -174,10 +121,9 @@ fn pass_switch(here: bool, seen: Survey) -> Survey
 {
     Survey {
         between: false,
-        switch_inside: either(seen.switch_inside, seen.between),
-        named: either(seen.named, here),
-        loops_left: seen.loops_left,
-        loop_named: seen.loop_named,
+        switch_inside: seen.switch_inside || seen.between,
+        named: seen.named || here,
+        ..seen
     }
 }
 
@@ -185,11 +131,8 @@ fn pass_another(here: bool, seen: Survey) -> Survey
     ensures { survey_of result ≡ passed_another here (survey_of seen) }
 {
     Survey {
-        between: seen.between,
-        switch_inside: seen.switch_inside,
-        named: either(seen.named, here),
-        loops_left: seen.loops_left,
-        loop_named: seen.loop_named,
+        named: seen.named || here,
+        ..seen
     }
 }
 
@@ -201,8 +144,7 @@ pub fn pass(words: &[u32], target: u32, block: u32, label: u32, seen: Survey) ->
     ensures { survey_of result ≡ definition.pass target (enclosing_by (terminal_at (table_of words.now) block) (unless_none label)) (survey_of seen) }
 {
     let here = label == target;
-    let sort = sort_at(words, block);
-    match sort {
+    match sort_at(words, block) {
         Sort::Loop => pass_loop(here, seen),
         Sort::Switch => pass_switch(here, seen),
         Sort::Scope => pass_another(false, seen),
@@ -212,22 +154,8 @@ pub fn pass(words: &[u32], target: u32, block: u32, label: u32, seen: Survey) ->
 
 // ---- after the last
 
-fn label_if(between: bool, kind: ReactiveTerminalTargetKind) -> ReactiveTerminalTargetKind
-    ensures { kind_of result ≡ kind_by language between (kind_of kind) }
-{
-    match kind {
-        ReactiveTerminalTargetKind::Implicit => kind,
-        ReactiveTerminalTargetKind::Labeled => kind,
-        ReactiveTerminalTargetKind::Unlabeled => {
-            if between {
-                return ReactiveTerminalTargetKind::Labeled;
-            }
-            kind
-        }
-    }
-}
-
-// A break to a loop is also Labeled when a switch is being built in between.
+// In the language entry a break to a loop is also Labeled when a switch is being built in between.
+#[tactic(auto, unfolding(definition::specs::Around::kind_by))]
 fn kind_by(
     rule: Rule,
     between: bool,
@@ -235,34 +163,29 @@ fn kind_by(
 ) -> ReactiveTerminalTargetKind
     ensures { kind_of result ≡ kind_by (rule_of rule) between (kind_of kind) }
 {
-    match rule {
-        Rule::Rust => kind,
-        Rule::Language => label_if(between, kind),
+    match (rule, kind) {
+        (Rule::Language, ReactiveTerminalTargetKind::Unlabeled) if between => {
+            ReactiveTerminalTargetKind::Labeled
+        }
+        _ => kind,
     }
 }
 
 // Labeled, and no such label was found.
+#[tactic(auto, unfolding(definition::specs::Around::unnamed))]
 fn is_unnamed(rule: Rule, kind: ReactiveTerminalTargetKind, named: bool) -> bool
     ensures { result ≡ unnamed (rule_of rule) (kind_of kind) named }
 {
-    match rule {
-        Rule::Rust => false,
-        Rule::Language => match kind {
-            ReactiveTerminalTargetKind::Implicit => false,
-            ReactiveTerminalTargetKind::Labeled => !named,
-            ReactiveTerminalTargetKind::Unlabeled => false,
-        },
-    }
+    matches!(rule, Rule::Language) && matches!(kind, ReactiveTerminalTargetKind::Labeled) && !named
 }
 
 pub fn break_goal(rule: Rule, found: Resolution, seen: Survey) -> Goal
     ensures { goal_of result ≡ surveyed_break (rule_of rule) (survey_of seen) (resolution_of found) }
 {
-    let was = found.kind;
-    let kind = kind_by(rule, seen.switch_inside, was);
+    let kind = kind_by(rule, seen.switch_inside, found.kind);
     Goal {
         target: found.block() as u32,
-        kind: kind,
+        kind,
         loops: found.loops,
         unnamed: is_unnamed(rule, kind, seen.named),
     }
@@ -274,7 +197,7 @@ pub fn continue_goal(rule: Rule, found: Resolution, seen: Survey) -> Goal
     let kind = found.kind;
     Goal {
         target: found.block() as u32,
-        kind: kind,
+        kind,
         loops: found.loops,
         unnamed: is_unnamed(rule, kind, seen.loop_named),
     }

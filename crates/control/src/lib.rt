@@ -13,8 +13,8 @@ pub mod rule;
 ghost use Rattle.std.specs.Prelude.{◌≡◌, ◌+◌, ◌≤◌, ◌<◌, ◌||◌};
 ghost use Rattle.definition.specs.Context.{add, has, target_block, is_loop, loops_of, continues_at, block_asked, break_kind, continue_kind};
 ghost use Rattle.definition.specs.Tree.{kind_number};
-ghost use Rattle.control.specs.Abstraction.{target_of, kind_of, found_block, resolution_of};
-ghost use Rattle.control.specs.Contract.{Named, Room, Last, refusal_if, Created, Scheduled, Unscheduled, break_to, continue_to};
+ghost use Rattle.control.specs.Abstraction.{target_of, kind_of, blocked_number, found_block, resolution_of};
+ghost use Rattle.control.specs.Contract.{Named, Room, Last, Created, Scheduled, Unscheduled, break_to, continue_to};
 
 // The Rust's BlockId, as the sets and the stack have it.
 pub fn block_id(block: u32) -> u16
@@ -25,7 +25,7 @@ pub fn block_id(block: u32) -> u16
 }
 
 // What an entry of the control stack stands for. A loop's `block` is its fallthrough.
-#[derive(Clone, Copy, Drop)]
+#[derive(Clone, Copy, PartialEq, Eq, Drop)]
 pub enum ControlFlowTarget {
     If {
         block: u16,
@@ -51,7 +51,7 @@ pub struct Entry {
     pub owns_loop: bool,
 }
 
-#[derive(Clone, Copy, Drop)]
+#[derive(Clone, Copy, PartialEq, Eq, Drop)]
 pub enum ReactiveTerminalTargetKind {
     Implicit,
     Labeled,
@@ -66,13 +66,15 @@ pub struct Resolution {
     pub loops: u32,
 }
 
-#[derive(Clone, Copy, Drop)]
-pub enum Resolved {
-    Nothing,
-    Found(Resolution),
+// Why `schedule` refuses a target: a loop's continue block is scheduled (15), or another target's block is (90, which never occurs).
+#[derive(Clone, Copy, PartialEq, Eq, Drop)]
+pub enum Blocked {
+    ContinueBlock,
+    Block,
 }
 
-// `pushed` is the entry that went on last. `refused` is 15 where `schedule` refused it (or 90, which never occurs). The walk ends with such a Context.
+// `pushed` is the entry that went on last. `refused` says why `schedule` refused it, if it did. The walk ends with such a Context. The first `len`
+// entries of the stack count: fixed memory, and paper 01's array.
 #[derive(Drop)]
 pub struct Context {
     pub emitted: [bool; 1024],
@@ -81,9 +83,21 @@ pub struct Context {
     pub len: usize,
     pub scheduled: [bool; 1024],
     pub pushed: Entry,
-    pub refused: u16,
+    pub refused: Option<Blocked>,
     pub next_schedule_id: u16,
     pub stack: [Entry; 1152],
+}
+
+impl Blocked {
+    // Paper 01's number of the refusal.
+    pub fn code(self) -> u32
+        ensures { result ≡ blocked_number self }
+    {
+        match self {
+            Blocked::ContinueBlock => 15,
+            Blocked::Block => 90,
+        }
+    }
 }
 
 impl ControlFlowTarget {
@@ -91,30 +105,17 @@ impl ControlFlowTarget {
         ensures { result ≡ target_block (target_of self) }
     {
         match self {
-            ControlFlowTarget::If { block } => block,
-            ControlFlowTarget::Switch { block } => block,
-            ControlFlowTarget::Case { block } => block,
-            ControlFlowTarget::Loop {
-                block,
-                continue_block: _,
-                loop_block: _,
-            } => block,
+            ControlFlowTarget::If { block }
+            | ControlFlowTarget::Switch { block }
+            | ControlFlowTarget::Case { block }
+            | ControlFlowTarget::Loop { block, .. } => block,
         }
     }
 
     pub fn is_loop(self) -> bool
         ensures { result ≡ is_loop (target_of self) }
     {
-        match self {
-            ControlFlowTarget::If { block: _ } => false,
-            ControlFlowTarget::Switch { block: _ } => false,
-            ControlFlowTarget::Case { block: _ } => false,
-            ControlFlowTarget::Loop {
-                block: _,
-                continue_block: _,
-                loop_block: _,
-            } => true,
-        }
+        matches!(self, ControlFlowTarget::Loop { .. })
     }
 
     // Whether this is a loop with that continue block.
@@ -122,14 +123,8 @@ impl ControlFlowTarget {
         ensures { result ≡ continues_at (target_of self) wanted }
     {
         match self {
-            ControlFlowTarget::If { block: _ } => false,
-            ControlFlowTarget::Switch { block: _ } => false,
-            ControlFlowTarget::Case { block: _ } => false,
-            ControlFlowTarget::Loop {
-                block: _,
-                continue_block,
-                loop_block: _,
-            } => continue_block == wanted,
+            ControlFlowTarget::Loop { continue_block, .. } => continue_block == wanted,
+            _ => false,
         }
     }
 
@@ -138,14 +133,8 @@ impl ControlFlowTarget {
         ensures { result ≡ block_asked (target_of self) }
     {
         match self {
-            ControlFlowTarget::If { block } => block,
-            ControlFlowTarget::Switch { block } => block,
-            ControlFlowTarget::Case { block } => block,
-            ControlFlowTarget::Loop {
-                block: _,
-                continue_block,
-                loop_block: _,
-            } => continue_block,
+            ControlFlowTarget::Loop { continue_block, .. } => continue_block,
+            _ => self.block(),
         }
     }
 }
@@ -166,35 +155,22 @@ impl ReactiveTerminalTargetKind {
 // ---- sets of blocks
 
 // Puts a block into a set: emitted, catch handlers or scope fallthroughs.
+#[tactic(auto, unfolding(definition::specs::Context::add))]
 pub fn insert(set: &mut [bool; 1024], block: u16)
     requires { block < 1024 }
     ensures { set.new ≡ add set.old block }
 {
-    let at = block as usize;
-    set[at] = true;
+    set[block as usize] = true;
 }
 
 // A catch handler counts as scheduled here, and nowhere else.
-pub fn is_scheduled<'a>(
-    scheduled: &'a [bool; 1024],
-    catch_handlers: &'a [bool; 1024],
-    block: u16,
-) -> bool
+#[tactic(auto, unfolding(definition::specs::Context::has))]
+pub fn is_scheduled(scheduled: &[bool; 1024], catch_handlers: &[bool; 1024], block: u16) -> bool
     requires { block < 1024 }
     ensures { result ≡ has scheduled.now block || has catch_handlers.now block }
 {
     let at = block as usize;
-    if scheduled[at] {
-        return true;
-    }
-    catch_handlers[at]
-}
-
-// The number of a refusal, 0 where there is none.
-fn refusal(blocked: bool, code: u16) -> u16
-    ensures { result ≡ refusal_if blocked code }
-{
-    if blocked { code } else { 0 }
+    scheduled[at] || catch_handlers[at]
 }
 
 // ---- the search of the stack for a jump's target
@@ -205,44 +181,37 @@ pub fn count_loop(loops: u32, target: ControlFlowTarget) -> u32
     ensures { (result ≡ loops_of (target_of target) + loops) × (result ≤ loops + 1) }
 {
     match target {
-        ControlFlowTarget::If { block: _ } => loops,
-        ControlFlowTarget::Switch { block: _ } => loops,
-        ControlFlowTarget::Case { block: _ } => loops,
-        ControlFlowTarget::Loop {
-            block: _,
-            continue_block: _,
-            loop_block: _,
-        } => loops + 1,
+        ControlFlowTarget::Loop { .. } => loops + 1,
+        _ => loops,
     }
 }
 
 // A loop gives Unlabeled, or Labeled if a loop lies above. Another entry gives Implicit at the top, else Labeled.
+#[tactic(auto, using(crate::proofs::SearchLaws::break_labeled), unfolding(definition::specs::Context::break_kind))]
 fn break_kind(is_loop: bool, top: bool, loops: u32) -> ReactiveTerminalTargetKind
     ensures { kind_of result ≡ break_kind is_loop top loops }
 {
-    if is_loop {
-        if loops == 0 {
-            return ReactiveTerminalTargetKind::Unlabeled;
-        }
-        return ReactiveTerminalTargetKind::Labeled;
+    if is_loop && loops == 0 {
+        ReactiveTerminalTargetKind::Unlabeled
+    } else if top && !is_loop {
+        ReactiveTerminalTargetKind::Implicit
+    } else {
+        ReactiveTerminalTargetKind::Labeled
     }
-    if top {
-        return ReactiveTerminalTargetKind::Implicit;
-    }
-    ReactiveTerminalTargetKind::Labeled
 }
 
 // Labeled if a loop lies above, else Implicit at the top, else Unlabeled.
+#[tactic(auto, using(crate::proofs::SearchLaws::continue_labeled), unfolding(definition::specs::Context::continue_kind))]
 fn continue_kind(top: bool, loops: u32) -> ReactiveTerminalTargetKind
     ensures { kind_of result ≡ continue_kind top loops }
 {
     if loops > 0 {
-        return ReactiveTerminalTargetKind::Labeled;
+        ReactiveTerminalTargetKind::Labeled
+    } else if top {
+        ReactiveTerminalTargetKind::Implicit
+    } else {
+        ReactiveTerminalTargetKind::Unlabeled
     }
-    if top {
-        return ReactiveTerminalTargetKind::Implicit;
-    }
-    ReactiveTerminalTargetKind::Unlabeled
 }
 
 impl Resolution {
@@ -250,9 +219,7 @@ impl Resolution {
     pub fn block(self) -> u16
         ensures { result ≡ found_block self }
     {
-        let entry = self.entry;
-        let target = entry.target;
-        target.block()
+        self.entry.target.block()
     }
 }
 
@@ -260,13 +227,10 @@ impl Resolution {
 pub fn break_to(found: Entry, top: bool, loops: u32) -> Resolution
     ensures { (result.entry ≡ found) × (resolution_of result ≡ break_to (target_of found.target) top loops) }
 {
-    let target = found.target;
-    let is_loop = target.is_loop();
-    let kind = break_kind(is_loop, top, loops);
     Resolution {
         entry: found,
-        kind: kind,
-        loops: loops,
+        kind: break_kind(found.target.is_loop(), top, loops),
+        loops,
     }
 }
 
@@ -274,11 +238,10 @@ pub fn break_to(found: Entry, top: bool, loops: u32) -> Resolution
 pub fn continue_to(found: Entry, top: bool, loops: u32) -> Resolution
     ensures { (result.entry ≡ found) × (resolution_of result ≡ continue_to (target_of found.target) top loops) }
 {
-    let kind = continue_kind(top, loops);
     Resolution {
         entry: found,
-        kind: kind,
-        loops: loops,
+        kind: continue_kind(top, loops),
+        loops,
     }
 }
 
@@ -298,33 +261,29 @@ impl Context {
             len: 0,
             scheduled: [false; 1024],
             pushed: entry,
-            refused: 0,
+            refused: None,
             next_schedule_id: 0,
             stack: [entry; 1152],
         }
     }
 
-    // The one way to schedule any target; a loop has three blocks. `refused` is 15 where a loop's continue block is scheduled. A loop's fallthrough goes
-    // in without a test, and its continue block is tested after that. The new entry is in `pushed`.
+    // The one way to schedule any target; a loop has three blocks. A loop's fallthrough goes in without a test, and its continue block is tested after that.
+    // The new entry is in `pushed`.
     pub fn schedule(mut self, target: ControlFlowTarget) -> Context
         requires named { Named target }
         requires room { Room self }
         ensures { Scheduled target self result }
     {
         let mut scheduled = self.scheduled;
-        let mut refused: u16 = 0;
         let mut owns_loop = false;
+        let busy;
+        let refusal;
         match target {
-            ControlFlowTarget::If { block } => {
-                refused = refusal(scheduled[block as usize], 90);
-                scheduled[block as usize] = true;
-            }
-            ControlFlowTarget::Switch { block } => {
-                refused = refusal(scheduled[block as usize], 90);
-                scheduled[block as usize] = true;
-            }
-            ControlFlowTarget::Case { block } => {
-                refused = refusal(scheduled[block as usize], 90); // asked like any other
+            ControlFlowTarget::If { block }
+            | ControlFlowTarget::Switch { block }
+            | ControlFlowTarget::Case { block } => {
+                busy = scheduled[block as usize];
+                refusal = Blocked::Block;
                 scheduled[block as usize] = true;
             }
             ControlFlowTarget::Loop {
@@ -333,22 +292,22 @@ impl Context {
                 loop_block,
             } => {
                 scheduled[block as usize] = true; // without a test
-                refused = refusal(scheduled[continue_block as usize], 15);
+                busy = scheduled[continue_block as usize];
+                refusal = Blocked::ContinueBlock;
                 scheduled[continue_block as usize] = true;
                 owns_loop = !scheduled[loop_block as usize];
                 scheduled[loop_block as usize] = true;
             }
         }
-        let entry = Entry {
-            id: self.next_schedule_id,
-            target: target,
-            owns_loop: owns_loop,
-        };
         self.scheduled = scheduled;
-        self.refused = refused;
-        self.pushed = entry;
-        self.next_schedule_id = self.next_schedule_id + 1;
-        self.len = self.len + 1;
+        self.refused = busy.then_some(refusal);
+        self.pushed = Entry {
+            id: self.next_schedule_id,
+            target,
+            owns_loop,
+        };
+        self.next_schedule_id += 1;
+        self.len += 1;
         self
     }
 
@@ -359,15 +318,10 @@ impl Context {
         ensures { Unscheduled last self result }
     {
         let mut scheduled = self.scheduled;
-        let target = last.target;
-        match target {
-            ControlFlowTarget::If { block } => {
-                scheduled[block as usize] = false;
-            }
-            ControlFlowTarget::Switch { block } => {
-                scheduled[block as usize] = false;
-            }
-            ControlFlowTarget::Case { block } => {
+        match last.target {
+            ControlFlowTarget::If { block }
+            | ControlFlowTarget::Switch { block }
+            | ControlFlowTarget::Case { block } => {
                 scheduled[block as usize] = false;
             }
             ControlFlowTarget::Loop {
@@ -383,7 +337,7 @@ impl Context {
             }
         }
         self.scheduled = scheduled;
-        self.len = self.len - 1;
+        self.len -= 1;
         self
     }
 }

@@ -1,7 +1,7 @@
 // Which entry is asked for: the public parameter of the build.
 
 // The entry that equals the Rust, and the language entry.
-#[derive(Clone, Copy, Drop)]
+#[derive(Clone, Copy, PartialEq, Eq, Drop)]
 pub enum Rule {
     Rust,
     Language,

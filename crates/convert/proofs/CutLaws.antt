@@ -1,45 +1,79 @@
 -- Laws of words cut into rows.
-use Prim.Native.Nat.{ℕ, zero, suc, ◌+◌, ◌*◌, ◌-◌, ◌≤◌, ◌<◌}
+use Prim.Native.Nat.{ℕ, zero, suc, ◌+◌, ◌*◌, ◌-◌, ◌/◌, ◌≤◌, ◌<◌}
 use mathlib.Core.Path.{◌≡◌, refl, ap, ◌∙◌}
 use mathlib.Core.List.{List, [], ◌∷◌, ◌++◌, append_assoc}
 use native.Mathlib.Omega.{arith}
-use lib.ListN.{length, take, drop, length-take, length-drop}
-use lib.Seq.{drop-drop, take-add, take_at, drop_at, length-take-le}
+use native.Mathlib.Nat.{add-div_left, div-eq_of_lt, div-le_of_le-mul, mul-div_cancel, zero-div}
+use lib.ListN.{length, take, drop, length-append, length-take, length-drop}
+use lib.Seq.{take-add, take_at, drop_at, length-take-le, take-append-le, take-take}
+use Rattle.std.proofs.lemmas.List.{drop-take}
 use Rattle.text.specs.File.{Rows}
 use Rattle.text.specs.Line.{line, lines, flat}
 use Rattle.text.proofs.WriteLaws.{Narrow, narrow_words, narrow_take, narrow_drop, line_most}
-use Rattle.convert.specs.Cut.{cut}
+use Rattle.convert.specs.Cut.{cut, rows_in}
 
-pub rows_left : (left stride : ℕ) → 0 < left → left * stride ≡ stride + (left - 1) * stride
-rows_left zero stride p = absurd (omega arith)
-rows_left (suc n) stride p = let e : suc n - 1 ≡ n = omega arith in rw e (omega arith)
+-- ---- the whole rows of words
 
--- ---- a line for each row
+module _ (stride columns : ℕ) where
+  -- a row is one more
+  pub rows_counted : (row rest : List ℕ) → 0 < stride → length row ≡ stride → length (row ++ rest) / stride ≡ suc (length rest / stride)
+  rows_counted row rest some long = rw (length-append row rest, long, add-div_left (length rest) some) (omega arith)
 
-cut_open : (stride columns left : ℕ) (words : List ℕ) → 0 < left
-    → lines (cut stride columns left words) ≡ line (take columns words) ++ lines (cut stride columns (left - 1) (drop stride words))
+  -- it and those behind it
+  pub rows_open : (row rest : List ℕ) → 0 < stride → columns ≤ stride → length row ≡ stride → rows_in stride columns (row ++ rest) ≡ take columns row ∷ rows_in stride columns rest
+  unfolding cut
+  rows_open row rest some fits long =
+      rw (rows_counted row rest some long, take-append-le columns row rest (omega (arith, long)), drop_at row rest stride long)
+
+  pub rows_none : (rest : List ℕ) → length rest < stride → rows_in stride columns rest ≡ []
+  unfolding cut
+  rows_none rest p = rw (div-eq_of_lt p)
+
+  cut_take : (count : ℕ) (words : List ℕ) → columns ≤ stride → cut stride columns count (take (count * stride) words) ≡ cut stride columns count words
+  unfolding cut
+  cut_take zero words p = refl
+  cut_take (suc count) words p =
+      let e : suc count * stride ≡ stride + count * stride = omega arith in
+      rw (e, take-take columns (stride + count * stride) words (omega arith), drop-take stride (count * stride) words, cut_take count (drop stride words) p)
+
+  -- their lines
+  pub lines_open : (row rest written all : List ℕ) → 0 < stride → columns ≤ stride → length row ≡ stride → written ++ lines (rows_in stride columns (row ++ rest)) ≡ all
+      → (written ++ line (take columns row)) ++ lines (rows_in stride columns rest) ≡ all
+  unfolding lines
+  lines_open row rest written all some fits long h = append_assoc written _ _ ∙ rw (rows_open row rest some fits long) at h
+
+  pub lines_none : (rest : List ℕ) → length rest < stride → lines (rows_in stride columns rest) ≡ []
+  unfolding lines
+  lines_none rest p = rw (rows_none rest p)
+
+  -- those of so many words are so many
+  pub rows_taken : (count : ℕ) (words : List ℕ) → 0 < stride → columns ≤ stride → count * stride ≤ length words → rows_in stride columns (take (count * stride) words) ≡ cut stride columns count words
+  rows_taken count words some fits within =
+      rw (length-take-le (count * stride) words within, mul-div_cancel count some) (cut_take count words fits)
+
+-- the rows of a table, as a slice has them
+pub rows_between : (stride columns count begin end : ℕ) (words : List ℕ) → 0 < stride → columns ≤ stride → end ≡ begin + count * stride → end ≤ length words
+    → rows_in stride columns (take (end - begin) (drop begin words)) ≡ cut stride columns count (drop begin words)
+rows_between stride columns count begin end words some fits e within =
+    let long : end - begin ≡ count * stride = omega (arith, e) in
+    rw long (rows_taken stride columns count (drop begin words) some fits (rw (length-drop begin words) (omega (arith, e))))
+
+pub no_rows : (stride columns : ℕ) (words : List ℕ) → length words ≡ 0 → lines (rows_in stride columns words) ≡ []
 unfolding cut lines
-cut_open stride columns zero words p = absurd (omega arith)
-cut_open stride columns (suc left) words p = let e : suc left - 1 ≡ left = omega arith in rw e
+no_rows stride columns words e = rw (e, zero-div stride)
 
--- one row more, of those from the word `from` on
-pub lines_more : (stride columns left from : ℕ) (words written all : List ℕ) → 0 < left
-    → written ++ lines (cut stride columns left (drop from words)) ≡ all
-    → (written ++ line (take columns (drop from words))) ++ lines (cut stride columns (left - 1) (drop (from + stride) words)) ≡ all
-lines_more stride columns left from words written all p h =
-    append_assoc written _ _
-    ∙ rw (← (drop-drop stride from words), ← (cut_open stride columns left (drop from words) p)) h
+pub few_rows : (most stride n : ℕ) → n ≤ most * stride → n / stride ≤ most
+few_rows most stride n p = div-le_of_le-mul stride (omega arith)
 
-pub lines_done : (stride columns left : ℕ) (words : List ℕ) → left ≤ 0 → lines (cut stride columns left words) ≡ []
-unfolding cut lines
-lines_done stride columns zero words p = refl
-lines_done stride columns (suc left) words p = absurd (omega arith)
+-- words of 32 bits, in a row and behind it
+pub narrow_parts : (row rest : List ℕ) → Narrow (row ++ rest) → Narrow row × Narrow rest
+narrow_parts row rest n =
+    (rw (take_at row rest (length row) refl) at (narrow_take (length row) (row ++ rest) n), rw (drop_at row rest (length row) refl) at (narrow_drop (length row) (row ++ rest) n))
 
 -- a row's line has at most 11 bytes a number
-pub row_most : (columns from : ℕ) (words : List ℕ) → Narrow words → length (line (take columns (drop from words))) ≤ columns * 11
-row_most columns from words p =
-    let row = take columns (drop from words) in
-    omega (arith, line_most row (narrow_words row (narrow_take columns (drop from words) (narrow_drop from words p))), length-take columns (drop from words))
+pub row_most : (columns : ℕ) (row : List ℕ) → Narrow row → length (line (take columns row)) ≤ columns * 11
+row_most columns row p =
+    omega (arith, line_most (take columns row) (narrow_words (take columns row) (narrow_take columns row p)), length-take columns row)
 
 -- ---- the words of the rows, and the rows of the words
 

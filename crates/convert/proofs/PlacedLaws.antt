@@ -1,6 +1,7 @@
 -- The answer of `text::read::read`, told as code, place and number, is what the definition gives.
+use Rattle.std.specs.Prelude.{Ok, Err}
 use Prim.Native.Nat.{ℕ, ◌≤◌}
-use mathlib.Core.Path.{◌≡◌, refl, ap, ◌∙◌}
+use mathlib.Core.Path.{◌≡◌, refl, ap, ap₂, ◌∙◌}
 use mathlib.Core.Bool.{Bool, true, false}
 use mathlib.Core.List.{List}
 use lib.Dec.{leb}
@@ -8,56 +9,55 @@ use lib.ListN.{length, replicate}
 use borrow.Author.Tests.{le-leb}
 use Rattle.text.specs.Layout.{layout}
 use Rattle.text.specs.Lent.{padded}
-use Rattle.text.specs.Answer.{Accepted}
+use Rattle.text.specs.Answer.{Answer, Accepted, code_of, place_of}
 use Rattle.text.specs.Reading.{Reading, reads, refuses, reading, WordsRead, read_into}
 use Rattle.text.specs.declared.version.Version.TheVariants.{New}
-use Rattle.text.specs.declared.read.Answer.{Answer}
-use Rattle.text.specs.declared.read.Answer.TheVariants as answer
-use Rattle.text.proofs.ReadingLaws.{accepted_reads}
+use Rattle.text.specs.declared.read.ReadError.{ReadError}
+use Rattle.text.specs.declared.read.ReadError.TheVariants.{NoRoom}
+use Rattle.text.proofs.ReadingLaws.{Says, reading_says, error_numbers, accepted_reads}
 use Rattle.convert.specs.Read.{WordsPlaced, refusal, placed_in, table_read}
 
 -- what the code makes of an answer
 abbrev told : Answer → (lent : List ℕ) → WordsPlaced
-told (answer.Words count) lent = record { code = 0; at = 0; count = count; lent = lent }
-told (answer.Refused code at) lent = record { code = code; at = at; count = 0; lent = lent }
-told answer.NoRoom lent = record { code = 54; at = 0; count = 0; lent = lent }
+told (Ok count) lent = record { code = 0; at = 0; count = count; lent = lent }
+told (Err error) lent = record { code = code_of error; at = place_of error; count = 0; lent = lent }
 
 abbrev told_of : WordsRead → WordsPlaced
 told_of w = told w.answer w.lent
 
-into_told : (room : ℕ) (r : Reading) → told_of (read_into room r) ≡ placed_in room r
+into_told : (file : List ℕ) (room : ℕ) (r : Reading) → Says (layout New) file r → told_of (read_into room r) ≡ placed_in room r
 unfolding read_into placed_in refusal
-into_told room (reads words) = by (leb (length words) room)
+into_told file room (reads words) s = by (leb (length words) room)
   where
     by : (fits : Bool)
         → told_of (elim fits [
-          | true ↦ record { answer = answer.Words (length words); lent = padded room words }
-          | false ↦ record { answer = answer.NoRoom; lent = replicate room 0 }
+          | true ↦ record { answer = Ok (length words); lent = padded room words }
+          | false ↦ record { answer = Err NoRoom; lent = replicate room 0 }
         ]) ≡ elim fits [
           | true ↦ record { code = 0; at = 0; count = length words; lent = padded room words }
           | false ↦ refusal 54 0 room
         ]
     by true = refl
     by false = refl
-into_told room (refuses code at) = refl
+into_told file room (refuses code at) s =
+    let same = error_numbers s in
+    ap₂ (λ (c a : ℕ). record { code = c; at = a; count = 0; lent = replicate room 0 }) same.0 same.1
 
 -- an answer of the reader is told as the definition has it
 module _ (file : List ℕ) (room : ℕ) where
   told_read : (w : WordsRead) → w ≡ read_into room (reading (layout New) file) → told_of w ≡ table_read file room
   unfolding table_read
-  told_read w e = ap told_of e ∙ into_told room (reading (layout New) file)
+  told_read w e = ap told_of e ∙ into_told file room (reading (layout New) file) (reading_says (layout New) file)
 
   abbrev Read : Answer → (lent : List ℕ) → Type 0
   Read a lent = record { answer = a; lent = lent } ≡ read_into room (reading (layout New) file)
 
-  pub words_told : {count : ℕ} {lent : List ℕ} → Read (answer.Words count) lent → record { code = 0; at = 0; count = count; lent = lent } ≡ table_read file room
+  pub words_told : {count : ℕ} {lent : List ℕ} → Read (Ok count) lent → record { code = 0; at = 0; count = count; lent = lent } ≡ table_read file room
   words_told e = told_read _ e
 
-  pub refused_told : {code at : ℕ} {lent : List ℕ} → Read (answer.Refused code at) lent → record { code = code; at = at; count = 0; lent = lent } ≡ table_read file room
-  refused_told e = told_read _ e
-
-  pub short_told : {lent : List ℕ} → Read answer.NoRoom lent → record { code = 54; at = 0; count = 0; lent = lent } ≡ table_read file room
-  short_told e = told_read _ e
+  pub error_told : {error : ReadError} {lent : List ℕ} → Read (Err error) lent
+      → record { code = code_of error; at = place_of error; count = 0; lent = lent } ≡ table_read file room
+  error_told e = told_read _ e
 
   -- a good file is read as its words
   pub good_read : (words : List ℕ) → Accepted (layout New) file words → length words ≤ room

@@ -1,10 +1,13 @@
 -- Laws of the two ends of spans, and of places without the second.
 use Prim.Native.Nat.{ℕ, zero, suc, ◌+◌, ◌-◌, ◌*◌, ◌/◌, ◌≤◌, ◌<◌}
-use mathlib.Core.Path.{◌≡◌, refl}
+use mathlib.Core.Path.{◌≡◌, refl, sym}
+use mathlib.Core.Bool.{true, false}
 use mathlib.Core.List.{List}
 use native.Mathlib.Omega.{arith}
 use lib.ListN.{get_or}
 use borrow.Author.Tests.{lt-ltb, le-ltb, eq-eqb, ne_eqb}
+use Rattle.std.specs.Prelude.{Option, None, Some, is_some}
+use Rattle.std.proofs.lemmas.Bool.{false≢true}
 use Rattle.table.specs.Words.{word, block_count, instruction_count, blocks_begin, instructions_begin}
 use Rattle.table.specs.Check.{accepted, refused, and_then}
 use Rattle.convert.specs.Convert.{ends_agree, spans_verdict}
@@ -32,10 +35,6 @@ module _ (blocks instructions at : ℕ) where
 
 -- ---- the first `to` that differs from its `from`
 
-pub apart_some : (at : ℕ) → 0 < at → apart_at at ≡ refused 52 at
-apart_some zero p = absurd (omega arith)
-apart_some (suc at) p = refl
-
 module _ (words : List ℕ) (width at left : ℕ) where
   pub ends_more : 0 < left → get_or words (at + (width - 2)) 0 ≡ get_or words (at + (width - 1)) 0
       → ends_agree words width at left ≡ ends_agree words width (at + width) (left - 1)
@@ -62,15 +61,19 @@ module _ (words : List ℕ) (width at left : ℕ) where
   ends_done p = let none : left ≡ 0 = omega arith in rw none
 
 -- blocks before instructions
-pub spans_blocks : (words : List ℕ) (apart : ℕ) → apart_at apart ≡ ends_agree words 11 6 (block_count words) → (apart ≡ 0 → ⊥) → apart_at apart ≡ spans_verdict words
+pub spans_blocks : (words : List ℕ) (apart : Option ℕ) → apart_at apart ≡ ends_agree words 11 6 (block_count words) → is_some apart ≡ true → apart_at apart ≡ spans_verdict words
 unfolding spans_verdict blocks_begin and_then
 spans_blocks words apart e some = rw (← e) (by apart some)
   where
-    by : (apart : ℕ) → (apart ≡ 0 → ⊥) → apart_at apart ≡ and_then (apart_at apart) (ends_agree words 7 (instructions_begin words) (instruction_count words))
-    by zero some = absurd (some refl)
-    by (suc apart) some = refl
+    by : (apart : Option ℕ) → is_some apart ≡ true → apart_at apart ≡ and_then (apart_at apart) (ends_agree words 7 (instructions_begin words) (instruction_count words))
+    by None some = absurd (false≢true some)
+    by (Some at) some = refl
 
-pub spans_instructions : (words : List ℕ) (apart at : ℕ) → apart_at apart ≡ ends_agree words 11 6 (block_count words) → apart ≡ 0
+pub spans_instructions : (words : List ℕ) (apart at : Option ℕ) → apart_at apart ≡ ends_agree words 11 6 (block_count words) → is_some apart ≡ false
     → apart_at at ≡ ends_agree words 7 (instructions_begin words) (instruction_count words) → apart_at at ≡ spans_verdict words
 unfolding spans_verdict blocks_begin and_then
-spans_instructions words apart at e none h = rw (← e, none) h
+spans_instructions words apart at e none h = rw (← e) (by apart none)
+  where
+    by : (apart : Option ℕ) → is_some apart ≡ false → apart_at at ≡ and_then (apart_at apart) (ends_agree words 7 (instructions_begin words) (instruction_count words))
+    by None none = h
+    by (Some at) none = absurd (false≢true (sym none))

@@ -1,36 +1,40 @@
 -- From the tables' texts to the text of the whole; and where the tables lie in the words.
 use Prim.Native.Nat.{ℕ, ◌+◌, ◌*◌, ◌≤◌}
-use mathlib.Core.Path.{◌≡◌, sym}
-use mathlib.Core.Bool.{true, false}
+use Rattle.std.specs.Prelude.{Ok, Err}
+use mathlib.Core.Path.{◌≡◌, refl}
 use mathlib.Core.List.{List, [], ◌++◌, append_assoc, append-nil}
 use native.Mathlib.Omega.{arith}
 use lib.ListN.{length, get_or, take}
 use Rattle.table.specs.Words.{word, block_count, instruction_count, case_count, place_count, identifier_count, blocks_begin, instructions_begin, cases_begin, places_begin, identifiers_begin, words_needed}
-use Rattle.table.specs.Check.{Verdict, accepted, refused, checked}
-use Rattle.table.specs.Answer.{code_of, place_of, is_accepted}
-use Rattle.table.specs.Promise.{Sized, Promise}
-use Rattle.table.proofs.PromiseLaws.{promised}
+use Rattle.table.specs.Check.{accepted, refused, checked}
+use Rattle.table.specs.Answer.{refusal_code, refusal_place}
+use Rattle.table.specs.declared.Refusal.{Refusal}
+use Rattle.table.specs.Promise.{Sized}
 use Rattle.text.specs.Layout.{layout, block_columns, instruction_columns}
 use Rattle.text.specs.Line.{line, lines}
 use Rattle.text.specs.Printed.{Wrote}
-use Rattle.text.specs.Placed.{Placing, refusal, placed}
+use Rattle.text.specs.Placed.{finished as finished_by}
 use Rattle.text.specs.declared.version.Version.{Version}
-use Rattle.text.specs.declared.version.Version.TheVariants.{New}
+use Rattle.text.specs.declared.version.Version.TheVariants.{Old, New}
+use Rattle.text.proofs.LentLaws.{holds_none}
+use Rattle.text.proofs.PlacedLaws.{finished_text}
 use Rattle.text.proofs.WriteLaws.{wrote_then}
 use Rattle.convert.specs.Cut.{cut, instructions_at, cases_at, places_at, identifiers_at, end_at, Shaped, tables_in, text_in}
 use Rattle.convert.specs.WrittenParts.{part_text, head_text, rest_text}
 use Rattle.convert.specs.Write.{unless_refused, table_written, table_text}
+use Rattle.convert.specs.WriteAnswer.{code_of, place_of, finished}
+use Rattle.convert.specs.declared.writing.WriteError.TheVariants.{Table, NoRoom}
 
 -- ---- where the tables lie
 
--- each table ends within the words, and none has more than 4,096 rows
+-- each table ends where the next begins, and none has more than 4,096 rows
 pub record Within (words : List ℕ) : Type 0 where
   pub head : 6 ≤ length words
-  pub blocks : 6 + block_count words * 11 ≤ length words
-  pub instructions : instructions_begin words + instruction_count words * 7 ≤ length words
-  pub cases : cases_begin words + case_count words * 2 ≤ length words
-  pub places : places_begin words + place_count words ≤ length words
-  pub identifiers : identifiers_begin words + identifier_count words ≤ length words
+  pub blocks : instructions_begin words ≡ 6 + block_count words * 11
+  pub instructions : cases_begin words ≡ instructions_begin words + instruction_count words * 7
+  pub cases : places_begin words ≡ cases_begin words + case_count words * 2
+  pub places : identifiers_begin words ≡ places_begin words + place_count words
+  pub identifiers : length words ≡ identifiers_begin words + identifier_count words
   pub few_blocks : block_count words ≤ 1024
   pub few_instructions : instruction_count words ≤ 4096
   pub few_cases : case_count words ≤ 1024
@@ -48,6 +52,15 @@ unfolding words_needed identifiers_begin places_begin cases_begin instructions_b
 sized_shaped words s = record { head = s.limited.head; long = omega (arith, s.long) }
 
 -- ---- the text
+
+-- the lines of names are short, and a row has at least so many words
+pub blocks_short : (version : Version) → (length (block_columns version).names ≤ 64) × ((block_columns version).width ≤ 11)
+blocks_short Old = (omega arith, omega arith)
+blocks_short New = (omega arith, omega arith)
+
+pub instructions_short : (version : Version) → (length (instruction_columns version).names ≤ 64) × ((instruction_columns version).width ≤ 7)
+instructions_short Old = (omega arith, omega arith)
+instructions_short New = (omega arith, omega arith)
 
 regroup : (a b c d e f g h i j k l : List ℕ)
     → (a ++ (b ++ [])) ++ ((c ++ d) ++ ((e ++ f) ++ ((g ++ h) ++ ((i ++ j) ++ (k ++ l))))) ≡ a ++ b ++ c ++ d ++ e ++ f ++ g ++ h ++ i ++ j ++ k ++ l
@@ -78,35 +91,11 @@ tables_wrote version words head blocks instructions rest =
 
 -- ---- the answer
 
-never : true ≡ false → ⊥
-never e = let z : ◌≡◌ {A = ℕ} 0 1 = cc in omega arith
+module _ (words before text : List ℕ) (long : length text ≡ length before) where
+  pub written_accepted : {end : ℕ} → accepted ≡ checked words → Wrote before 0 (table_text words) text end → finished (Ok end) text ≡ table_written words (length before)
+  unfolding table_written unless_refused
+  written_accepted v wrote = rw (← v) (rw long at (finished_text code_of place_of NoRoom _ _ _ refl (wrote.holds [] (holds_none _))))
 
-module _ (verdict : Verdict) (lent : ℕ) (text : List ℕ) (d : Placing) where
-  pub accepted_placed : is_accepted verdict ≡ true → d ≡ placed 53 lent text → d ≡ unless_refused verdict lent text
-  unfolding unless_refused
-  accepted_placed a e = by verdict a
-    where
-      by : (v : Verdict) → is_accepted v ≡ true → d ≡ unless_refused v lent text
-      by accepted a = e
-      by (refused code at) a = absurd (never (sym a))
-
-  pub refused_placed : is_accepted verdict ≡ false → d ≡ refusal (code_of verdict) (place_of verdict) lent → d ≡ unless_refused verdict lent text
-  unfolding unless_refused
-  refused_placed a e = by verdict a e
-    where
-      by : (v : Verdict) → is_accepted v ≡ false → d ≡ refusal (code_of v) (place_of v) lent → d ≡ unless_refused v lent text
-      by accepted a e = absurd (never a)
-      by (refused code at) a e = e
-
-pub accepted_promise : (words : List ℕ) (verdict : Verdict) → verdict ≡ checked words → is_accepted verdict ≡ true → Promise words
-accepted_promise words accepted e a = promised words (sym e)
-accepted_promise words (refused code at) e a = absurd (never (sym a))
-
-module _ (words : List ℕ) (verdict : Verdict) (is : verdict ≡ checked words) where
-  pub written_accepted : (lent lent' : ℕ) (d : Placing) → is_accepted verdict ≡ true → lent' ≡ lent → d ≡ placed 53 lent' (table_text words) → d ≡ table_written words lent
-  unfolding table_written
-  written_accepted lent lent' d a l e = rw (← is) (accepted_placed verdict lent (table_text words) d a (rw l at e))
-
-  pub written_refused : (lent : ℕ) (d : Placing) → is_accepted verdict ≡ false → d ≡ refusal (code_of verdict) (place_of verdict) lent → d ≡ table_written words lent
-  unfolding table_written
-  written_refused lent d a e = rw (← is) (refused_placed verdict lent (table_text words) d a e)
+  pub written_refused : (refusal : Refusal) → refused (refusal_code refusal) (refusal_place refusal) ≡ checked words → finished (Err (Table refusal)) text ≡ table_written words (length before)
+  unfolding table_written unless_refused finished_by
+  written_refused refusal v = rw (← v, long) refl

@@ -1,10 +1,11 @@
 -- Laws of widened words: where each word of the old ones stands in them.
-use Prim.Native.Nat.{ℕ, zero, suc, ◌+◌, ◌-◌, ◌*◌, ◌≤◌, ◌<◌}
+use Prim.Native.Nat.{ℕ, zero, suc, ◌+◌, ◌-◌, ◌*◌, ◌/◌, ◌≤◌, ◌<◌}
 use mathlib.Core.Path.{◌≡◌, refl, sym, ap, ◌∙◌}
-use mathlib.Core.List.{List, [], ◌∷◌, ◌++◌, append_assoc}
+use mathlib.Core.List.{List, [], ◌∷◌, ◌++◌, map, append_assoc}
 use native.Mathlib.Omega.{arith}
+use native.Mathlib.Nat.{div-eq_of_lt}
 use lib.ListN.{length, get_or, take, drop, length-append, length-drop, get_or-append}
-use lib.Seq.{take_all, drop-drop, drop_at, take_at, length-take-le, get_or-take, get_or-drop, get_or-append-add, get_or-append_seam}
+use lib.Seq.{take_all, drop-drop, drop_at, take_at, length-take-le, get_or-take, get_or-append-add, get_or-append_seam}
 use Rattle.text.specs.Layout.{layout}
 use Rattle.text.specs.Line.{flat}
 use Rattle.text.specs.declared.version.Version.TheVariants.{Old, New}
@@ -12,6 +13,7 @@ use Rattle.text.specs.Printed.{Wrote}
 use Rattle.text.proofs.LentLaws.{holds_none, holds_all}
 use Rattle.text.proofs.WriteLaws.{wrote_then}
 use Rattle.convert.specs.Cut.{cut, instructions_at, cases_at, places_at, identifiers_at, end_at, Shaped}
+use Rattle.convert.proofs.CutLaws.{rows_open, rows_between}
 use Rattle.convert.proofs.GoodLaws.{behind}
 use Rattle.convert.specs.Widen.{doubled, doubled_rows, widened}
 
@@ -40,18 +42,23 @@ pub doubled_none : (width left : ℕ) (words : List ℕ) → left ≤ 0 → doub
 unfolding doubled_rows cut flat
 doubled_none width left words p = let none : left ≡ 0 = omega arith in rw none
 
--- the row's words and its last, as they are copied
-pub doubled_more : (width left from : ℕ) (words written all : List ℕ) → 0 < left → 1 ≤ width → from + width ≤ length words
-    → written ++ doubled_rows width left (drop from words) ≡ all
-    → (written ++ (take width (drop from words) ++ (get_or words (from + width - 1) 0 ∷ []))) ++ doubled_rows width (left - 1) (drop (from + width) words) ≡ all
-unfolding doubled
-doubled_more width left from words written all p q r h =
-    let l : length (take width (drop from words)) ≡ width = length-take-le width (drop from words) (rw (length-drop from words) (omega arith)) in
-    let n : left ≡ suc (left - 1) = omega arith in
-    let e : from + width - 1 ≡ from + (width - 1) = omega arith in
-    let last : get_or (take width (drop from words)) (width - 1) 0 ≡ get_or words (from + width - 1) 0 =
-    rw e (get_or-take width (drop from words) (width - 1) 0 (omega arith) ∙ get_or-drop from words (width - 1) 0) in
-    append_assoc written _ _ ∙ rw (← (drop-drop width from words), ← last) (rw (n, doubled_open width (left - 1) (drop from words), l) at h)
+-- a row's words and its last, as they are copied
+pub doubled_more : (width : ℕ) (row rest written all : List ℕ) → 0 < width → length row ≡ width
+    → written ++ doubled_rows width (length (row ++ rest) / width) (row ++ rest) ≡ all
+    → (written ++ (row ++ (get_or row (width - 1) 0 ∷ []))) ++ doubled_rows width (length rest / width) rest ≡ all
+unfolding doubled_rows doubled flat
+doubled_more width row rest written all some long h =
+    append_assoc written _ _ ∙ rw (rows_open width width row rest some (omega arith) long, take_all width row (omega (arith, long)), long) at h
+
+pub doubled_end_of_rows : (width : ℕ) (rest : List ℕ) → length rest < width → doubled_rows width (length rest / width) rest ≡ []
+doubled_end_of_rows width rest p = doubled_none width (length rest / width) rest (rw (div-eq_of_lt p) (omega arith))
+
+-- those of so many words, as a slice has them
+pub doubled_between : (width count begin end : ℕ) (words : List ℕ) → 0 < width → end ≡ begin + count * width → end ≤ length words
+    → doubled_rows width (length (take (end - begin) (drop begin words)) / width) (take (end - begin) (drop begin words)) ≡ doubled_rows width count (drop begin words)
+unfolding doubled_rows
+doubled_between width count begin end words some e within =
+    ap (λ (rows : List (List ℕ)). flat (map doubled rows)) (rows_between width width count begin end words some (omega arith) e within)
 
 module _ (width : ℕ) (some : 1 ≤ width) where
   pub length_doubled_rows : (count : ℕ) (words : List ℕ) → count * width ≤ length words → length (doubled_rows width count words) ≡ count * suc width

@@ -7,6 +7,7 @@ use Rattle.text.specs.Answer.{Accepted, Refusal}
 use Rattle.text.specs.Reading.{Reading, reads, refuses, reading}
 use Rattle.text.specs.Lent.{padded}
 use Rattle.text.specs.Placed.{Placing, refusal}
+use Rattle.text.specs.declared.version.Version.{Version}
 use Rattle.text.specs.declared.version.Version.TheVariants.{Old, New}
 use Rattle.convert.specs.Cut.{text_in}
 use Rattle.convert.specs.Write.{table_text, unless_refused}
@@ -45,6 +46,11 @@ old_to_new file lent = of_reading new_of_old lent (reading (layout Old) file)
 
 unfoldable pub new_to_old : (file : List ℕ) → (lent : ℕ) → Placing
 new_to_old file lent = of_reading old_of_new lent (reading (layout New) file)
+
+-- the two by the form that is read
+abbrev pub conversion : Version → (file : List ℕ) → (lent : ℕ) → Placing
+conversion Old = old_to_new
+conversion New = new_to_old
 
 -- ---- the same with no reader in it: the file is good and has these words, or it is refused
 

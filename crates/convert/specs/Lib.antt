@@ -1,9 +1,11 @@
 pub mod Cut
 pub mod WrittenParts
 pub mod Write
+pub mod WriteAnswer
 pub mod OldCheck
 pub mod Widen
 pub mod Convert
+pub mod ConvertAnswer
 pub mod Parts
 pub mod Prints
 pub mod Read

@@ -1,5 +1,5 @@
 -- The contracts of the functions below the converters.
-use Rattle.std.specs.Prelude.{ℕ, zero, suc, ◌+◌, ◌-◌, ◌*◌, ◌/◌, List, true, false, ltb}
+use Rattle.std.specs.Prelude.{ℕ, ◌+◌, ◌-◌, ◌*◌, ◌/◌, List, Option, None, Some, true, false, ltb}
 use Rattle.table.specs.Words.{block_count, instruction_count}
 use Rattle.table.specs.Check.{Verdict, accepted, refused, checked}
 use Rattle.text.specs.Placed.{Placing}
@@ -34,7 +34,7 @@ moved_back wide = moved (old_place (block_count wide) (instruction_count wide)) 
 abbrev pub of_wide : (wide : List ℕ) → (lent : ℕ) → Placing
 of_wide wide lent = unless_refused (moved_back wide) lent (table_text wide)
 
--- the place of the first `to` that differs from its `from`; 0 where all agree
-abbrev pub apart_at : ℕ → Verdict
-apart_at zero = accepted
-apart_at (suc n) = refused 52 (suc n)
+-- the place of the first `to` that differs from its `from`, if one does
+abbrev pub apart_at : Option ℕ → Verdict
+apart_at None = accepted
+apart_at (Some at) = refused 52 at

@@ -10,110 +10,148 @@ pub mod written_tables;
 
 ghost use Rattle.std.specs.Prelude.{◌≡◌, ◌≤◌, length};
 ghost use Rattle.text.specs.Layout.{layout};
-ghost use Rattle.text.specs.Placed.{placing};
 ghost use Rattle.text.specs.declared.version.Version.TheVariants.{Old, New};
 ghost use Rattle.convert.specs.Cut.{Shaped};
-ghost use Rattle.convert.specs.Convert.{new_of_old, old_of_new, old_to_new, new_to_old};
+ghost use Rattle.convert.specs.Convert.{new_of_old, old_of_new, old_to_new, new_to_old, conversion};
+ghost use Rattle.convert.specs.ConvertAnswer.{code_of, place_of, placing, finished};
 ghost use Rattle.convert.specs.Parts.{of_wide};
+ghost use Rattle.convert.specs.declared.ConvertError.TheVariants.{File, Table};
 
-use crate::spans::{first_apart, old_place};
+use crate::spans::{first_apart, in_old_form};
 use crate::widen::widen;
 use crate::written_tables::write_tables;
+use table::Refusal;
 use table_check::check;
-use text::lent::lent_words;
-use text::placed::{Placed, finish, refuse};
-use text::read::{Answer, read_as};
+use text::lent::{FILE_WORDS, zeros};
+use text::placed::{Coded, finish, tell};
+use text::read::{ReadError, read_as};
 use text::version::Version;
 
-// 16,384 old words have at most 2,730 rows with a span.
-fn lent_wide() -> [u32; 19456]
-    ensures { 19456 ≡ length result }
-{
-    [0; 19456]
+// Why a file is not converted. `code_of` and `place_of` in specs/ConvertAnswer.antt have the papers' numbers.
+#[derive(Clone, Copy, Debug, PartialEq, Eq)]
+pub enum ConvertError {
+    // The file is not read.
+    File(ReadError),
+    // Its words are no table. The place is in words of the form read.
+    Table(Refusal),
+    // The `to` in this word differs from its `from`.
+    SpanApart(u32),
+    // The text has more bytes than were lent.
+    NoRoom,
+}
+
+impl From<ReadError> for ConvertError {
+    ghost from_gives = { λ error converted. converted ≡ File error };
+
+    fn from(error: ReadError) -> ConvertError {
+        ConvertError::File(error)
+    }
+}
+
+impl From<Refusal> for ConvertError {
+    ghost from_gives = { λ refusal converted. converted ≡ Table refusal };
+
+    fn from(refusal: Refusal) -> ConvertError {
+        ConvertError::Table(refusal)
+    }
+}
+
+impl Coded for ConvertError {
+    ghost code_of = { code_of };
+
+    ghost place_of = { place_of };
+
+    fn code(self) -> u32 {
+        match self {
+            ConvertError::File(error) => error.code(),
+            ConvertError::Table(refusal) => refusal.code(),
+            ConvertError::SpanApart(_) => 52,
+            ConvertError::NoRoom => 53,
+        }
+    }
+
+    fn place(self) -> u32 {
+        match self {
+            ConvertError::File(error) => error.place(),
+            ConvertError::Table(refusal) => refusal.place(),
+            ConvertError::SpanApart(at) => at,
+            ConvertError::NoRoom => 0,
+        }
+    }
 }
 
 // Checks widened words and writes them. A refusal has its place in the old form.
-fn write_wide(wide: &[u32], text: &mut [u8]) -> Placed
+fn write_wide(wide: &[u32], text: &mut [u8]) -> Result<usize, ConvertError>
     requires shaped { Shaped (layout New) wide.now }
     requires wide_len_bound { length wide.now ≤ 19456 }
-    ensures { placing result text.new ≡ of_wide wide.now (length text.old) }
+    ensures { finished result text.new ≡ of_wide wide.now (length text.old) }
 {
-    let checked = check(wide);
-    if checked.is_accepted() {
-        let end = write_tables(wide, Version::New, text);
-        return finish(text, end, 53);
+    match check(wide) {
+        Ok(()) => Ok(write_tables(wide, Version::New, text)),
+        Err(refusal) => Err(ConvertError::Table(in_old_form(wide, refusal))),
     }
-    refuse(text, checked.code(), old_place(wide, checked.place()))
 }
 
-// Old words into a new text.
-fn convert_old(old: &[u32], text: &mut [u8]) -> Placed
+// Writes old words as a new text, as far as there are bytes, and gives its end.
+fn convert_old(old: &[u32], text: &mut [u8]) -> Result<usize, ConvertError>
     requires shaped { Shaped (layout Old) old.now }
     requires len_bound { length old.now ≤ 16384 }
-    ensures { placing result text.new ≡ new_of_old old.now (length text.old) }
+    ensures { finished result text.new ≡ new_of_old old.now (length text.old) }
 {
-    let mut wide = lent_wide();
+    // 16,384 old words have at most 2,730 rows with a span.
+    let mut wide: [u32; 19456] = zeros();
     let count = widen(old, &mut wide);
     write_wide(&wide[..count], text)
 }
 
-// New words into an old text.
-fn convert_new(words: &[u32], text: &mut [u8]) -> Placed
-    ensures { placing result text.new ≡ old_of_new words.now (length text.old) }
+// Writes new words as an old text.
+fn convert_new(words: &[u32], text: &mut [u8]) -> Result<usize, ConvertError>
+    ensures { finished result text.new ≡ old_of_new words.now (length text.old) }
 {
-    let checked = check(words);
-    if !checked.is_accepted() {
-        return refuse(text, checked.code(), checked.place());
+    check(words)?;
+    match first_apart(words) {
+        Some(at) => Err(ConvertError::SpanApart(at)),
+        None => Ok(write_tables(words, Version::Old, text)),
     }
-    let apart = first_apart(words);
-    if apart != 0 {
-        return refuse(text, 52, apart);
+}
+
+// Writes a file of a form in the other form.
+fn convert(file: &[u8], version: Version, text: &mut [u8]) -> Result<usize, ConvertError>
+    ensures { finished result text.new ≡ conversion version file.now (length text.old) }
+{
+    let mut words = zeros::<u32, FILE_WORDS>();
+    let count = read_as(file, version, &mut words)?;
+    match version {
+        Version::Old => convert_old(&words[..count], text),
+        Version::New => convert_new(&words[..count], text),
     }
-    let end = write_tables(words, Version::Old, text);
-    finish(text, end, 53)
 }
 
 // Converts any file of the old form into a lent buffer of any length.
-pub fn old_to_new(file: &[u8], text: &mut [u8]) -> Placed
+pub fn old_to_new(file: &[u8], text: &mut [u8]) -> Result<usize, ConvertError>
     ensures { placing result text.new ≡ old_to_new file.now (length text.old) }
 {
-    let mut words = lent_words();
-    let answer = read_as(file, Version::Old, &mut words);
-    match answer {
-        Answer::Words(count) => convert_old(&words[..count], text),
-        Answer::Refused { code, at } => refuse(text, code, at),
-        Answer::NoRoom => refuse(text, 53, 0),
-    }
+    let written = convert(file, Version::Old, text);
+    finish(written, text, ConvertError::NoRoom)
 }
 
 // Converts any file of the new form into a lent buffer of any length.
-pub fn new_to_old(file: &[u8], text: &mut [u8]) -> Placed
+pub fn new_to_old(file: &[u8], text: &mut [u8]) -> Result<usize, ConvertError>
     ensures { placing result text.new ≡ new_to_old file.now (length text.old) }
 {
-    let mut words = lent_words();
-    let answer = read_as(file, Version::New, &mut words);
-    match answer {
-        Answer::Words(count) => convert_new(&words[..count], text),
-        Answer::Refused { code, at } => refuse(text, code, at),
-        Answer::NoRoom => refuse(text, 53, 0),
-    }
+    let written = convert(file, Version::New, text);
+    finish(written, text, ConvertError::NoRoom)
 }
 
 // The same for callers in C or Rust: the code, and the other two by reference.
 pub fn table_old_to_new(file: &[u8], text: &mut [u8], at: &mut u32, size: &mut usize) -> u32
     ensures { record { code = result; at = at.new; length = size.new; buffer = text.new } ≡ old_to_new file.now (length text.old) }
 {
-    let converted = old_to_new(file, text);
-    *at = converted.at;
-    *size = converted.length;
-    converted.code
+    tell(old_to_new(file, text), at, size)
 }
 
 pub fn table_new_to_old(file: &[u8], text: &mut [u8], at: &mut u32, size: &mut usize) -> u32
     ensures { record { code = result; at = at.new; length = size.new; buffer = text.new } ≡ new_to_old file.now (length text.old) }
 {
-    let converted = new_to_old(file, text);
-    *at = converted.at;
-    *size = converted.length;
-    converted.code
+    tell(new_to_old(file, text), at, size)
 }

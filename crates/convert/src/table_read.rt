@@ -2,7 +2,7 @@
 ghost use Rattle.std.specs.Prelude.{◌≡◌, length};
 ghost use Rattle.convert.specs.Read.{table_read};
 
-use text::read::{Answer, read};
+use text::read::read;
 
 // Takes any bytes and any lent words. Gives the code, and by reference its place and the number of words.
 pub fn table_read(file: &[u8], words: &mut [u32], at: &mut u32, count: &mut usize) -> u32
@@ -10,16 +10,14 @@ pub fn table_read(file: &[u8], words: &mut [u32], at: &mut u32, count: &mut usiz
 {
     *at = 0;
     *count = 0;
-    let answer = read(file, words);
-    match answer {
-        Answer::Words(number) => {
+    match read(file, words) {
+        Ok(number) => {
             *count = number;
             0
         }
-        Answer::Refused { code, at: place } => {
-            *at = place;
-            code
+        Err(error) => {
+            *at = error.place();
+            error.code()
         }
-        Answer::NoRoom => 54,
     }
 }

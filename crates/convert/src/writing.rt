@@ -1,31 +1,70 @@
 // M-112: the canonical text of a table's words.
 ghost use Rattle.std.specs.Prelude.{◌≡◌, length};
-ghost use Rattle.text.specs.Placed.{placing};
 ghost use Rattle.convert.specs.Write.{table_written};
+ghost use Rattle.convert.specs.WriteAnswer.{code_of, place_of, placing, finished};
+ghost use Rattle.convert.specs.declared.writing.WriteError.TheVariants.{Table};
 
 use crate::written_tables::write_tables;
+use table::Refusal;
 use table_check::check;
-use text::placed::{Placed, finish, refuse};
+use text::placed::{Coded, finish, tell};
 use text::version::Version;
 
+// Why words are not written. `code_of` and `place_of` in specs/WriteAnswer.antt have the papers' numbers.
+#[derive(Clone, Copy, Debug, PartialEq, Eq)]
+pub enum WriteError {
+    // The words are no table.
+    Table(Refusal),
+    // The text has more bytes than were lent.
+    NoRoom,
+}
+
+impl From<Refusal> for WriteError {
+    ghost from_gives = { λ refusal error. error ≡ Table refusal };
+
+    fn from(refusal: Refusal) -> WriteError {
+        WriteError::Table(refusal)
+    }
+}
+
+impl Coded for WriteError {
+    ghost code_of = { code_of };
+
+    ghost place_of = { place_of };
+
+    fn code(self) -> u32 {
+        match self {
+            WriteError::Table(refusal) => refusal.code(),
+            WriteError::NoRoom => 53,
+        }
+    }
+
+    fn place(self) -> u32 {
+        match self {
+            WriteError::Table(refusal) => refusal.place(),
+            WriteError::NoRoom => 0,
+        }
+    }
+}
+
+// Writes the text as far as there are bytes, and gives its end.
+fn write_checked(words: &[u32], text: &mut [u8]) -> Result<usize, WriteError>
+    ensures { finished result text.new ≡ table_written words.now (length text.old) }
+{
+    check(words)?;
+    Ok(write_tables(words, Version::New, text))
+}
+
 // Writes any words into a lent buffer of any length.
-pub fn write_table(words: &[u32], text: &mut [u8]) -> Placed
+pub fn write_table(words: &[u32], text: &mut [u8]) -> Result<usize, WriteError>
     ensures { placing result text.new ≡ table_written words.now (length text.old) }
 {
-    let checked = check(words);
-    if checked.is_accepted() {
-        let end = write_tables(words, Version::New, text);
-        return finish(text, end, 53);
-    }
-    refuse(text, checked.code(), checked.place())
+    finish(write_checked(words, text), text, WriteError::NoRoom)
 }
 
 // The same for callers in C or Rust: the code, and the other two by reference.
 pub fn table_write(words: &[u32], text: &mut [u8], at: &mut u32, size: &mut usize) -> u32
     ensures { record { code = result; at = at.new; length = size.new; buffer = text.new } ≡ table_written words.now (length text.old) }
 {
-    let written = write_table(words, text);
-    *at = written.at;
-    *size = written.length;
-    written.code
+    tell(write_table(words, text), at, size)
 }

@@ -1,33 +1,21 @@
 -- Laws of the drawing's text.
-use mathlib.Core.Path.{◌≡◌, refl, ap, ◌∙◌}
+use mathlib.Core.Path.{◌≡◌, refl, ◌∙◌}
 use mathlib.Core.List.{List, [], ◌∷◌, ◌++◌, append_assoc}
-use Prim.Native.Nat.{ℕ, suc, ◌+◌, ◌-◌, ◌/◌, ◌%◌, ◌^◌, ◌≤◌, ◌<◌}
+use Prim.Native.Nat.{ℕ, suc, ◌+◌, ◌-◌, ◌≤◌, ◌<◌}
 use native.Mathlib.Omega.{arith}
 use native.Mathlib.Nat.{sub-zero}
 use native.Mathlib.Numerals.{add-one}
-use lib.ListN.{length, get_or, drop, length-append, drop_of_length-le}
+use lib.ListN.{length, get_or, drop, drop_of_length-le}
 use lib.Seq.{drop-cons}
 use Rattle.text.specs.Ascii.{ascii}
 use Rattle.text.specs.Decimal.{decimal}
 use Rattle.text.specs.Printed.{Wrote}
-use Rattle.text.proofs.DecimalLaws.{decimal_more, decimal_ten}
 use Rattle.text.proofs.WriteLaws.{wrote_then}
 use Rattle.table.specs.Words.{block_count}
 use Rattle.table.specs.Table.{Table, table_of}
 use Rattle.table.proofs.TableLaws.{length_blocks}
 use Rattle.table.specs.Lines.{Line, named_at, lines_to, lines_from, lines}
 use Rattle.dot.specs.Dot.{line_text, lines_text, graph_text}
-
--- a number of three digits or more: the hundreds, then two digits
-pub decimal_hundreds : (n : ℕ) → 100 ≤ n → decimal n ≡ decimal (n / 100) ++ ((48 + n / 10 % 10) ∷ (48 + n % 10) ∷ [])
-decimal_hundreds n h =
-    let e : n / 10 / 10 ≡ n / 100 = omega arith in
-    decimal_more n (omega arith) ∙ ap (λ (l : List ℕ). l ++ ((48 + n % 10) ∷ [])) (decimal_more (n / 10) (omega arith)) ∙ rw (e, append_assoc)
-
--- a line between numbers of 32 bits
-pub line_most : (from to : ℕ) → from < 2 ^ 32 → to < 2 ^ 32 → length (line_text (record { from = from; to = to })) ≤ 28
-unfolding line_text
-line_most from to p q = simp length-append (omega (arith, decimal_ten from p, decimal_ten to q))
 
 -- its parts, one after the other
 pub line_wrote : {b b₁ b₂ b₃ b₄ b₅ : List ℕ} {start n₁ n₂ n₃ n₄ n₅ : ℕ} (from to : ℕ)

@@ -1,40 +1,26 @@
 -- From what the check and the text give to the drawing.
 use Prim.Native.Nat.{ℕ}
-use native.Mathlib.Omega.{arith}
-use mathlib.Core.Path.{◌≡◌, sym}
-use mathlib.Core.Bool.{true, false}
-use mathlib.Core.List.{List}
-use Rattle.table.specs.Check.{Verdict, accepted, refused, checked}
+use mathlib.Core.Path.{◌≡◌, refl}
+use mathlib.Core.List.{List, []}
+use lib.ListN.{length}
+use Rattle.std.specs.Prelude.{Ok, Err}
+use Rattle.table.specs.Check.{accepted, refused, checked}
+use Rattle.table.specs.Answer.{refusal_code, refusal_place}
 use Rattle.table.specs.Table.{table_of}
-use Rattle.table.specs.Answer.{code_of, place_of, is_accepted}
-use Rattle.table.specs.Promise.{Promise}
-use Rattle.table.proofs.PromiseLaws.{promised}
-use Rattle.text.specs.Placed.{Placing, refusal, placed}
+use Rattle.table.specs.declared.Refusal.{Refusal}
+use Rattle.text.specs.Printed.{Wrote}
+use Rattle.text.specs.Placed.{finished as finished_by}
+use Rattle.text.proofs.LentLaws.{holds_none}
+use Rattle.text.proofs.PlacedLaws.{finished_text}
+use Rattle.dot.specs.Answer.{code_of, place_of, finished}
 use Rattle.dot.specs.Dot.{graph_text, after_check, drawn}
+use Rattle.dot.specs.declared.DrawError.TheVariants.{Table, NoRoom}
 
-never : true ≡ false → ⊥
-never e = let z : ◌≡◌ {A = ℕ} 0 1 = cc in omega arith
-
-module _ (words : List ℕ) (verdict : Verdict) (is : verdict ≡ checked words) where
-  pub accepted_promise : is_accepted verdict ≡ true → Promise words
-  accepted_promise a = by verdict is a
-    where
-      by : (v : Verdict) → v ≡ checked words → is_accepted v ≡ true → Promise words
-      by accepted e a = promised words (sym e)
-      by (refused code at) e a = absurd (never (sym a))
-
-  pub accepted_drawn : (lent lent' : ℕ) (d : Placing) → is_accepted verdict ≡ true → lent' ≡ lent → d ≡ placed 44 lent' (graph_text (table_of words)) → d ≡ drawn words lent
+module _ (words : List ℕ) (before text : List ℕ) (long : length text ≡ length before) where
+  pub accepted_drawn : {end : ℕ} → accepted ≡ checked words → Wrote before 0 (graph_text (table_of words)) text end → finished (Ok end) text ≡ drawn words (length before)
   unfolding drawn after_check
-  accepted_drawn lent lent' d a l e = rw (← is) (by verdict a)
-    where
-      by : (v : Verdict) → is_accepted v ≡ true → d ≡ after_check lent v words
-      by accepted a = rw l at e
-      by (refused code at) a = absurd (never (sym a))
+  accepted_drawn v wrote = rw (← v) (rw long at (finished_text code_of place_of NoRoom _ _ _ refl (wrote.holds [] (holds_none _))))
 
-  pub refused_drawn : (lent : ℕ) (d : Placing) → is_accepted verdict ≡ false → d ≡ refusal (code_of verdict) (place_of verdict) lent → d ≡ drawn words lent
-  unfolding drawn after_check
-  refused_drawn lent d a e = rw (← is) (by verdict a e)
-    where
-      by : (v : Verdict) → is_accepted v ≡ false → d ≡ refusal (code_of v) (place_of v) lent → d ≡ after_check lent v words
-      by accepted a e = absurd (never a)
-      by (refused code at) a e = e
+  pub refused_drawn : (refusal : Refusal) → refused (refusal_code refusal) (refusal_place refusal) ≡ checked words → finished (Err (Table refusal)) text ≡ drawn words (length before)
+  unfolding drawn after_check finished_by
+  refused_drawn refusal v = rw (← v, long) refl

@@ -7,9 +7,10 @@ ghost use Rattle.text.specs.Printed.{Wrote};
 ghost use Rattle.table.specs.Lines.{named_at, lines_to, lines};
 ghost use Rattle.dot.specs.Dot.{lines_text, graph_text};
 
-use crate::write::{write_bytes, write_line};
+use crate::write::write_line;
 use table::lines::{named_at, target};
 use table::words::block_count;
+use text::write::write_names;
 
 // A line for each block that the row names.
 fn write_row(words: &[u32], text: &mut [u8], start: usize, row: u32) -> usize
@@ -22,10 +23,8 @@ fn write_row(words: &[u32], text: &mut [u8], start: usize, row: u32) -> usize
     let named = named_at(words, row);
     let count = named.cases + named.count;
     let mut at = start;
-    let mut k = 0;
-    while k < count {
+    for k in 0..count {
         at = write_line(text, at, row, target(words, row, named, k));
-        k += 1;
     }
     at
 }
@@ -36,12 +35,9 @@ fn write_rows(words: &[u32], text: &mut [u8], start: usize) -> usize
     ensures wrote { Wrote text.old start (lines_text (lines (table_of words.now))) text.new result }
     ensures upper_bound { result ≤ start + 29503488 }
 {
-    let rows = block_count(words);
     let mut at = start;
-    let mut row = 0;
-    while row < rows {
+    for row in 0..block_count(words) {
         at = write_row(words, text, at, row);
-        row += 1;
     }
     at
 }
@@ -50,7 +46,7 @@ pub fn write_graph(words: &[u32], text: &mut [u8]) -> usize
     requires { Promise words.now }
     ensures { Wrote text.old 0 (graph_text (table_of words.now)) text.new result }
 {
-    let first = write_bytes(text, 0, b"digraph g {\n");
+    let first = write_names(text, 0, b"digraph g {\n");
     let last = write_rows(words, text, first);
-    write_bytes(text, last, b"}\n")
+    write_names(text, last, b"}\n")
 }

@@ -6,31 +6,70 @@ mod graph;
 mod write;
 
 ghost use Rattle.std.specs.Prelude.{◌≡◌, length};
-ghost use Rattle.text.specs.Placed.{placing};
+ghost use Rattle.dot.specs.Answer.{code_of, place_of, placing, finished};
 ghost use Rattle.dot.specs.Dot.{drawn};
+ghost use Rattle.dot.specs.declared.DrawError.TheVariants.{Table};
 
 use crate::graph::write_graph;
+use table::Refusal;
 use table_check::check;
-use text::placed::{Placed, finish, refuse};
+use text::placed::{Coded, finish, tell};
+
+// Why words are not drawn. `code_of` and `place_of` in specs/Answer.antt have the papers' numbers.
+#[derive(Clone, Copy, Debug, PartialEq, Eq)]
+pub enum DrawError {
+    // The words are no table.
+    Table(Refusal),
+    // The text has more bytes than were lent.
+    NoRoom,
+}
+
+impl From<Refusal> for DrawError {
+    ghost from_gives = { λ refusal error. error ≡ Table refusal };
+
+    fn from(refusal: Refusal) -> DrawError {
+        DrawError::Table(refusal)
+    }
+}
+
+impl Coded for DrawError {
+    ghost code_of = { code_of };
+
+    ghost place_of = { place_of };
+
+    fn code(self) -> u32 {
+        match self {
+            DrawError::Table(refusal) => refusal.code(),
+            DrawError::NoRoom => 44,
+        }
+    }
+
+    fn place(self) -> u32 {
+        match self {
+            DrawError::Table(refusal) => refusal.place(),
+            DrawError::NoRoom => 0,
+        }
+    }
+}
+
+// Writes the drawing as far as there are bytes, and gives its end.
+fn draw(words: &[u32], text: &mut [u8]) -> Result<usize, DrawError>
+    ensures { finished result text.new ≡ drawn words.now (length text.old) }
+{
+    check(words)?;
+    Ok(write_graph(words, text))
+}
 
 // Draws any words into a lent buffer of any length.
-pub fn dot(words: &[u32], text: &mut [u8]) -> Placed
+pub fn dot(words: &[u32], text: &mut [u8]) -> Result<usize, DrawError>
     ensures { placing result text.new ≡ drawn words.now (length text.old) }
 {
-    let checked = check(words);
-    if checked.is_accepted() {
-        let end = write_graph(words, text);
-        return finish(text, end, 44);
-    }
-    refuse(text, checked.code(), checked.place())
+    finish(draw(words, text), text, DrawError::NoRoom)
 }
 
 // The same for callers in C or Rust: the code, and the other two by reference.
 pub fn blocks_to_dot(words: &[u32], text: &mut [u8], at: &mut u32, size: &mut usize) -> u32
     ensures { record { code = result; at = at.new; length = size.new; buffer = text.new } ≡ drawn words.now (length text.old) }
 {
-    let drawn = dot(words, text);
-    *at = drawn.at;
-    *size = drawn.length;
-    drawn.code
+    tell(dot(words, text), at, size)
 }

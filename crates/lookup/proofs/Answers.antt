@@ -8,10 +8,8 @@ use lib.ListN.{length, take, drop}
 use lib.Seq.{slice}
 use lib.Dec.{leb, ltb}
 use borrow.Author.Tests.{lt-ltb, le-ltb, le-leb, lt-leb, ltb-true, ltb-false, leb-true, leb-false}
-use Rattle.lookup.specs.Lookup.{lines_read, line_word, first_with, refusal, part_unless, part_of, found_at, found, part_found, looked}
-use Rattle.lookup.specs.declared.Line.{Line}
-use Rattle.lookup.specs.declared.Line.TheVariants.{At, Nowhere}
-use Rattle.lookup.specs.declared.Found.{Found}
+use Rattle.std.specs.Prelude.{Option, None, Some}
+use Rattle.lookup.specs.Lookup.{lines_read, line_word, first_with, Found, refusal, part_unless, part_of, found_at, found, part_found, looked}
 use Rattle.lookup.proofs.Searches.{First, NoneHas, Searched, searched, first_is, none_is}
 
 -- ---- a line's rows
@@ -64,9 +62,9 @@ pub within : (index : List ℕ) (number label tree : ℕ) → Within (found inde
 unfolding found found_at
 within index number label tree = by (first_with index label 0 (lines_read index number))
   where
-    by : (o : Line) → Within (found_at index tree o) tree
-    by Nowhere = record { order = omega arith; most = omega arith }
-    by (At i) = part_within (line_word index i 1) (line_word index i 2) tree
+    by : (o : Option ℕ) → Within (found_at index tree o) tree
+    by None = record { order = omega arith; most = omega arith }
+    by (Some i) = part_within (line_word index i 1) (line_word index i 2) tree
 
 -- ---- the lookup
 
@@ -97,9 +95,9 @@ module _ (index : List ℕ) (number label tree : ℕ) where
           on (beyond a b) = omega (arith, rw (closing_beyond first closing tree a b) at e)
           on (inside a b) = omega (arith, rw (part_in first closing tree a b) at e)
 
-      by : (o : Line) → Searched index label 0 read o → (found_at index tree o).code ≡ 42 → NoneHas index label 0 read
-      by Nowhere q e = q
-      by (At i) q e = absurd (not_42 (line_word index i 1) (line_word index i 2) e)
+      by : (o : Option ℕ) → Searched index label 0 read o → (found_at index tree o).code ≡ 42 → NoneHas index label 0 read
+      by None q e = q
+      by (Some i) q e = absurd (not_42 (line_word index i 1) (line_word index i 2) e)
 
 -- "a refused lookup gives an empty part", and one that is not refused some rows
 abbrev pub EmptyIfRefused : Found → Type 0
@@ -117,9 +115,9 @@ empty_if_refused index number label tree = by (first_with index label 0 (lines_r
     on first closing (beyond a b) = rw (closing_beyond first closing tree a b) (refused_part 43 (λ e. omega (arith, e)))
     on first closing (inside a b) = rw (part_in first closing tree a b) ((λ f. absurd (f refl)), (λ e. omega (arith, a)))
 
-    by : (o : Line) → EmptyIfRefused (found_at index tree o)
-    by Nowhere = refused_part 42 (λ e. omega (arith, e))
-    by (At i) = on (line_word index i 1) (line_word index i 2) (cut (line_word index i 1) (line_word index i 2) tree)
+    by : (o : Option ℕ) → EmptyIfRefused (found_at index tree o)
+    by None = refused_part 42 (λ e. omega (arith, e))
+    by (Some i) = on (line_word index i 1) (line_word index i 2) (cut (line_word index i 1) (line_word index i 2) tree)
 
 -- the same for what `find` gave
 pub found_within : (index : List ℕ) (number label : ℕ) {tree : ℕ} {given : Found} → given ≡ found index number label tree → Within given tree

@@ -2,8 +2,7 @@
 use Prim.Native.Nat.{ℕ}
 use mathlib.Core.Path.{◌≡◌, refl}
 use mathlib.Core.List.{List, [], ◌∷◌, map}
-use Rattle.lookup.specs.Lookup.{lines_read, first_with, refusal, part_of, found_at, found}
-use Rattle.lookup.specs.declared.Found.{Found}
+use Rattle.lookup.specs.Lookup.{lines_read, first_with, Found, refusal, part_of, found_at, found}
 
 pub record Sample : Type 0 where
   pub index : List ℕ

@@ -1,15 +1,14 @@
 -- M-101: the search as a relation: none of the lines that are read has the label, or this is the first that has it.
 use mathlib.Core.Path.{◌≡◌, refl, sym, ap, ◌∙◌}
-use Prim.Native.Nat.{ℕ, zero, suc, ◌+◌, ◌*◌, ◌/◌, ◌≤◌, ◌<◌}
+use Prim.Native.Nat.{ℕ, zero, suc, ◌+◌, ◌*◌, ◌/◌, ◌≤◌, ◌<◌, min}
 use native.Mathlib.Omega.{arith}
 use mathlib.Core.List.{List}
 use mathlib.Core.Bool.{Bool, true, false}
 use lib.ListN.{length}
 use lib.Dec.{eqb, ltb}
 use borrow.Author.Tests.{lt-ltb, le-ltb, eqb-true, eqb-false, ltb-true, ltb-false}
+use Rattle.std.specs.Prelude.{Option, None, Some}
 use Rattle.lookup.specs.Lookup.{lines_read, line_word, first_with}
-use Rattle.lookup.specs.declared.Line.{Line}
-use Rattle.lookup.specs.declared.Line.TheVariants.{At, Nowhere}
 
 -- ---- the lines that are read
 
@@ -25,14 +24,16 @@ module _ (index : List ℕ) (number : ℕ) where
   unfolding lines_read
   as_held h = ap fewer (sym (le-ltb number (length index / 3) h))
 
+  pub read_least : min (length index / 3) number ≡ lines_read index number
+  read_least = by (ltb number (length index / 3)) refl
+    where
+      by : (y : Bool) → ltb number (length index / 3) ≡ y → min (length index / 3) number ≡ lines_read index number
+      by true e = let h = ltb-true number (length index / 3) e in omega (arith, as_told h)
+      by false e = let h = ltb-false number (length index / 3) e in omega (arith, as_held h)
+
   -- "reads no line beyond it or beyond the buffer"
   pub read_few : (lines_read index number ≤ number) × (lines_read index number * 3 ≤ length index)
-  unfolding lines_read
-  read_few = by (ltb number (length index / 3)) refl
-    where
-      by : (y : Bool) → ltb number (length index / 3) ≡ y → (fewer y ≤ number) × (fewer y * 3 ≤ length index)
-      by true e = let h = ltb-true number (length index / 3) e in (omega arith, omega arith)
-      by false e = let h = ltb-false number (length index / 3) e in (omega arith, omega arith)
+  read_few = (omega (arith, read_least), omega (arith, read_least))
 
 -- ---- the search
 
@@ -46,9 +47,9 @@ pub record First (index : List ℕ) (label line left i : ℕ) : Type 0 where
 abbrev pub NoneHas : (index : List ℕ) → (label line left : ℕ) → Type 0
 NoneHas index label line left = (j : ℕ) → line ≤ j → j < line + left → line_word index j 0 ≡ label → ⊥
 
-abbrev pub Searched : (index : List ℕ) → (label line left : ℕ) → Line → Type 0
-Searched index label line left Nowhere = NoneHas index label line left
-Searched index label line left (At i) = First index label line left i
+abbrev pub Searched : (index : List ℕ) → (label line left : ℕ) → Option ℕ → Type 0
+Searched index label line left None = NoneHas index label line left
+Searched index label line left (Some i) = First index label line left i
 
 pub searched : (index : List ℕ) (label line left : ℕ) → Searched index label line left (first_with index label line left)
 unfolding first_with
@@ -61,10 +62,10 @@ searched index label line (suc left) = at (eqb (line_word index line 0) label) r
     other : (j : ℕ) → eqb (line_word index line 0) label ≡ false → line_word index j 0 ≡ label → line ≡ j → ⊥
     other j f e q = eqb-false (line_word index line 0) label f (ap (λ (k : ℕ). line_word index k 0) q ∙ e)
 
-    at : (y : Bool) → eqb (line_word index line 0) label ≡ y → (o : Line) → Searched index label (suc line) left o → Searched index label line (suc left) (elim y [ true ↦ At line | false ↦ o ])
+    at : (y : Bool) → eqb (line_word index line 0) label ≡ y → (o : Option ℕ) → Searched index label (suc line) left o → Searched index label line (suc left) (elim y [ true ↦ Some line | false ↦ o ])
     at true f o h = record { from = omega arith; read = omega arith; has = eqb-true (line_word index line 0) label f; none_before = λ j a b e. omega (arith, a, b) }
-    at false f Nowhere h = λ j a b e. h j (below j a (other j f e)) (omega (arith, b)) e
-    at false f (At i) h = record {
+    at false f None h = λ j a b e. h j (below j a (other j f e)) (omega (arith, b)) e
+    at false f (Some i) h = record {
       from = omega (arith, h.from);
       read = omega (arith, h.read);
       has = h.has;
@@ -72,31 +73,31 @@ searched index label line (suc left) = at (eqb (line_word index line 0) label) r
     }
 
 -- there is one first line
-pub first_is : (index : List ℕ) (label left i : ℕ) → First index label 0 left i → first_with index label 0 left ≡ At i
+pub first_is : (index : List ℕ) (label left i : ℕ) → First index label 0 left i → first_with index label 0 left ≡ Some i
 first_is index label left i h = at (first_with index label 0 left) (searched index label 0 left)
   where
     three : (k : ℕ) → (k < i → ⊥) → (i < k → ⊥) → k ≡ i
     three k a b = omega (arith, a, b)
 
-    at : (o : Line) → Searched index label 0 left o → o ≡ At i
-    at Nowhere q = absurd (q i h.from h.read h.has)
-    at (At k) q = ap At (three k (λ l. h.none_before k (omega arith) l q.has) (λ l. q.none_before i (omega arith) l h.has))
+    at : (o : Option ℕ) → Searched index label 0 left o → o ≡ Some i
+    at None q = absurd (q i h.from h.read h.has)
+    at (Some k) q = ap Some (three k (λ l. h.none_before k (omega arith) l q.has) (λ l. q.none_before i (omega arith) l h.has))
 
 -- none has it
-pub none_is : (index : List ℕ) (label left : ℕ) → NoneHas index label 0 left → first_with index label 0 left ≡ Nowhere
+pub none_is : (index : List ℕ) (label left : ℕ) → NoneHas index label 0 left → first_with index label 0 left ≡ None
 none_is index label left h = at (first_with index label 0 left) (searched index label 0 left)
   where
-    at : (o : Line) → Searched index label 0 left o → o ≡ Nowhere
-    at Nowhere q = refl
-    at (At i) q = absurd (h i q.from q.read q.has)
+    at : (o : Option ℕ) → Searched index label 0 left o → o ≡ None
+    at None q = refl
+    at (Some i) q = absurd (h i q.from q.read q.has)
 
 -- the line found is one of those read
-pub found_read : (index : List ℕ) (label left i : ℕ) → At i ≡ first_with index label 0 left → i < left
+pub found_read : (index : List ℕ) (label left i : ℕ) → Some i ≡ first_with index label 0 left → i < left
 found_read index label left i = at (first_with index label 0 left) (searched index label 0 left)
   where
-    same : (k : ℕ) → At i ≡ At k → i ≡ k
+    same : (k : ℕ) → Some i ≡ Some k → i ≡ k
     same k e = cc
 
-    at : (o : Line) → Searched index label 0 left o → At i ≡ o → i < left
-    at Nowhere q e = let z : ◌≡◌ {A = ℕ} 0 1 = cc in omega arith
-    at (At k) q e = omega (arith, same k e, q.read)
+    at : (o : Option ℕ) → Searched index label 0 left o → Some i ≡ o → i < left
+    at None q e = cc
+    at (Some k) q e = omega (arith, same k e, q.read)

@@ -1,27 +1,38 @@
 -- From the words written to the operations of the definition.
 use mathlib.Core.Path.{◌≡◌, refl, sym, ◌∙◌, fun_ext}
-use Prim.Native.Nat.{ℕ, ◌-◌, ◌<◌, ◌≤◌}
+use Prim.Native.Nat.{ℕ, ◌<◌, ◌≤◌}
 use native.Mathlib.Omega.{arith}
-use native.Mathlib.Nat.{sub-zero}
-use mathlib.Core.List.{List, ◌++◌}
+use mathlib.Core.List.{List}
 use mathlib.Core.Bool.{Bool, true, false}
-use lib.ListN.{length, get_or, take, replicate, length-replicate, get_or-replicate, get_or-eq_default}
+use lib.ListN.{length, get_or, replicate, get_or-eq_default}
 use lib.Dec.{ltb}
 use borrow.Author.Tests.{ltb-true, ltb-false}
 use Rattle.table.specs.Words.{block_count}
 use Rattle.table.specs.Table.{table_of}
 use Rattle.table.specs.Promise.{Promise}
 use Rattle.renaming.specs.Renaming.{Renaming, renamed}
-use Rattle.renaming.specs.Order.{old_number, new_number, walking_order, rearranged, restored_by, refused_rearrangement, refused_restoration}
+use Rattle.renaming.specs.Order.{is_permutation, old_number, new_number, walking_order, rearranged, restored_by, refused_rearrangement, refused_restoration}
 use Rattle.renaming.proofs.Alike.{new_below}
 use Rattle.renaming.proofs.Permutations.{get_d_any, in_place, Permutes, permutes, renaming_of}
 use Rattle.renaming.proofs.OrderLaws.{walking_order_lem}
-use Rattle.order.specs.Queue.{Fresh, Numbers}
+use Rattle.order.specs.Queue.{Numbers}
+use Rattle.order.specs.declared.OrderError.{OrderError}
+use Rattle.order.specs.Entry.{rearranging, restoring, rearranged_or_cleared, restored_or_cleared}
+use Rattle.definition.proofs.Steps.{true_false}
+use Rattle.std.proofs.Common.{Result, Ok, Err, is_err}
 use Rattle.order.specs.Write.{number_in, renumbered, Writing}
 use Rattle.order.proofs.WriteLaws.{number_there, number_beyond}
 
-pub fresh : Fresh (replicate 1024 65535)
-fresh = record { wide = length-replicate {A = ℕ} 1024 65535; none = λ b h. get_or-replicate {A = ℕ} 1024 b 65535 0 h }
+-- ---- a list that has numbers
+
+pub few_blocks : (n : ℕ) (list : List ℕ) → n ≤ 1024 → is_permutation n list ≡ true → length list ≤ 1024
+few_blocks n list few is = omega (arith, (permutes n list is).long)
+
+pub own_blocks : (n : ℕ) (list : List ℕ) → is_permutation n list ≡ true → is_permutation (length list) list ≡ true
+own_blocks n list is = rw (permutes n list is).long is
+
+pub order_is : (ws list : List ℕ) → Promise ws → list ≡ walking_order (table_of ws) → is_permutation (block_count ws) list ≡ true
+order_is ws list promise e = rw e (walking_order_lem ws promise)
 
 -- ---- the numbers, by the list and by the places
 
@@ -85,7 +96,7 @@ module _ (ws list new : List ℕ) (promise : Promise ws) (p : Permutes (block_co
   is_new = rw (new_numbers (block_count ws) list new p numbers, old_numbers (block_count ws) list new p numbers)
 
 pub order_permutes : (ws list : List ℕ) → Promise ws → list ≡ walking_order (table_of ws) → Permutes (block_count ws) list
-order_permutes ws list promise e = rw e (permutes (block_count ws) (walking_order (table_of ws)) (walking_order_lem ws promise))
+order_permutes ws list promise e = permutes (block_count ws) list (order_is ws list promise e)
 
 pub is_rearranged : (ws list new : List ℕ) (promise : Promise ws) (e : list ≡ walking_order (table_of ws)) (numbers : Numbers list new) → renumbered ws new list ≡ rearranged ws
 unfolding rearranged
@@ -93,16 +104,14 @@ is_rearranged ws list new promise e numbers = is_new ws list new promise (order_
 
 -- ---- refusals
 
--- a buffer that is cleared whole
-cleared : (b₀ b : List ℕ) → b ≡ take 0 b₀ ++ replicate (length b₀ - 0) 0 → b ≡ replicate (length b₀) 0
-cleared b₀ b e = e ∙ rw sub-zero
-
-pub cleared_both : (code at : ℕ) (table₀ table list₀ list : List ℕ) → table ≡ take 0 table₀ ++ replicate (length table₀ - 0) 0 → list ≡ take 0 list₀ ++ replicate (length list₀ - 0) 0
-    → record { code = code; at = at; table = table; list = list } ≡ refused_rearrangement code at (length table₀) (length list₀)
+pub cleared_both : (answer : Result (Unit {0}) OrderError) → is_err answer ≡ true → (table₀ list₀ : List ℕ) {table list : List ℕ} → table ≡ replicate (length table₀) 0
+    → list ≡ replicate (length list₀) 0 → rearranging answer table list ≡ rearranged_or_cleared answer table₀ list₀
 unfolding refused_rearrangement
-cleared_both code at table₀ table list₀ list e f = rw (cleared table₀ table e, cleared list₀ list f)
+cleared_both (Ok _) e table₀ list₀ f g = absurd (true_false (sym e))
+cleared_both (Err error) e table₀ list₀ f g = rw (f, g)
 
-pub cleared_one : (code at : ℕ) (table₀ table : List ℕ) → table ≡ take 0 table₀ ++ replicate (length table₀ - 0) 0
-    → record { code = code; at = at; table = table } ≡ refused_restoration code at (length table₀)
+pub cleared_one : (answer : Result (Unit {0}) OrderError) → is_err answer ≡ true → (table₀ : List ℕ) {table : List ℕ} → table ≡ replicate (length table₀) 0
+    → restoring answer table ≡ restored_or_cleared answer table₀
 unfolding refused_restoration
-cleared_one code at table₀ table e = rw (cleared table₀ table e)
+cleared_one (Ok _) e table₀ f = absurd (true_false (sym e))
+cleared_one (Err error) e table₀ f = rw f

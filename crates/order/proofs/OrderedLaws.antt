@@ -1,6 +1,6 @@
 -- From the rearranged words and their text to what is printed.
 use Prim.Native.Nat.{ℕ, zero, suc, ◌+◌, ◌*◌, ◌≤◌}
-use mathlib.Core.Path.{◌≡◌, refl, sym, ap, ◌∙◌}
+use mathlib.Core.Path.{◌≡◌, refl, ap, ◌∙◌}
 use mathlib.Core.Bool.{Bool, true, false}
 use mathlib.Core.List.{List, []}
 use native.Mathlib.Omega.{arith}
@@ -8,11 +8,10 @@ use lib.Dec.{leb}
 use lib.ListN.{length, get_or, take, drop, length-append, length-take}
 use lib.Seq.{length-take-le}
 use borrow.Author.Tests.{leb-false}
-use Rattle.table.specs.Words.{block_count}
-use Rattle.table.specs.Check.{Verdict, accepted, refused, checked}
-use Rattle.table.specs.Answer.{verdict_of, code_of, place_of, is_accepted}
-use Rattle.table.specs.declared.Checked.{Checked}
-use Rattle.table.specs.declared.Checked.TheVariants as answers
+use Rattle.table.specs.Check.{accepted, refused, checked}
+use Rattle.table.specs.Answer.{refusal_code}
+use Rattle.table.specs.declared.Refusal.{Refusal}
+use Rattle.table.specs.declared.Refusal.TheVariants as refusals
 use Rattle.table.specs.Promise.{Promise}
 use Rattle.table.proofs.PromiseLaws.{promised, promise_checked}
 use Rattle.text.specs.Layout.{Layout, layout}
@@ -20,15 +19,13 @@ use Rattle.text.specs.Answer.{Accepted}
 use Rattle.text.proofs.AnswerLaws.{good_room}
 use Rattle.text.specs.Lent.{padded}
 use Rattle.text.specs.Line.{lines}
-use Rattle.text.specs.Printed.{printed, written_of, lent_of}
+use Rattle.text.specs.Printed.{printed, Written, no_room, written_of, lent_of}
 use Rattle.text.specs.Placed.{Placing, refusal, placed}
 use Rattle.text.specs.Prints.{WrittenText}
 use Rattle.text.specs.declared.version.Version.TheVariants.{New}
-use Rattle.text.specs.declared.write.Written.{Written}
-use Rattle.text.specs.declared.write.Written.TheVariants.{Bytes, NoRoom}
+use Rattle.std.specs.Prelude.{Ok}
 use Rattle.text.proofs.WriteLaws.{Narrow, narrow_words, narrow_take, narrow_drop, line_most}
-use Rattle.renaming.specs.Order.{Rearrangement, rearranged, rearrangement}
-use Rattle.renaming.proofs.Operations.{rearrangement_given}
+use Rattle.renaming.specs.Order.{rearranged}
 use Rattle.renaming.proofs.OrderLaws.{rearranged_checked}
 use Rattle.convert.specs.Cut.{cut, instructions_at, cases_at, places_at, identifiers_at, end_at, Shaped, tables_in, text_in}
 use Rattle.convert.specs.Write.{table_text, table_written}
@@ -67,23 +64,23 @@ text_most words s n =
 -- ---- the answer of the writer as that of a program
 
 module _ (most room : ℕ) (text : List ℕ) (d : Placing) (is : d ≡ placed 53 room text) (few : length text ≤ most) where
-  placed_bytes : d.code ≡ 0 → WrittenText most text room (Bytes d.length) d.buffer
+  placed_bytes : d.code ≡ 0 → WrittenText most text room (Ok d.length) d.buffer
   unfolding placed refusal written_of lent_of
   placed_bytes none = by (leb (length text) room) refl is
     where
       by : (fits : Bool) → leb (length text) room ≡ fits
           → d ≡ elim fits [ true ↦ record { code = 0; at = 0; length = length text; buffer = padded room text } | false ↦ refusal 53 0 room ]
-          → WrittenText most text room (Bytes d.length) d.buffer
+          → WrittenText most text room (Ok d.length) d.buffer
       by true e z = rw z (record { answer = rw e; bytes = rw e; enough = λ _. refl })
       by false e z = absurd (omega (arith, ap (λ (p : Placing). p.code) z, none))
 
-  placed_none : (d.code ≡ 0 → ⊥) → WrittenText most text room NoRoom d.buffer
+  placed_none : (d.code ≡ 0 → ⊥) → WrittenText most text room no_room d.buffer
   unfolding placed refusal written_of lent_of
   placed_none some = by (leb (length text) room) refl is
     where
       by : (fits : Bool) → leb (length text) room ≡ fits
           → d ≡ elim fits [ true ↦ record { code = 0; at = 0; length = length text; buffer = padded room text } | false ↦ refusal 53 0 room ]
-          → WrittenText most text room NoRoom d.buffer
+          → WrittenText most text room no_room d.buffer
       by true e z = absurd (some (ap (λ (p : Placing). p.code) z))
       by false e z = rw z (record { answer = rw e; bytes = rw e; enough = λ q. absurd (omega (arith, few, q, leb-false (length text) room e)) })
 
@@ -95,58 +92,34 @@ module _ (words : List ℕ) (promise : Promise words) (few : length words ≤ 16
   text_fits : length (table_text words) ≤ 180368
   text_fits = omega (arith, few, text_most words (sized_shaped words promise.sized) narrow)
 
-  pub table_bytes : d.code ≡ 0 → WrittenText 180368 (table_text words) room (Bytes d.length) d.buffer
+  pub table_bytes : d.code ≡ 0 → WrittenText 180368 (table_text words) room (Ok d.length) d.buffer
   table_bytes = placed_bytes 180368 room (table_text words) d table_placed text_fits
 
-  pub table_none : (d.code ≡ 0 → ⊥) → WrittenText 180368 (table_text words) room NoRoom d.buffer
+  pub table_none : (d.code ≡ 0 → ⊥) → WrittenText 180368 (table_text words) room no_room d.buffer
   table_none = placed_none 180368 room (table_text words) d table_placed text_fits
 
 -- ---- the rearranged words
-
--- of the numbers lent, as many as there are blocks
-module _ (words : List ℕ) (promise : Promise words) (numbers : List ℕ) (lent : 1024 ≡ length numbers) (blocks : ℕ) (count : blocks ≡ block_count words) where
-  pub numbers_enough : blocks ≤ length numbers
-  numbers_enough = omega (arith, lent, count, promise.sized.limited.blocks)
-
-  pub is_rearranged : (table list : List ℕ) (lent_table : ℕ) {code at : ℕ} → lent_table ≡ length words
-      → record { code = code; at = at; table = table; list = list } ≡ rearrangement words lent_table (length (take blocks numbers)) → table ≡ rearranged words
-  is_rearranged table list lent_table e g =
-      let f : length (take blocks numbers) ≡ block_count words = length-take-le blocks numbers numbers_enough ∙ count in
-      ap (λ (r : Rearrangement). r.table) (g ∙ sym (rearrangement_given words promise lent_table (length (take blocks numbers)) e f refl refl))
 
 pub rearranged_promise : (words : List ℕ) → Promise words → Promise (rearranged words)
 rearranged_promise words promise = promised (rearranged words) (rearranged_checked words (promise_checked words promise))
 
 -- ---- what is printed of a file's words
 
-never : true ≡ false → ⊥
-never e = let z : ◌≡◌ {A = ℕ} 0 1 = cc in omega arith
-
-module _ (words : List ℕ) (verdict : Verdict) (is : verdict ≡ checked words) {room : ℕ} {r : Written} {lent : List ℕ} where
-  pub accepted_printed : is_accepted verdict ≡ true → WrittenText 180368 (table_text (rearranged words)) room r lent → WrittenText 180368 (ordered_text words) room r lent
+module _ (words : List ℕ) {room : ℕ} {r : Written} {lent : List ℕ} where
+  pub accepted_printed : accepted ≡ checked words → WrittenText 180368 (table_text (rearranged words)) room r lent → WrittenText 180368 (ordered_text words) room r lent
   unfolding unless_refused
-  accepted_printed a h = rw (← is) (by verdict a)
-    where
-      by : (v : Verdict) → is_accepted v ≡ true → WrittenText 180368 (unless_refused v (table_text (rearranged words))) room r lent
-      by accepted a = h
-      by (refused code at) a = absurd (never (sym a))
+  accepted_printed v h = rw (← v) h
 
-  pub refused_printed : is_accepted verdict ≡ false → WrittenText 180368 (printed (code_of verdict) (place_of verdict) 0 0 []) room r lent → WrittenText 180368 (ordered_text words) room r lent
+  pub refused_printed : {code at : ℕ} → refused code at ≡ checked words → WrittenText 180368 (printed code at 0 0 []) room r lent → WrittenText 180368 (ordered_text words) room r lent
   unfolding unless_refused
-  refused_printed a h = rw (← is) (by verdict a h)
-    where
-      by : (v : Verdict) → is_accepted v ≡ false → WrittenText 180368 (printed (code_of v) (place_of v) 0 0 []) room r lent
-          → WrittenText 180368 (unless_refused v (table_text (rearranged words))) room r lent
-      by accepted a h = absurd (never a)
-      by (refused code at) a h = h
+  refused_printed v h = rw (← v) h
 
 -- a refusal's code is 1 to 4
-pub refused_some : (c : Checked) → is_accepted (verdict_of c) ≡ false → code_of (verdict_of c) ≡ 0 → ⊥
-refused_some answers.Accepted a e = absurd (never a)
-refused_some answers.WrongLength a e = omega (arith, e)
-refused_some (answers.CountOverLimit at) a e = omega (arith, e)
-refused_some answers.EntryOutOfRange a e = omega (arith, e)
-refused_some (answers.BadWord at) a e = omega (arith, e)
+pub refused_some : (refusal : Refusal) → refusal_code refusal ≡ 0 → ⊥
+refused_some refusals.WrongLength e = omega (arith, e)
+refused_some (refusals.CountOverLimit _) e = omega (arith, e)
+refused_some refusals.EntryOutOfRange e = omega (arith, e)
+refused_some (refusals.BadWord _) e = omega (arith, e)
 
 -- ---- the words of a file
 

@@ -1,92 +1,111 @@
-// The walk. The list of old numbers is its queue. A block goes to the end of the queue when a row first names it, and `new` has its place there.
-ghost use Rattle.std.specs.Prelude.{◌≡◌, [], ◌∷◌, ◌<◌, length, take};
+// The walk, breadth first. Its queue holds the blocks in the order in which rows first name them.
+ghost use Rattle.std.specs.Prelude.{◌≡◌, ℕ, List, [], ◌∷◌, ◌<◌, ◌≤◌, length, take, get_or, MatchOption};
 ghost use Rattle.table.specs.Words.{block_count};
-ghost use Rattle.table.specs.Table.{table_of, rows_from};
+ghost use Rattle.table.specs.Table.{table_of};
 ghost use Rattle.table.specs.Promise.{Promise};
 ghost use Rattle.table.specs.Lines.{named_at};
-ghost use Rattle.renaming.specs.Order.{walk_from, walking_order};
-ghost use Rattle.order.specs.Queue.{Queue, Fresh, Joined, Numbers};
+ghost use Rattle.renaming.specs.Order.{with_named, walk_from, walking_order};
+ghost use Rattle.order.specs.Queue.{Queued};
 
+use std::marker::Model;
 use table::lines::{named_at, target};
 use table::words::{block_count, entry};
 
-// Numbers a block with the next number, unless it has one.
-fn name_block(list: &mut [u32], new: &mut [u32], count: u32, block: u32) -> u32
-    requires queue { Queue list.old new.old count }
-    requires block_in_bounds { block < length list.old }
-    ensures { Joined list.old count (block ∷ []) list.new new.new result }
-{
-    let b = block as usize;
-    if new[b] != 65535 {
-        return count;
-    }
-    let end = count as usize;
-    list[end] = block;
-    new[b] = count;
-    count + 1
+// The first `count` words of `blocks` are the blocks found, none of them twice; `found` has a flag for each of them.
+#[derive(Drop)]
+struct Queue {
+    blocks: [u32; 1024],
+    count: usize,
+    found: [bool; 1024],
 }
 
-// The blocks that a row names, in the order of its lines.
-fn name_row(words: &[u32], list: &mut [u32], new: &mut [u32], count: u32, row: u32) -> u32
-    requires promise { Promise words.now }
-    requires list_len { length list.old ≡ block_count words.now }
-    requires queue { Queue list.old new.old count }
-    requires row_bound { row < block_count words.now }
-    ensures { Joined list.old count (named_at (table_of words.now) row) list.new new.new result }
-{
-    let named = named_at(words, row);
-    let lines = named.cases + named.count;
-    let mut found = count;
-    let mut k = 0;
-    while k < lines {
-        found = name_block(list, new, found, target(words, row, named, k));
-        k += 1;
-    }
-    found
+// Clauses see the blocks, in the order in which they were found.
+impl Model for Queue {
+    ghost Value = { List ℕ };
+
+    ghost view = { λ q. take q.count q.blocks };
+
+    ghost invariant = { λ q. (q.count ≤ 1024) × Queued 1024 (take q.count q.blocks) q.found };
 }
 
-// Breadth first: the block at each place of the queue names others.
-fn walk(words: &[u32], list: &mut [u32], new: &mut [u32]) -> u32
-    requires promise { Promise words.now }
-    requires list_len { length list.old ≡ block_count words.now }
-    requires fresh { Fresh new.old }
-    ensures queue { Queue list.new new.new result }
-    ensures list_after { take result list.new ≡ walk_from (table_of words.now) (block_count words.now) 0 ((table_of words.now).entry ∷ []) }
+impl Queue {
+    fn new() -> Queue
+        ensures { result ≡ [] }
+    {
+        Queue {
+            blocks: [0; 1024],
+            count: 0,
+            found: [false; 1024],
+        }
+    }
+
+    fn get(&self, place: usize) -> Option<u32>
+        ensures { MatchOption result (length self.now ≤ place)
+            (λ block. (place < length self.now) × (get_or self.now place 0 ≡ block)) }
+    {
+        if place < self.count {
+            return Some(self.blocks[place]);
+        }
+        None
+    }
+
+    // Puts a block at the end, unless it has been found.
+    fn name(&mut self, block: u32)
+        requires { block < 1024 }
+        ensures { self.new ≡ with_named self.old (block ∷ []) }
+    {
+        let b = block as usize;
+        if !self.found[b] {
+            self.found[b] = true;
+            self.blocks[self.count] = block;
+            self.count += 1;
+        }
+    }
+
+    // The blocks that a row names, in the order of its lines.
+    fn name_row(&mut self, words: &[u32], row: u32)
+        requires promise { Promise words.now }
+        requires row_bound { row < block_count words.now }
+        ensures { self.new ≡ with_named self.old (named_at (table_of words.now) row) }
+    {
+        let named = named_at(words, row);
+        for k in 0..named.cases + named.count {
+            self.name(target(words, row, named, k));
+        }
+    }
+
+    fn copy_to(&self, list: &mut [u32])
+        requires { length list.old ≡ length self.now }
+        ensures { list.new ≡ self.now }
+    {
+        list.copy_from_slice(&self.blocks[..self.count]);
+    }
+}
+
+// The block at each place of the queue names others. No `for`: the queue grows while it is walked.
+fn walk(words: &[u32]) -> Queue
+    requires { Promise words.now }
+    ensures { result ≡ walk_from (table_of words.now) (block_count words.now) 0 ((table_of words.now).entry ∷ []) }
 {
-    let mut found = name_block(list, new, 0, entry(words));
+    let mut queue = Queue::new();
+    queue.name(entry(words));
     let mut place = 0;
-    while place < found {
-        let i = place as usize;
-        let block = list[i];
-        found = name_row(words, list, new, found, block);
+    while let Some(row) = queue.get(place) {
+        queue.name_row(words, row);
         place += 1;
     }
-    found
+    queue
 }
 
-// Puts the blocks that have no number at the end, from block 0 on.
-fn name_rest(list: &mut [u32], new: &mut [u32], count: u32, blocks: u32) -> u32
-    requires list_len { length list.old ≡ blocks }
-    requires queue { Queue list.old new.old count }
-    ensures { Joined list.old count (rows_from 0 blocks) list.new new.new result }
-{
-    let mut found = count;
-    let mut block = 0;
-    while block < blocks {
-        found = name_block(list, new, found, block);
-        block += 1;
-    }
-    found
-}
-
-// The blocks in walking order; `new` gets their new numbers.
-pub fn walking_order(words: &[u32], list: &mut [u32], new: &mut [u32])
+// The blocks in walking order: those that the walk doesn't find come last, from block 0 on.
+pub fn walking_order(words: &[u32], list: &mut [u32])
     requires promise { Promise words.now }
     requires list_len { length list.old ≡ block_count words.now }
-    requires fresh { Fresh new.old }
-    ensures list_after { list.new ≡ walking_order (table_of words.now) }
-    ensures numbers { Numbers list.new new.new }
+    ensures { list.new ≡ walking_order (table_of words.now) }
 {
-    let found = walk(words, list, new);
-    name_rest(list, new, found, block_count(words));
+    let mut queue = walk(words);
+    for block in 0..block_count(words) {
+        queue.name(block);
+    }
+    queue.copy_to(list);
 }

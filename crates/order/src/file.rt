@@ -1,29 +1,21 @@
 // The program treeorder as a function: a file's bytes in, the bytes that are printed of it out.
-ghost use Rattle.std.specs.Prelude.{◌≡◌, [], ◌≤◌, length};
+ghost use Rattle.std.specs.Prelude.{◌≡◌, [], ◌≤◌, length, Ok};
 ghost use Rattle.table.specs.Promise.{Promise};
 ghost use Rattle.text.specs.Printed.{printed};
 ghost use Rattle.text.specs.Prints.{printing, WrittenText};
-ghost use Rattle.text.specs.declared.write.Written.TheVariants.{Bytes};
 ghost use Rattle.renaming.specs.Order.{rearranged};
 ghost use Rattle.convert.specs.Write.{table_text};
 ghost use Rattle.order.specs.Prints.{ordered_text, order_text};
 
-use crate::rearrange;
+use crate::rearrange_checked;
 use convert::writing::write_table;
 use table::words::block_count;
 use table_check::check;
-use text::lent::lent_words;
-use text::read::{Answer, read};
-use text::write::{Written, write};
+use text::lent::{FILE_WORDS, zeros};
+use text::read::read;
+use text::write::{NoRoom, write};
 
-// Enough for the numbers of any table's blocks. The contract tells the length alone: a proof that sees the zeros would count them.
-fn lent_numbers() -> [u32; 1024]
-    ensures { 1024 ≡ length result }
-{
-    [0; 1024]
-}
-
-fn write_refusal(out: &mut [u8], code: u32, at: u32) -> Written
+fn write_refusal(out: &mut [u8], code: u32, at: u32) -> Result<usize, NoRoom>
     requires { code ≡ 0 → ⊥ }
     ensures { WrittenText 180368 (printed code at 0 0 []) (length out.old) result out.new }
 {
@@ -31,55 +23,53 @@ fn write_refusal(out: &mut [u8], code: u32, at: u32) -> Written
 }
 
 // The text of words that are a table: 11 bytes a word, and the names, are enough.
-fn print_table(words: &[u32], out: &mut [u8]) -> Written
+fn print_table(words: &[u32], out: &mut [u8]) -> Result<usize, NoRoom>
     requires promise { Promise words.now }
     requires words_len_bound { length words.now ≤ 16384 }
     ensures { WrittenText 180368 (table_text words.now) (length out.old) result out.new }
 {
-    let placed = write_table(words, out);
-    if placed.code != 0 {
-        return Written::NoRoom;
+    match write_table(words, out) {
+        Ok(length) => Ok(length),
+        Err(_) => Err(NoRoom),
     }
-    Written::Bytes(placed.length)
 }
 
 // The text of the rearranged table; `new_words` and the numbers have exactly the lengths needed.
-fn order_table(words: &[u32], new_words: &mut [u32], out: &mut [u8]) -> Written
+fn order_table(words: &[u32], new_words: &mut [u32], out: &mut [u8]) -> Result<usize, NoRoom>
     requires promise { Promise words.now }
     requires words_len_bound { length words.now ≤ 16384 }
     requires new_words_len { length new_words.old ≡ length words.now }
     ensures { WrittenText 180368 (table_text (rearranged words.now)) (length out.old) result out.new }
 {
-    let mut old_numbers = lent_numbers();
+    let mut old_numbers = zeros::<u32, 1024>();
     let blocks = block_count(words) as usize;
-    rearrange(words, new_words, &mut old_numbers[..blocks]);
+    rearrange_checked(words, new_words, &mut old_numbers[..blocks]);
     print_table(new_words, out)
 }
 
 // The words of a file: the rearranged table's text, or why there is none.
-fn order_words(words: &[u32], out: &mut [u8]) -> Written
+fn order_words(words: &[u32], out: &mut [u8]) -> Result<usize, NoRoom>
     requires { length words.now ≤ 16384 }
     ensures { WrittenText 180368 (ordered_text words.now) (length out.old) result out.new }
 {
-    let checked = check(words);
-    if checked.is_accepted() {
-        let mut new_words = lent_words();
-        let count = words.len();
-        return order_table(words, &mut new_words[..count], out);
+    match check(words) {
+        Ok(()) => {
+            let mut new_words = zeros::<u32, FILE_WORDS>();
+            let count = words.len();
+            order_table(words, &mut new_words[..count], out)
+        }
+        Err(refusal) => write_refusal(out, refusal.code(), refusal.place()),
     }
-    write_refusal(out, checked.code(), checked.place())
 }
 
 // Reads a file and prints its table with the blocks in walking order; or prints why the file is refused. 180,368 bytes are enough.
-pub fn order_file(file: &[u8], out: &mut [u8]) -> Written
+pub fn order_file(file: &[u8], out: &mut [u8]) -> Result<usize, NoRoom>
     ensures out_after { record { answer = result; bytes = out.new } ≡ printing (length out.old) (order_text file.now) }
-    ensures value { 180368 ≤ length out.old → result ≡ Bytes (length (order_text file.now)) }
+    ensures value { 180368 ≤ length out.old → result ≡ Ok (length (order_text file.now)) }
 {
-    let mut words = lent_words();
-    let answer = read(file, &mut words);
-    match answer {
-        Answer::Words(count) => order_words(&words[..count], out),
-        Answer::Refused { code, at } => write_refusal(out, code, at),
-        Answer::NoRoom => Written::NoRoom,
+    let mut words = zeros::<u32, FILE_WORDS>();
+    match read(file, &mut words) {
+        Ok(count) => order_words(&words[..count], out),
+        Err(error) => write_refusal(out, error.code(), error.place()),
     }
 }

@@ -6,44 +6,63 @@ pub mod file;
 mod list;
 mod write;
 
-ghost use Rattle.std.specs.Prelude.{◌≡◌, true, length};
+ghost use Rattle.std.specs.Prelude.{◌≡◌, length};
 ghost use Rattle.table.specs.Words.{block_count};
 ghost use Rattle.table.specs.Table.{table_of};
 ghost use Rattle.table.specs.Promise.{Promise};
-ghost use Rattle.renaming.specs.Order.{is_permutation, walking_order, rearranged, restored_by, refused_rearrangement, rearrangement, refused_restoration, restoration};
-ghost use Rattle.order.specs.Queue.{Numbers};
-ghost use Rattle.order.specs.Entry.{rearranging, restoring};
+ghost use Rattle.renaming.specs.Order.{walking_order, rearranged, rearrangement, restoration};
+ghost use Rattle.order.specs.Entry.{code_of, place_of, answer_code, answer_place, rearranging, restoring, rearranged_or_cleared, restored_or_cleared};
+ghost use Rattle.order.specs.declared.OrderError.TheVariants.{Table};
 
 use crate::block_walk::walking_order;
-use crate::list::is_permutation;
+use crate::list::{is_permutation, new_numbers};
 use crate::write::write_table;
+use table::Refusal;
 use table::words::block_count;
 use table_check::check;
-use values::rows::clear;
+use text::placed::Coded;
 
-// Code (0 accepted) and at.
-#[derive(Clone, Copy)]
-pub struct Moved {
-    pub code: u32,
-    pub at: u32,
+// Why blocks are not moved. `code_of` and `place_of` in specs/Entry.antt have the papers' numbers.
+#[derive(Clone, Copy, Debug, PartialEq, Eq)]
+pub enum OrderError {
+    // The words are no table.
+    Table(Refusal),
+    // "an output's length isn't just the one needed"
+    WrongLength,
+    // "the list isn't a permutation of the block numbers", of the inverse alone
+    NotAPermutation,
 }
 
-// "A refusal leaves zeros in every output."
-fn refuse_rearranging(new_words: &mut [u32], old_numbers: &mut [u32], code: u32, at: u32) -> Moved
-    ensures { rearranging result new_words.new old_numbers.new ≡ refused_rearrangement code at (length new_words.old) (length old_numbers.old) }
-{
-    clear(new_words, 0);
-    clear(old_numbers, 0);
-    Moved { code: code, at: at }
+impl From<Refusal> for OrderError {
+    ghost from_gives = { λ refusal error. error ≡ Table refusal };
+
+    fn from(refusal: Refusal) -> OrderError {
+        OrderError::Table(refusal)
+    }
 }
 
-fn refuse_restoring(first_words: &mut [u32], code: u32, at: u32) -> Moved
-    ensures { restoring result first_words.new ≡ refused_restoration code at (length first_words.old) }
-{
-    clear(first_words, 0);
-    Moved { code: code, at: at }
+impl Coded for OrderError {
+    ghost code_of = { code_of };
+
+    ghost place_of = { place_of };
+
+    fn code(self) -> u32 {
+        match self {
+            OrderError::Table(refusal) => refusal.code(),
+            OrderError::WrongLength => 45,
+            OrderError::NotAPermutation => 46,
+        }
+    }
+
+    fn place(self) -> u32 {
+        match self {
+            OrderError::Table(refusal) => refusal.place(),
+            OrderError::WrongLength | OrderError::NotAPermutation => 0,
+        }
+    }
 }
 
+// Of words that the check accepts, and outputs of the lengths needed.
 fn rearrange_checked(words: &[u32], new_words: &mut [u32], old_numbers: &mut [u32])
     requires promise { Promise words.now }
     requires new_words_len { length new_words.old ≡ length words.now }
@@ -51,75 +70,91 @@ fn rearrange_checked(words: &[u32], new_words: &mut [u32], old_numbers: &mut [u3
     ensures new_words_after { new_words.new ≡ rearranged words.now }
     ensures old_numbers_after { old_numbers.new ≡ walking_order (table_of words.now) }
 {
-    let mut new = [65535; 1024];
-    walking_order(words, old_numbers, &mut new);
+    walking_order(words, old_numbers);
+    let new = new_numbers(old_numbers);
     write_table(words, &new, old_numbers, new_words);
 }
 
-// "45 .. when an output's length isn't just the one needed"
-fn rearrange_sized(words: &[u32], new_words: &mut [u32], old_numbers: &mut [u32]) -> Moved
-    requires { Promise words.now }
-    ensures { rearranging result new_words.new old_numbers.new ≡ rearrangement words.now (length new_words.old) (length old_numbers.old) }
+// An error leaves the outputs to be cleared.
+fn try_rearrange(
+    words: &[u32],
+    new_words: &mut [u32],
+    old_numbers: &mut [u32],
+) -> Result<(), OrderError>
+    ensures { rearranged_or_cleared result new_words.new old_numbers.new ≡ rearrangement words.now (length new_words.old) (length old_numbers.old) }
 {
-    if new_words.len() != words.len() {
-        return refuse_rearranging(new_words, old_numbers, 45, 0);
-    }
-    let blocks = block_count(words) as usize;
-    if old_numbers.len() != blocks {
-        return refuse_rearranging(new_words, old_numbers, 45, 0);
+    check(words)?;
+    if new_words.len() != words.len() || old_numbers.len() != block_count(words) as usize {
+        return Err(OrderError::WrongLength);
     }
     rearrange_checked(words, new_words, old_numbers);
-    Moved { code: 0, at: 0 }
+    Ok(())
 }
 
-// Puts any words' blocks in walking order, into lent buffers of any length.
-pub fn rearrange(words: &[u32], new_words: &mut [u32], old_numbers: &mut [u32]) -> Moved
+// Puts any words' blocks in walking order, into lent buffers of any length. "A refusal leaves zeros in every output."
+pub fn rearrange(
+    words: &[u32],
+    new_words: &mut [u32],
+    old_numbers: &mut [u32],
+) -> Result<(), OrderError>
     ensures { rearranging result new_words.new old_numbers.new ≡ rearrangement words.now (length new_words.old) (length old_numbers.old) }
 {
-    let checked = check(words);
-    if checked.is_accepted() {
-        return rearrange_sized(words, new_words, old_numbers);
+    let result = try_rearrange(words, new_words, old_numbers);
+    if result.is_err() {
+        new_words.fill(0);
+        old_numbers.fill(0);
     }
-    refuse_rearranging(new_words, old_numbers, checked.code(), checked.place())
+    result
 }
 
-// "46 .. when the list isn't a permutation of the block numbers"
-fn restore_checked(words: &[u32], old_numbers: &[u32], first_words: &mut [u32]) -> bool
-    requires promise { Promise words.now }
-    requires first_words_len { length first_words.old ≡ length words.now }
-    ensures value { result ≡ is_permutation (block_count words.now) old_numbers.now }
-    ensures first_words_after { result ≡ true → first_words.new ≡ restored_by old_numbers.now words.now }
+fn try_restore(
+    words: &[u32],
+    old_numbers: &[u32],
+    first_words: &mut [u32],
+) -> Result<(), OrderError>
+    ensures { restored_or_cleared result first_words.new ≡ restoration words.now old_numbers.now (length first_words.old) }
 {
-    let mut new = [65535; 1024];
-    if is_permutation(old_numbers, block_count(words), &mut new) {
-        write_table(words, old_numbers, &new, first_words);
-        return true;
-    }
-    false
-}
-
-fn restore_sized(words: &[u32], old_numbers: &[u32], first_words: &mut [u32]) -> Moved
-    requires { Promise words.now }
-    ensures { restoring result first_words.new ≡ restoration words.now old_numbers.now (length first_words.old) }
-{
+    check(words)?;
     if first_words.len() != words.len() {
-        return refuse_restoring(first_words, 45, 0);
+        return Err(OrderError::WrongLength);
     }
-    if restore_checked(words, old_numbers, first_words) {
-        return Moved { code: 0, at: 0 };
+    if !is_permutation(old_numbers, block_count(words)) {
+        return Err(OrderError::NotAPermutation);
     }
-    refuse_restoring(first_words, 46, 0)
+    let new = new_numbers(old_numbers);
+    write_table(words, old_numbers, &new, first_words);
+    Ok(())
 }
 
 // The inverse, for any words, any list and a lent buffer of any length.
-pub fn restore(words: &[u32], old_numbers: &[u32], first_words: &mut [u32]) -> Moved
+pub fn restore(
+    words: &[u32],
+    old_numbers: &[u32],
+    first_words: &mut [u32],
+) -> Result<(), OrderError>
     ensures { restoring result first_words.new ≡ restoration words.now old_numbers.now (length first_words.old) }
 {
-    let checked = check(words);
-    if checked.is_accepted() {
-        return restore_sized(words, old_numbers, first_words);
+    let result = try_restore(words, old_numbers, first_words);
+    if result.is_err() {
+        first_words.fill(0);
     }
-    refuse_restoring(first_words, checked.code(), checked.place())
+    result
+}
+
+// The code (0 accepted) of an answer, and its place by reference.
+fn tell(answer: Result<(), OrderError>, at: &mut u32) -> u32
+    ensures { (result ≡ answer_code answer) × (at.new ≡ answer_place answer) }
+{
+    match answer {
+        Ok(()) => {
+            *at = 0;
+            0
+        }
+        Err(error) => {
+            *at = error.place();
+            error.code()
+        }
+    }
 }
 
 // The same for callers in C or Rust: the code, and the place by reference.
@@ -131,9 +166,7 @@ pub fn blocks_rearrange(
 ) -> u32
     ensures { record { code = result; at = at.new; table = new_words.new; list = old_numbers.new } ≡ rearrangement words.now (length new_words.old) (length old_numbers.old) }
 {
-    let moved = rearrange(words, new_words, old_numbers);
-    *at = moved.at;
-    moved.code
+    tell(rearrange(words, new_words, old_numbers), at)
 }
 
 pub fn blocks_restore(
@@ -144,7 +177,5 @@ pub fn blocks_restore(
 ) -> u32
     ensures { record { code = result; at = at.new; table = first_words.new } ≡ restoration words.now old_numbers.now (length first_words.old) }
 {
-    let moved = restore(words, old_numbers, first_words);
-    *at = moved.at;
-    moved.code
+    tell(restore(words, old_numbers, first_words), at)
 }

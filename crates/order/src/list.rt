@@ -1,31 +1,35 @@
-// The inverse's list.
-ghost use Rattle.std.specs.Prelude.{◌≡◌, true, ◌≤◌};
+// A list of old numbers: whether it is a permutation, and the new numbers by it.
+ghost use Rattle.std.specs.Prelude.{◌≡◌, true, ◌≤◌, length};
 ghost use Rattle.renaming.specs.Order.{is_permutation};
-ghost use Rattle.order.specs.Queue.{Fresh, Numbers};
+ghost use Rattle.order.specs.Queue.{Numbers};
 
-// Whether the list is a permutation of the block numbers; then `new` has the place of each.
-pub fn is_permutation(list: &[u32], blocks: u32, new: &mut [u32]) -> bool
-    requires blocks_bound { blocks ≤ 1024 }
-    requires fresh { Fresh new.old }
-    ensures value { result ≡ is_permutation blocks list.now }
-    ensures numbers { result ≡ true → Numbers list.now new.new }
+// Whether the list is a permutation of the block numbers.
+pub fn is_permutation(list: &[u32], blocks: u32) -> bool
+    requires { blocks ≤ 1024 }
+    ensures { result ≡ is_permutation blocks list.now }
 {
-    let count = blocks as usize;
-    if list.len() != count {
+    if list.len() != blocks as usize {
         return false;
     }
-    let mut i = 0;
-    while i < list.len() {
-        let block = list[i];
-        if block >= blocks {
+    let mut found = [false; 1024];
+    for block in list {
+        if *block >= blocks || found[*block as usize] {
             return false;
         }
-        let b = block as usize;
-        if new[b] != 65535 {
-            return false;
-        }
-        new[b] = i as u32;
-        i += 1;
+        found[*block as usize] = true;
     }
     true
+}
+
+// The place of each block in a permutation: its new number.
+pub fn new_numbers(list: &[u32]) -> [u32; 1024]
+    requires few { length list.now ≤ 1024 }
+    requires permutation { is_permutation (length list.now) list.now ≡ true }
+    ensures { Numbers list.now result }
+{
+    let mut new = [0; 1024];
+    for (place, block) in list.iter().enumerate() {
+        new[*block as usize] = place as u32;
+    }
+    new
 }

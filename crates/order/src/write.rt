@@ -15,6 +15,7 @@ fn columns(a: bool, b: bool, c: bool, d: bool, e: bool) -> [bool; 11]
 }
 
 // Which columns of a block's row name a block: an arm for each code that has one.
+#[tactic(auto, unfolding(crate::specs::Write::columns_of, renaming::specs::Renaming::names_block))]
 fn named_columns(code: u32) -> [bool; 11]
     requires { code ≤ 21 }
     ensures { result ≡ columns_of code }
@@ -47,6 +48,7 @@ fn named_columns(code: u32) -> [bool; 11]
 }
 
 // A block's number; 65,535 (none) stays.
+#[tactic(auto, unfolding(crate::specs::Write::number_in))]
 fn number_in(numbers: &[u32], blocks: u32, block: u32) -> u32
     requires { blocks ≤ length numbers.now }
     ensures { result ≡ number_in blocks numbers.now block }
@@ -74,11 +76,7 @@ fn copy_words(words: &[u32], new_words: &mut [u32], begin: usize, end: usize)
     requires new_words_len { length new_words.old ≡ length words.now }
     ensures { Copied words.now new_words.old begin end new_words.new }
 {
-    let mut i = begin;
-    while i < end {
-        new_words[i] = words[i];
-        i += 1;
-    }
+    new_words[begin..end].copy_from_slice(&words[begin..end]);
 }
 
 fn write_head(words: &[u32], names: &[u32], rows: &[u32], new_words: &mut [u32])
@@ -98,13 +96,11 @@ fn write_row(words: &[u32], names: &[u32], rows: &[u32], new_words: &mut [u32], 
     let blocks = block_count(words);
     let place = row as usize;
     let source = rows[place];
-    let named = named_columns(code_at(words, source));
+    let columns = named_columns(code_at(words, source));
     let from = (6 + source * 11) as usize;
     let to = (6 + row * 11) as usize;
-    let mut k = 0;
-    while k < 11 {
-        new_words[to + k] = number_if(named[k], names, blocks, words[from + k]);
-        k += 1;
+    for (k, named) in columns.iter().enumerate() {
+        new_words[to + k] = number_if(*named, names, blocks, words[from + k]);
     }
 }
 
@@ -112,11 +108,8 @@ fn write_blocks(words: &[u32], names: &[u32], rows: &[u32], new_words: &mut [u32
     requires { Writing words.now names.now rows.now new_words.old 6 }
     ensures { Writing words.now names.now rows.now new_words.new (instructions_begin words.now) }
 {
-    let blocks = block_count(words);
-    let mut row = 0;
-    while row < blocks {
+    for row in 0..block_count(words) {
         write_row(words, names, rows, new_words, row);
-        row += 1;
     }
 }
 
@@ -128,12 +121,10 @@ fn write_cases(words: &[u32], names: &[u32], rows: &[u32], new_words: &mut [u32]
     let blocks = block_count(words);
     let begin = cases_begin(words) as usize;
     let cases = case_count(words) as usize;
-    let mut case = 0;
-    while case < cases {
+    for case in 0..cases {
         let test = begin + case * 2;
         new_words[test] = words[test];
         new_words[test + 1] = number_in(names, blocks, words[test + 1]);
-        case += 1;
     }
 }
 

@@ -24,17 +24,14 @@ a_case test block = record { test = test; block = block }
 -- ---- forwards
 
 module _ {ws : List ℕ} where
-  first_of : (at left : ℕ) {test block : ℕ} → Chooses ws at test block → at + left ≤ case_count ws → (left ≡ 0 → ⊥)
-      → case_list (table_of ws) at left ≡ a_case test block ∷ case_list (table_of ws) (at + 1) (left - 1)
+  first_of : (at rest : ℕ) {test block : ℕ} → Chooses ws at test block → at + suc rest ≤ case_count ws
+      → case_list (table_of ws) at (suc rest) ≡ a_case test block ∷ case_list (table_of ws) (at + 1) rest
   unfolding case_list
-  first_of at zero chosen h f = absurd (f refl)
-  first_of at (suc n) {test} {block} chosen h f =
+  first_of at rest {test} {block} chosen h =
       let next : suc at ≡ at + 1 = omega arith in
-      let fewer : n ≡ suc n - 1 = omega arith in
-      ap (take (suc n)) (drop-cons (table_of ws).cases at (a_case 0 0) (omega (arith, h, length_cases ws)))
-      ∙ ap (λ (k : Case). k ∷ take n (drop (suc at) (table_of ws).cases)) (chosen.is (a_case 0 0))
-      ∙ ap (λ (i : ℕ). a_case test block ∷ take n (drop i (table_of ws).cases)) next
-      ∙ ap (λ (i : ℕ). a_case test block ∷ take i (drop (at + 1) (table_of ws).cases)) fewer
+      ap (take (suc rest)) (drop-cons (table_of ws).cases at (a_case 0 0) (omega (arith, h, length_cases ws)))
+      ∙ ap (λ (k : Case). k ∷ take rest (drop (suc at) (table_of ws).cases)) (chosen.is (a_case 0 0))
+      ∙ ap (λ (i : ℕ). a_case test block ∷ take rest (drop i (table_of ws).cases)) next
 
   last_of : (first left i : ℕ) {test block : ℕ} → i ≡ first + left → Chooses ws i test block → first + left < case_count ws
       → cases_last_first (table_of ws) first (suc left) ≡ a_case test block ∷ cases_last_first (table_of ws) first left
@@ -53,24 +50,22 @@ pub record Left (ws : List ℕ) (F : List ℕ → Bool) (first number at left : 
   pub same : F (blocks_of (case_list (table_of ws) first number)) ≡ F (blocks_of (case_list (table_of ws) at left))
 
 module _ {ws : List ℕ} (F : List ℕ → Bool) where
-  pub left_all : {first number : ℕ} → first + number ≤ case_count ws → Left ws F first number first number
-  left_all h = record { within = h; same = refl }
+  pub left_all : {first number left : ℕ} → first + number ≤ case_count ws → left ≡ number → Left ws F first number first left
+  left_all {first} {number} h e = rw e (record { within = h; same = refl })
 
-  pub left_first : {first number at left test block : ℕ} → Left ws F first number at left → 0 < left → Chooses ws at test block
-      → F (blocks_of (case_list (table_of ws) first number)) ≡ F (block ∷ blocks_of (case_list (table_of ws) (at + 1) (left - 1)))
-  left_first {at = at} {left = left} l h chosen =
-      let some : left ≡ 0 → ⊥ = λ e. omega (arith, e, h) in
-      l.same ∙ ap (λ (cs : List Case). F (blocks_of cs)) (first_of at left chosen l.within some)
+  pub left_first : {first number at left : ℕ} (rest : ℕ) {test block : ℕ} → Left ws F first number at left → left ≡ suc rest → Chooses ws at test block
+      → F (blocks_of (case_list (table_of ws) first number)) ≡ F (block ∷ blocks_of (case_list (table_of ws) (at + 1) rest))
+  left_first {at = at} rest l e chosen =
+      let here = rw e at l in
+      here.same ∙ ap (λ (cs : List Case). F (blocks_of cs)) (first_of at rest chosen here.within)
 
-  pub left_more : {first number at left test block : ℕ} → Left ws F first number at left → 0 < left → Chooses ws at test block
-      → F (block ∷ blocks_of (case_list (table_of ws) (at + 1) (left - 1))) ≡ F (blocks_of (case_list (table_of ws) (at + 1) (left - 1)))
-      → Left ws F first number (at + 1) (left - 1)
-  left_more l h chosen e = record { within = omega (arith, h, l.within); same = left_first l h chosen ∙ e }
+  pub left_more : {first number at left : ℕ} (rest : ℕ) {test block : ℕ} → Left ws F first number at left → left ≡ suc rest → Chooses ws at test block
+      → F (block ∷ blocks_of (case_list (table_of ws) (at + 1) rest)) ≡ F (blocks_of (case_list (table_of ws) (at + 1) rest)) → Left ws F first number (at + 1) rest
+  left_more rest l e chosen same = record { within = omega (arith, l.within, e); same = left_first rest l e chosen ∙ same }
 
-  pub left_none : {first number at left : ℕ} → Left ws F first number at left → left ≤ 0 → F (blocks_of (case_list (table_of ws) first number)) ≡ F []
+  pub left_none : {first number at left : ℕ} → Left ws F first number at left → left ≡ 0 → F (blocks_of (case_list (table_of ws) first number)) ≡ F []
   unfolding case_list
-  left_none {at = at} {left = zero} l h = l.same
-  left_none {at = at} {left = suc left} l h = absurd (omega (arith, h))
+  left_none l e = (rw e at l).same
 
 -- ---- from the last on
 
@@ -113,7 +108,7 @@ module _ {ws : List ℕ} {f first number : ℕ} (h : first + number ≤ case_cou
       d.same ∙ drop_end (table_of ws) f first n test block (last_of first n (first + (suc n - 1)) (omega arith) chosen (omega (arith, h, d.most))) e
 
 pub dropped_all : {ws : List ℕ} {f first number left : ℕ} → Dropped ws f first number left → left ≤ 0
-    → drop_own f (cases_last_first (table_of ws) first number) ≡ cases_last_first (table_of ws) first 0
+    → drop_own f (cases_last_first (table_of ws) first number) ≡ cases_last_first (table_of ws) first left
 unfolding cases_last_first
 dropped_all {left = zero} d h = d.same
 dropped_all {left = suc n} d h = absurd (omega (arith, h))

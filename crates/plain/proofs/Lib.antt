@@ -1,8 +1,5 @@
-pub mod FactLaws
-pub mod AskedLaws
+pub mod TerminalLaws
 pub mod EveryLaws
 pub mod TailLaws
 pub mod CaseLaws
-pub mod TestLaws
-pub mod LoopLaws
 pub mod NumberLaws

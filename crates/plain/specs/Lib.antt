@@ -1,5 +1,4 @@
-pub mod Facts
-pub mod Asked
+pub mod Loops
 pub mod Tails
 pub mod Cases
 pub mod Laws

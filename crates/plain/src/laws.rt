@@ -3,20 +3,32 @@ ghost use Rattle.std.specs.Prelude.{◌≡◌, ◌<◌};
 ghost use Rattle.table.specs.Words.{block_count};
 ghost use Rattle.table.specs.Table.{table_of, terminal_at};
 ghost use Rattle.table.specs.Promise.{Promise};
-ghost use Rattle.definition.specs.Plain.{paper_01, with_switch};
-ghost use Rattle.definition.specs.PlainTest.{every_of, is_plain, is_plain_loops, plainness};
-ghost use Rattle.plain.specs.Laws.{test_by};
+ghost use Rattle.definition.specs.PlainTest.{every_of, plainness};
+ghost use Rattle.plain.specs.Laws.{number_of, maybe_number, test_by, is_plain_by};
 
-use crate::cases::{no_branch, reached};
+use crate::facts::{no_branch, reached};
 use crate::loops::loop_block_test;
 use crate::tests::block_test;
 use table::words::{block_count, entry};
 
-#[derive(Clone, Copy, Drop)]
+// Paper 01's, M-113's, or the one beyond the papers.
+#[derive(Clone, Copy, Debug, PartialEq, Eq)]
 pub enum Law {
     Paper01,
     Switches,
     Loops,
+}
+
+impl Law {
+    pub fn number(self) -> u32
+        ensures { result ≡ number_of self }
+    {
+        match self {
+            Law::Paper01 => 1,
+            Law::Switches => 2,
+            Law::Loops => 3,
+        }
+    }
 }
 
 fn test_by(words: &[u32], law: Law, block: u32) -> bool
@@ -36,67 +48,34 @@ fn every_block(words: &[u32], law: Law) -> bool
     requires { Promise words.now }
     ensures { result ≡ every_of (table_of words.now).blocks (test_by (table_of words.now) law) }
 {
-    let count = block_count(words);
-    let mut block = 0;
-    while block < count {
-        if !test_by(words, law, block) {
-            return false;
-        }
-        block += 1;
-    }
-    true
+    (0..block_count(words)).all(|block| test_by(words, law, block))
 }
 
-// Paper 01's plain tables.
-fn is_paper_01(words: &[u32]) -> bool
+// The entry is no Branch, and with loops it is reached.
+#[tactic(auto, using(crate::proofs::NumberLaws::entry_is))]
+fn is_plain_by(words: &[u32], law: Law) -> bool
     requires { Promise words.now }
-    ensures { result ≡ is_plain (table_of words.now) paper_01 }
-{
-    if !no_branch(words, entry(words)) {
-        return false;
-    }
-    every_block(words, Law::Paper01)
-}
-
-// M-113's.
-fn is_with_switch(words: &[u32]) -> bool
-    requires { Promise words.now }
-    ensures { result ≡ is_plain (table_of words.now) with_switch }
-{
-    if !no_branch(words, entry(words)) {
-        return false;
-    }
-    every_block(words, Law::Switches)
-}
-
-// Beyond the papers.
-fn is_plain_loops(words: &[u32]) -> bool
-    requires { Promise words.now }
-    ensures { result ≡ is_plain_loops (table_of words.now) with_switch }
+    ensures { result ≡ is_plain_by (table_of words.now) law }
 {
     let at = entry(words);
-    if !no_branch(words, at) {
-        return false;
+    match law {
+        Law::Paper01 | Law::Switches => no_branch(words, at) && every_block(words, law),
+        Law::Loops => no_branch(words, at) && reached(words, at) && every_block(words, law),
     }
-    if !reached(words, at) {
-        return false;
-    }
-    every_block(words, Law::Loops)
 }
 
-// The number of the first law that speaks of it; 0 where none does.
-pub fn number_of(words: &[u32]) -> u32
+// The first law that speaks of the table.
+pub fn law_of(words: &[u32]) -> Option<Law>
     requires { Promise words.now }
-    ensures { result ≡ plainness (table_of words.now) }
+    ensures { maybe_number result ≡ plainness (table_of words.now) }
 {
-    if is_paper_01(words) {
-        return 1;
+    if is_plain_by(words, Law::Paper01) {
+        Some(Law::Paper01)
+    } else if is_plain_by(words, Law::Switches) {
+        Some(Law::Switches)
+    } else if is_plain_by(words, Law::Loops) {
+        Some(Law::Loops)
+    } else {
+        None
     }
-    if is_with_switch(words) {
-        return 2;
-    }
-    if is_plain_loops(words) {
-        return 3;
-    }
-    0
 }

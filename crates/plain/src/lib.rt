@@ -12,22 +12,41 @@ mod tests;
 ghost use Rattle.std.specs.Prelude.{◌≡◌};
 ghost use Rattle.table.specs.Check.{checked};
 ghost use Rattle.table.specs.Answer.{code_of, place_of};
+ghost use Rattle.table.specs.Promise.{Promise};
+ghost use Rattle.definition.specs.PlainTest.{plainness};
+ghost use Rattle.table.specs.Table.{table_of};
 ghost use Rattle.plain.specs.Plainness.{plainness_of};
 
-use crate::laws::number_of;
+use crate::laws::law_of;
 use table_check::check;
 
+// The law's number; 0 where none speaks of the table.
+fn plainness(words: &[u32]) -> u32
+    requires { Promise words.now }
+    ensures { result ≡ plainness (table_of words.now) }
+{
+    match law_of(words) {
+        Some(law) => law.number(),
+        None => 0,
+    }
+}
+
 // For callers in C or Rust: the check's code; its place is left in `at`, the law's number in `number`.
+#[tactic(auto, using(crate::proofs::NumberLaws::accepted_words), unfolding(crate::specs::Plainness::plainness_of))]
 pub fn table_plain(words: &[u32], at: &mut u32, number: &mut u32) -> u32
     ensures value { (result ≡ code_of (checked words.now)) × (at.new ≡ place_of (checked words.now)) }
     ensures number_after { number.new ≡ plainness_of words.now }
 {
-    let checked = check(words);
-    *at = checked.place();
-    if !checked.is_accepted() {
-        *number = 0;
-        return checked.code();
+    match check(words) {
+        Ok(()) => {
+            *at = 0;
+            *number = plainness(words);
+            0
+        }
+        Err(refusal) => {
+            *at = refusal.place();
+            *number = 0;
+            refusal.code()
+        }
     }
-    *number = number_of(words);
-    0
 }

@@ -5,9 +5,8 @@ use Prim.Native.Nat.{ℕ, ◌^◌, ◌<◌}
 use native.Mathlib.Omega.{arith}
 use lib.ListN.{length-append}
 use Rattle.text.specs.Line.{line}
-use Rattle.text.specs.Printed.{written_of, lent_of}
+use Rattle.text.specs.Printed.{Written, written_of, lent_of}
 use Rattle.text.specs.Prints.{WrittenText}
-use Rattle.text.specs.declared.write.Written.{Written}
 use Rattle.text.proofs.WriteLaws.{line_most, text_fits}
 use Rattle.definition.specs.Preview.{Preview}
 use Rattle.preview.specs.Prints.{size_names, size_text}

@@ -5,6 +5,7 @@
 pub mod file;
 
 ghost use Rattle.std.specs.Prelude.{◌≡◌, List, ℕ};
+ghost use Rattle.table.specs.Answer.{refusal_code, refusal_place};
 ghost use Rattle.definition.specs.Around.{rust, language};
 ghost use Rattle.definition.specs.Build.{Report};
 ghost use Rattle.definition.specs.Preview.{preview_of, previewed};
@@ -13,6 +14,7 @@ ghost use Rattle.walk.specs.Driver.{Reported};
 ghost use Rattle.preview.specs.Entry.{numbers};
 
 use control::rule::Rule;
+use table::Refusal;
 use table_check::check;
 use walk::{Outcome, walk};
 
@@ -22,36 +24,36 @@ fn told(walked: Outcome) -> Outcome
 {
     if walked.code != 0 {
         return Outcome {
-            code: walked.code,
-            at: walked.at,
             rows: 0,
-            visits: walked.visits,
             lines: 0,
+            ..walked
         };
     }
+    Outcome { at: 0, ..walked }
+}
+
+// What words give that are no table.
+fn refused(refusal: Refusal) -> Outcome
+    ensures { numbers result ≡ record { code = refusal_code refusal; at = refusal_place refusal; rows = 0; visits = 0; lines = 0 } }
+{
     Outcome {
-        code: 0,
-        at: 0,
-        rows: walked.rows,
-        visits: walked.visits,
-        lines: walked.lines,
+        code: refusal.code(),
+        at: refusal.place(),
+        rows: 0,
+        visits: 0,
+        lines: 0,
     }
 }
 
 fn preview_by(rule: Rule, words: &[u32]) -> Outcome
     ensures { numbers result ≡ previewed (rule_of rule) words.now }
 {
-    let checked = check(words);
-    if checked.is_accepted() {
-        let walked = walk(rule, words, &mut [], &mut []);
-        return told(walked);
-    }
-    Outcome {
-        code: checked.code(),
-        at: checked.place(),
-        rows: 0,
-        visits: 0,
-        lines: 0,
+    match check(words) {
+        Ok(()) => {
+            let walked = walk(rule, words, &mut [], &mut []);
+            told(walked)
+        }
+        Err(refusal) => refused(refusal),
     }
 }
 
@@ -78,12 +80,7 @@ pub fn reactive_preview(
 ) -> u32
     ensures { record { code = result; at = at.new; rows = rows.new; visits = visits.new; lines = lines.new } ≡ previewed rust words.now }
 {
-    let told = preview(words);
-    *at = told.at;
-    *rows = told.rows;
-    *visits = told.visits;
-    *lines = told.lines;
-    told.code
+    preview(words).tell(at, rows, visits, lines)
 }
 
 pub fn reactive_preview_language(
@@ -95,10 +92,5 @@ pub fn reactive_preview_language(
 ) -> u32
     ensures { record { code = result; at = at.new; rows = rows.new; visits = visits.new; lines = lines.new } ≡ previewed language words.now }
 {
-    let told = preview_language(words);
-    *at = told.at;
-    *rows = told.rows;
-    *visits = told.visits;
-    *lines = told.lines;
-    told.code
+    preview_language(words).tell(at, rows, visits, lines)
 }

@@ -7,37 +7,21 @@ use lib.ListN.{length}
 use lib.Dec.{eqb}
 use borrow.Author.Tests.{eq-eqb, ne_eqb}
 use Rattle.table.specs.Words.{block_count}
-use Rattle.table.specs.Check.{Verdict, accepted, refused, checked}
+use Rattle.table.specs.Check.{accepted, refused, checked}
 use Rattle.table.specs.Table.{table_of}
-use Rattle.table.specs.Answer.{code_of, place_of, is_accepted}
 use Rattle.table.specs.Promise.{Promise}
-use Rattle.table.proofs.PromiseLaws.{promised, promise_checked}
-use Rattle.definition.proofs.Steps.{true_false}
+use Rattle.table.proofs.PromiseLaws.{promise_checked}
 use Rattle.renaming.specs.Order.{is_permutation, walking_order, rearranged, restored_by, refused_rearrangement, rearrangement, refused_restoration, restoration}
 
-accepted_by : (v : Verdict) → is_accepted v ≡ true → v ≡ accepted
-accepted_by accepted e = refl
-accepted_by (refused code at) e = absurd (true_false (sym e))
-
-refused_by : (v : Verdict) → is_accepted v ≡ false → v ≡ refused (code_of v) (place_of v)
-refused_by accepted e = absurd (true_false e)
-refused_by (refused code at) e = refl
-
-pub accepted_promise : {v : Verdict} (ws : List ℕ) → v ≡ checked ws → is_accepted v ≡ true → Promise ws
-accepted_promise {v} ws is e = promised ws (sym is ∙ accepted_by v e)
-
 -- "1 to 4 first"
-module _ {v : Verdict} (ws : List ℕ) (is : v ≡ checked ws) (no : is_accepted v ≡ false) where
-  is_refused : checked ws ≡ refused (code_of v) (place_of v)
-  is_refused = sym is ∙ refused_by v no
-
-  pub rearrangement_refused : (lent_table lent_list : ℕ) {code at : ℕ} → code ≡ code_of v → at ≡ place_of v → refused_rearrangement code at lent_table lent_list ≡ rearrangement ws lent_table lent_list
+module _ (ws : List ℕ) {code at : ℕ} (is : refused code at ≡ checked ws) where
+  pub rearrangement_refused : (lent_table lent_list : ℕ) → refused_rearrangement code at lent_table lent_list ≡ rearrangement ws lent_table lent_list
   unfolding rearrangement
-  rearrangement_refused lent_table lent_list e f = rw (e, f, is_refused, rearrangement)
+  rearrangement_refused lent_table lent_list = rw (← is, rearrangement)
 
-  pub restoration_refused : (list : List ℕ) (lent_table : ℕ) {code at : ℕ} → code ≡ code_of v → at ≡ place_of v → refused_restoration code at lent_table ≡ restoration ws list lent_table
+  pub restoration_refused : (list : List ℕ) (lent_table : ℕ) → refused_restoration code at lent_table ≡ restoration ws list lent_table
   unfolding restoration
-  restoration_refused list lent_table e f = rw (e, f, is_refused, restoration)
+  restoration_refused list lent_table = rw (← is, restoration)
 
 module _ (ws : List ℕ) (p : Promise ws) where
   is_accepted_lem : checked ws ≡ accepted

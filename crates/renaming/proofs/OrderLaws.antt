@@ -74,11 +74,11 @@ with_step P found b names f g = by (contains found b) refl
     by true e = subst P (sym (pick_true (contains found b) (with_named found names) (with_named (found ++ (b ∷ [])) names) e)) (f e)
     by false e = subst P (sym (pick_false (contains found b) (with_named found names) (with_named (found ++ (b ∷ [])) names) e)) (g e)
 
-with_once : (found names : List ℕ) → none_twice found ≡ true → none_twice (with_named found names) ≡ true
+pub with_once : (found names : List ℕ) → none_twice found ≡ true → none_twice (with_named found names) ≡ true
 with_once found [] h = h
 with_once found (b ∷ names) h = with_step (λ l. none_twice l ≡ true) found b names (λ e. with_once found names h) (λ e. with_once (found ++ (b ∷ [])) names (once_end found b h e))
 
-with_below : (n : ℕ) (found names : List ℕ) → all_below n found ≡ true → all_below n names ≡ true → all_below n (with_named found names) ≡ true
+pub with_below : (n : ℕ) (found names : List ℕ) → all_below n found ≡ true → all_below n names ≡ true → all_below n (with_named found names) ≡ true
 with_below n found [] h q = h
 with_below n found (b ∷ names) h q =
     let t : (ltb b n ≡ true) × (all_below n names ≡ true) = and_both (ltb b n) (all_below n names) q in
@@ -281,7 +281,7 @@ module _ (ws : List ℕ) (p : Promise ws) where
   unfolding table_of case_of
   cased = cases_below (block_count ws) (case_of ws) (case_count ws) (λ i h. case_block ws p i h)
 
-  named_here : (b : ℕ) → all_below (length (table_of ws).blocks) (named_by (table_of ws) (terminal_at (table_of ws) b)) ≡ true
+  pub named_here : (b : ℕ) → all_below (length (table_of ws).blocks) (named_by (table_of ws) (terminal_at (table_of ws) b)) ≡ true
   unfolding named_by
   named_here b = rw (length_blocks ws) (by (ltb b (block_count ws)) refl)
     where
@@ -291,7 +291,7 @@ module _ (ws : List ℕ) (p : Promise ws) where
           subst (λ (k : Block). all_below (block_count ws) (named_by (table_of ws) k.terminal) ≡ true)
           (sym (get_or-eq_default (table_of ws).blocks no_block (omega (arith, ltb-false b (block_count ws) e, length_blocks ws)))) refl
 
-  entry_here : (table_of ws).entry < length (table_of ws).blocks
+  pub entry_here : (table_of ws).entry < length (table_of ws).blocks
   unfolding table_of
   entry_here = rw (length_blocks ws) p.entry
 

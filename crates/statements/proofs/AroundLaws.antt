@@ -1,4 +1,6 @@
 -- The pass over the frames, one at a time: what is left gives what all give; and where the jump goes.
+use Rattle.std.specs.Prelude.{None, Some}
+use Rattle.std.specs.Prelude as std
 use Prim.Native.Nat.{ℕ, zero, suc, ◌-◌, ◌≤◌, ◌<◌}
 use native.Mathlib.Omega.{arith}
 use mathlib.Core.Path.{◌≡◌, refl, sym, ap, ◌∙◌}
@@ -17,11 +19,9 @@ use Rattle.machine.specs.Machine.{enclosing_by, enclosings, around_of}
 use Rattle.machine.specs.Survey.{Survey, unseen, pass, survey}
 use Rattle.machine.proofs.Goals.{break_surveyed, continue_surveyed, break_rust, continue_rust}
 use Rattle.definition.proofs.Steps.{true_false}
-use Rattle.control.specs.declared.Resolved.{Resolved}
-use Rattle.control.specs.declared.Resolved.TheVariants as resolved
+use Rattle.control.specs.declared.Resolution as resolved
 use Rattle.control.specs.Abstraction.{resolved_of, resolution_of}
-use Rattle.control.specs.declared.around.Aim.{Aim}
-use Rattle.control.specs.declared.around.Aim.TheVariants as aim
+use Rattle.control.specs.declared.around.Goal as code
 use Rattle.control.specs.AroundAbstraction.{aim_of, FoundBelow, AimBelow}
 use Rattle.control.specs.Pass.{asks_around, passed_from, target_sought, unseen_by}
 use Rattle.statements.specs.declared.plan.Frame.{Frame}
@@ -100,7 +100,7 @@ labeled_same found a b k n = rw (k, n) refl
 -- ---- the pass
 
 -- the first so many frames give what all give, where the statements around are asked at all
-pub record Surveying (sought : Jump) (rule : Rule) (w : List ℕ) (frames : List Frame) (depth : ℕ) (found : Option Resolution) (left : ℕ) (seen : Survey) : Type 0 where
+pub record Surveying (sought : std.Option Jump) (rule : Rule) (w : List ℕ) (frames : List Frame) (depth : ℕ) (found : Option Resolution) (left : ℕ) (seen : Survey) : Type 0 where
   pub most : left ≤ depth
   pub rest : asks_of rule found ≡ true
       → surveyed_by sought rule (survey (target_sought found) (enclosings (table_of w) (frames_of frames depth)) (unseen_by found)) found
@@ -110,7 +110,7 @@ pub passed_most : (asked : Bool) (depth left : ℕ) → left ≡ passed_from ask
 passed_most true depth left e = omega (arith, e)
 passed_most false depth left e = omega (arith, e)
 
-module _ (sought : Jump) (rule : Rule) (w : List ℕ) (frames : List Frame) (depth : ℕ) (found : Option Resolution) where
+module _ (sought : std.Option Jump) (rule : Rule) (w : List ℕ) (frames : List Frame) (depth : ℕ) (found : Option Resolution) where
   pub survey_start : (left : ℕ) (asked : Bool) (seen : Survey) → asked ≡ asks_of rule found → left ≡ passed_from asked depth → seen ≡ unseen_by found
       → Surveying sought rule w frames depth found left seen
   survey_start left true seen a l s = record { most = omega (arith, l); rest = λ _. rw (l, s) refl }
@@ -131,28 +131,28 @@ module _ (sought : Jump) (rule : Rule) (w : List ℕ) (frames : List Frame) (dep
   unfolding survey frames_of
   survey_done left seen h z = by sought rule found left h z
     where
-      by : (sought : Jump) (rule : Rule) (found : Option Resolution) (left : ℕ) → Surveying sought rule w frames depth found left seen → left ≤ 0
+      by : (sought : std.Option Jump) (rule : Rule) (found : Option Resolution) (left : ℕ) → Surveying sought rule w frames depth found left seen → left ≤ 0
           → surveyed_by sought rule seen found ≡ goal_by sought (around_of rule (table_of w) (frames_of frames depth)) found
-      by jump.Nothing rule found left h z = refl
-      by (jump.Break b) rule none left h z = refl
-      by (jump.Break b) rust (some f) left h z = ap some (sym (break_rust (around_of rust (table_of w) (frames_of frames depth)) seen f refl))
-      by (jump.Break b) language (some f) zero h z = sym (break_asked (around_of language (table_of w) (frames_of frames depth)) seen f refl (λ y. h.rest y))
-      by (jump.Break b) language (some f) (suc left) h z = absurd (omega (arith, z))
-      by (jump.Continue b) rule none left h z = refl
-      by (jump.Continue b) rust (some f) left h z = ap some (sym (continue_rust (around_of rust (table_of w) (frames_of frames depth)) seen f refl))
-      by (jump.Continue b) language (some f) zero h z = sym (continue_asked (around_of language (table_of w) (frames_of frames depth)) seen f refl (λ y. h.rest y))
-      by (jump.Continue b) language (some f) (suc left) h z = absurd (omega (arith, z))
+      by None rule found left h z = refl
+      by (Some (jump.Break b)) rule none left h z = refl
+      by (Some (jump.Break b)) rust (some f) left h z = ap some (sym (break_rust (around_of rust (table_of w) (frames_of frames depth)) seen f refl))
+      by (Some (jump.Break b)) language (some f) zero h z = sym (break_asked (around_of language (table_of w) (frames_of frames depth)) seen f refl (λ y. h.rest y))
+      by (Some (jump.Break b)) language (some f) (suc left) h z = absurd (omega (arith, z))
+      by (Some (jump.Continue b)) rule none left h z = refl
+      by (Some (jump.Continue b)) rust (some f) left h z = ap some (sym (continue_rust (around_of rust (table_of w) (frames_of frames depth)) seen f refl))
+      by (Some (jump.Continue b)) language (some f) zero h z = sym (continue_asked (around_of language (table_of w) (frames_of frames depth)) seen f refl (λ y. h.rest y))
+      by (Some (jump.Continue b)) language (some f) (suc left) h z = absurd (omega (arith, z))
 
 -- the label was seen at a frame that is not the next: nothing is left to ask
 module _ (w : List ℕ) (frames : List Frame) (depth : ℕ) where
-  pub survey_known : (sought : Jump) (rule : Rule) (found : Option Resolution) (k : ℕ) (seen looked : Survey) → k < depth → seen ≡ unseen_by found
+  pub survey_known : (sought : std.Option Jump) (rule : Rule) (found : Option Resolution) (k : ℕ) (seen looked : Survey) → k < depth → seen ≡ unseen_by found
       → looked ≡ pass (target_sought found) (enclosed_by w frames k) seen → known_by sought found looked.named ≡ true → Surveying sought rule w frames depth found 0 looked
-  survey_known jump.Nothing rule found k seen looked h s l n = absurd (true_false (sym n))
-  survey_known (jump.Break b) rule none k seen looked h s l n = absurd (true_false (sym n))
-  survey_known (jump.Continue b) rule found k seen looked h s l n = absurd (true_false (sym n))
-  survey_known (jump.Break b) rule (some f) k seen looked h s l n = at f.kind refl n
+  survey_known None rule found k seen looked h s l n = absurd (true_false (sym n))
+  survey_known (Some (jump.Break b)) rule none k seen looked h s l n = absurd (true_false (sym n))
+  survey_known (Some (jump.Continue b)) rule found k seen looked h s l n = absurd (true_false (sym n))
+  survey_known (Some (jump.Break b)) rule (some f) k seen looked h s l n = at f.kind refl n
     where
-      at : (kind : Kind) → f.kind ≡ kind → enough_for kind looked.named ≡ true → Surveying (jump.Break b) rule w frames depth (some f) 0 looked
+      at : (kind : Kind) → f.kind ≡ kind → enough_for kind looked.named ≡ true → Surveying (Some (jump.Break b)) rule w frames depth (some f) 0 looked
       at implicit e m = absurd (true_false (sym m))
       at unlabeled e m = absurd (true_false (sym m))
       at labeled e m = record { most = omega arith; rest = λ y. by rule y }
@@ -164,8 +164,8 @@ module _ (w : List ℕ) (frames : List Frame) (depth : ℕ) where
           all = label_around w frames f.target k depth (unseen f.loops) h there
 
           by : (rule : Rule) → asks_of rule (some f) ≡ true
-              → surveyed_by (jump.Break b) rule (survey f.target (enclosings (table_of w) (frames_of frames depth)) (unseen f.loops)) (some f)
-              ≡ surveyed_by (jump.Break b) rule (survey f.target (enclosings (table_of w) (frames_of frames 0)) looked) (some f)
+              → surveyed_by (Some (jump.Break b)) rule (survey f.target (enclosings (table_of w) (frames_of frames depth)) (unseen f.loops)) (some f)
+              ≡ surveyed_by (Some (jump.Break b)) rule (survey f.target (enclosings (table_of w) (frames_of frames 0)) looked) (some f)
           by rust y = absurd (true_false (sym (rw e at y)))
           by language y = ap some
               (labeled_same f (survey f.target (enclosings (table_of w) (frames_of frames depth)) (unseen f.loops)) (survey f.target (enclosings (table_of w) (frames_of frames 0)) looked) e
@@ -184,13 +184,13 @@ is_some (some goal) = 1
 goal_none : {goal : Goal} → some goal ≡ none → ⊥
 goal_none e = let o : ◌≡◌ {A = ℕ} 1 0 = ap is_some e in omega arith
 
-pub aim_below : (sought : Jump) (rule : Rule) (seen : Survey) (found : Resolved) (aimed : Aim) → aim_of aimed ≡ surveyed_by sought rule seen (resolved_of found) → FoundBelow found → AimBelow aimed
-aim_below sought rule seen found aim.Nothing e h = tt
-aim_below jump.Nothing rule seen found (aim.At goal) e h = absurd (goal_none e)
-aim_below (jump.Break b) rule seen resolved.Nothing (aim.At goal) e h = absurd (goal_none e)
-aim_below (jump.Break b) rule seen (resolved.Found r) (aim.At goal) e h = let q : goal.target ≡ (resolution_of r).target = ap target_or e in omega (arith, q, h)
-aim_below (jump.Continue b) rule seen resolved.Nothing (aim.At goal) e h = absurd (goal_none e)
-aim_below (jump.Continue b) rule seen (resolved.Found r) (aim.At goal) e h = let q : goal.target ≡ (resolution_of r).target = ap target_or e in omega (arith, q, h)
+pub aim_below : (sought : std.Option Jump) (rule : Rule) (seen : Survey) (found : std.Option resolved.Resolution) (aimed : std.Option code.Goal) → aim_of aimed ≡ surveyed_by sought rule seen (resolved_of found) → FoundBelow found → AimBelow aimed
+aim_below sought rule seen found None e h = tt
+aim_below None rule seen found (Some goal) e h = absurd (goal_none e)
+aim_below (Some (jump.Break b)) rule seen None (Some goal) e h = absurd (goal_none e)
+aim_below (Some (jump.Break b)) rule seen (Some r) (Some goal) e h = let q : goal.target ≡ (resolution_of r).target = ap target_or e in omega (arith, q, h)
+aim_below (Some (jump.Continue b)) rule seen None (Some goal) e h = absurd (goal_none e)
+aim_below (Some (jump.Continue b)) rule seen (Some r) (Some goal) e h = let q : goal.target ≡ (resolution_of r).target = ap target_or e in omega (arith, q, h)
 
 -- ---- whether they are asked
 

@@ -1,12 +1,12 @@
 -- Branch.
+use Rattle.std.specs.Prelude.{None, Ok, Err, IfOk}
+use Rattle.std.specs.Prelude as std
 use Prim.Native.Nat.{ℕ, ◌+◌, ◌-◌}
 use native.Mathlib.Omega.{arith}
 use mathlib.Core.Path.{◌≡◌, refl, sym, ap, ◌∙◌, subst}
 use mathlib.Core.Bool.{Bool, true, false, ◌||◌}
 use mathlib.Core.List.{List, [], ◌∷◌, ◌++◌, append-nil, append_assoc}
 use mathlib.Core.Option.{Option, none}
-use lib.Dec.{eqb}
-use borrow.Author.Tests.{eq-eqb, ne_eqb}
 use Rattle.table.specs.declared.columns.Span.{Span}
 use Rattle.table.specs.Promise.{Ends, Heads}
 use Rattle.table.specs.Table.{Terminal, table_of, block_at, branch}
@@ -23,13 +23,17 @@ use Rattle.machine.proofs.Goals.{break_goal_lem}
 use Rattle.machine.specs.Machine as machine
 use Rattle.definition.specs.Result.{Result, ok, ◌>>=◌}
 use Rattle.definition.specs.Statement.{visit_break}
-use Rattle.definition.specs.Tree.{row, Statement}
-use Rattle.control.specs.declared.around.Aim.{Aim}
+use Rattle.definition.specs.Tree.{Row, row, Statement}
+use Rattle.control.specs.declared.around.Goal as code
 use Rattle.control.specs.AroundAbstraction.{aim_of}
-use Rattle.values.specs.Rows.{Written}
+use Rattle.values.specs.Rows.{Holds, Written}
+use Rattle.values.specs.Stack.{pushed}
 use Rattle.statements.specs.declared.jump.Jumped.{Jumped}
+use Rattle.statements.specs.declared.refusal.Refusal.{Refusal}
+use Rattle.statements.specs.declared.refusal.Refusal.TheVariants.{BranchAlternateScheduled}
+use Rattle.statements.specs.declared.refusal.Refused.{Refused}
+use Rattle.statements.specs.Refusal.{refusal_code, refusal_place}
 use Rattle.statements.specs.declared.plan.Position.{Position}
-use Rattle.statements.specs.declared.plan.Change.TheVariants.{Nothing}
 use Rattle.statements.specs.declared.plan.Plan.{Plan}
 use Rattle.statements.specs.Plans.{refusing, nesting, open_frame, second}
 use Rattle.statements.specs.Jumps.{JumpMet, jumped_to, break_outcome, BranchSeen}
@@ -53,22 +57,22 @@ module _ {w : List ℕ} (p : Position) {x c a : ℕ} (ends : Ends w p.block (bra
     unfolding terminal_turn branch_turn
     branch_is_lem y F R C q = step_in around w p _ F R C ends.is ∙ ap (λ (z : Bool). turned z (block_at (table_of w) p.block).id F R C) q
 
-    module _ (S H O : Flags) (aim : Aim) where
+    module _ (S H O : Flags) (aim : std.Option code.Goal) where
       abbrev On : definition.Context → Type 0
       On = BranchSeen w p S H O aim around
 
-      pub branch_nested : (b : List ℕ) (plan : Plan) → has S c || has H c ≡ false → plan ≡ nesting c (open_frame p 65535 0) (p.depth + 1) p.rows p.visits 65535 65535 Nothing
-          → Planned (terminal_step_in around w p) On [] p.depth p.rows b plan b
-      branch_nested b plan f e = subst (λ (z : Plan). Planned (terminal_step_in around w p) On [] p.depth p.rows b z b) (sym e) (record {
+      pub branch_nested : (b : List ℕ) (plan : Plan) → has S c || has H c ≡ false → plan ≡ nesting c (open_frame p 65535 0) (p.depth + 1) p.rows p.visits 65535 65535 None
+          → Planned (terminal_step_in around w p) On [] p.depth p.rows b (Ok plan) b
+      branch_nested b plan f e = subst (λ (z : Plan). Planned (terminal_step_in around w p) On [] p.depth p.rows b (Ok z) b) (sym e) (record {
         out = [];
-        held = λ _ before h. rw (append-nil before) h;
+        held = λ before h. rw (append-nil before) h;
         same = λ F R C d o. rw (out_nil R) (ap turn (branch_is_lem false F R C (seen_scheduled S H p.visits C o.sets c ∙ f)) ∙ turn_ok _
-            ∙ sym (nest_applied c (open_frame p 65535 0) (p.depth + 1) p.rows p.visits 65535 65535 Nothing F R C _ refl ∙ rw
+            ∙ sym (nest_applied c (open_frame p 65535 0) (p.depth + 1) p.rows p.visits 65535 65535 None F R C _ refl ∙ rw
             (no_number, d.many, visits_same p.visits C o.sets.visits, within_all (p.depth + 1 - 1) F (omega (arith, d.deep)))));
-        fitting = λ _. record { change = tt; handler = rw no_number tt; scope = rw no_number tt; deep = λ _. omega arith; next = omega arith; nested = tt };
+        fitting = record { change = tt; handler = rw no_number tt; scope = rw no_number tt; deep = λ _. omega arith; next = omega arith; nested = tt };
       })
 
-      module _ {first count id : ℕ} {span : Span} (heads : Heads w p.block first count id span) (b : List ℕ) (jump : Jumped) (b₁ : List ℕ)
+      module _ {first count id : ℕ} {span : Span} (heads : Heads w p.block first count id span) (b : List ℕ) (jump : std.Result Jumped Refusal) (b₁ : List ℕ)
           (busy : has S c || has H c ≡ true) (met : JumpMet (break_outcome p.block c id aim) O p.visits p.rows b jump b₁) where
         abbrev st : Option Statement
         st = met.statement
@@ -76,7 +80,7 @@ module _ {w : List ℕ} (p : Position) {x c a : ℕ} (ends : Ends w p.block (bra
         abbrev rest : List machine.Frame → Output → definition.Context → Option Statement → Result State
         rest F R C s = into a 19 p.block (second_part (machine.frame_of p.block none 0 R p.count)) F ((R ⊕ jump_out s) ⊕ (block_row (added s 0) ∷ [])) C
 
-        jumped : (F : List machine.Frame) (R : Output) (C : definition.Context) → On C → terminal_step_in around w p F R C ≡ jumped_to (eqb jump.code 0) jump st p.visits >>= rest F R C
+        jumped : (F : List machine.Frame) (R : Output) (C : definition.Context) → On C → terminal_step_in around w p F R C ≡ jumped_to jump st p.visits >>= rest F R C
         unfolding visit_break
         jumped F R C o =
             let q : is_scheduled C c ≡ true = seen_scheduled S H p.visits C o.sets c ∙ busy in
@@ -85,46 +89,49 @@ module _ {w : List ℕ} (p : Position) {x c a : ℕ} (ends : Ends w p.block (bra
             ∙ ap (λ (z : Option Goal). break_to p.block c id C z >>= rest F R C) (sym (subst (λ (z : Terminal). Resolves z around C (aim_of aim)) ends.is o.jump q))
             ∙ ap (λ (m : Result (Option Statement)). m >>= rest F R C) (met.same C o.seen)
 
-        pub branch_refused : (plan : Plan) (b' : List ℕ) → (jump.code ≡ 0 → ⊥) → plan ≡ refusing p jump.code jump.at → Planned (terminal_step_in around w p) On [] p.depth p.rows b plan b'
+        pub branch_refused : {refusal : Refusal} (plan : std.Result Plan Refused) (b' : List ℕ) → jump ≡ Err refusal → plan ≡ refusing p refusal
+            → Planned (terminal_step_in around w p) On [] p.depth p.rows b plan b'
         unfolding ◌>>=◌
-        branch_refused plan b' z e = subst (λ (k : Plan). Planned (terminal_step_in around w p) On [] p.depth p.rows b k b') (sym e) (record {
+        branch_refused {refusal} plan b' z e = subst (λ (k : std.Result Plan Refused). Planned (terminal_step_in around w p) On [] p.depth p.rows b k b') (sym e) (record {
           out = [];
-          held = λ k. absurd (z k);
-          same = λ F R C d o. ap turn (jumped F R C o ∙ ap (λ (y : Bool). jumped_to y jump st p.visits >>= rest F R C) (ne_eqb jump.code 0 z)) ∙ turn_refused jump.code jump.at p.visits
-              ∙ sym (refuse_applied p jump.code jump.at F (R ⊕ []) C z);
-          fitting = λ k. absurd (z k);
+          held = tt;
+          same = λ F R C d o. ap turn (jumped F R C o ∙ ap (λ (r : std.Result Jumped Refusal). jumped_to r st p.visits >>= rest F R C) z)
+              ∙ turn_refused (refusal_code refusal) (refusal_place refusal) p.visits
+              ∙ sym (refuse_applied p refusal F (R ⊕ []) C);
+          fitting = tt;
         })
 
-        went : (F : List machine.Frame) (R : Output) (C : definition.Context) → jump.code ≡ 0 → On C → terminal_step_in around w p F R C ≡ rest F R C st
+        went : {done : Jumped} (F : List machine.Frame) (R : Output) (C : definition.Context) → jump ≡ Ok done → On C → terminal_step_in around w p F R C ≡ rest F R C st
         unfolding ◌>>=◌
-        went F R C z o = jumped F R C o ∙ ap (λ (y : Bool). jumped_to y jump st p.visits >>= rest F R C) (eq-eqb jump.code 0 z)
+        went F R C z o = jumped F R C o ∙ ap (λ (r : std.Result Jumped Refusal). jumped_to r st p.visits >>= rest F R C) z
 
-        pub branch_taken : (plan : Plan) (b' : List ℕ) → jump.code ≡ 0 → has S a || has H a ≡ true → plan ≡ refusing p 19 p.block → Planned (terminal_step_in around w p) On [] p.depth p.rows b plan b'
-        branch_taken plan b' z f e = subst (λ (k : Plan). Planned (terminal_step_in around w p) On [] p.depth p.rows b k b') (sym e) (record {
+        pub branch_taken : {done : Jumped} (plan : std.Result Plan Refused) (b' : List ℕ) → jump ≡ Ok done → has S a || has H a ≡ true → plan ≡ refusing p (BranchAlternateScheduled p.block)
+            → Planned (terminal_step_in around w p) On [] p.depth p.rows b plan b'
+        branch_taken plan b' z f e = subst (λ (k : std.Result Plan Refused). Planned (terminal_step_in around w p) On [] p.depth p.rows b k b') (sym e) (record {
           out = [];
-          held = λ k. absurd (omega (arith, k));
+          held = tt;
           same =
               λ F R C d o. ap turn (went F R C z o ∙ into_busy a 19 p.block _ F _ C
               (seen_scheduled S H p.visits C o.sets a ∙ f)) ∙ turn_refused 19 p.block C.visits
-              ∙ ap (λ (v : ℕ). halt (rejected 19 p.block v)) o.sets.visits ∙ sym (refuse_applied p 19 p.block F (R ⊕ []) C (λ k. omega arith));
-          fitting = λ k. absurd (omega (arith, k));
+              ∙ ap (λ (v : ℕ). halt (rejected 19 p.block v)) o.sets.visits ∙ sym (refuse_applied p (BranchAlternateScheduled p.block) F (R ⊕ []) C);
+          fitting = tt;
         })
 
-        pub branch_other : (op n rows' : ℕ) (plan : Plan) (b' : List ℕ) → jump.code ≡ 0 → op ≡ 9 → n ≡ jump.count → Written b₁ jump.rows (row op n 0 0 0 0) b' rows' → has S a || has H a ≡ false
-            → plan ≡ nesting a (second (open_frame p 65535 0)) (p.depth + 1) rows' p.visits 65535 65535 Nothing → Planned (terminal_step_in around w p) On [] p.depth p.rows b plan b'
-        branch_other op n rows' plan b' z o₉ counted h f e = subst (λ (k : Plan). Planned (terminal_step_in around w p) On [] p.depth p.rows b k b') (sym e) (record {
+        pub branch_other : {done : Jumped} (op n rows' : ℕ) (plan : Plan) (b' : List ℕ) → jump ≡ Ok done → op ≡ 9 → n ≡ done.count → Written b₁ done.rows (row op n 0 0 0 0) b' rows' → has S a || has H a ≡ false
+            → plan ≡ nesting a (second (open_frame p 65535 0)) (p.depth + 1) rows' p.visits 65535 65535 None → Planned (terminal_step_in around w p) On [] p.depth p.rows b (Ok plan) b'
+        branch_other {done} op n rows' plan b' z o₉ counted h f e = subst (λ (k : Plan). Planned (terminal_step_in around w p) On [] p.depth p.rows b (Ok k) b') (sym e) (record {
           out = jump_out st ++ (row op n 0 0 0 0 ∷ []);
-          held = λ _ before k. rw (sym (append_assoc before (jump_out st) (row op n 0 0 0 0 ∷ []))) (row_held b₁ b' jump.rows rows' (row op n 0 0 0 0) h (before ++ jump_out st) (met.held z before k));
+          held = λ before k. rw (sym (append_assoc before (jump_out st) (row op n 0 0 0 0 ∷ []))) (row_held b₁ b' done.rows rows' (row op n 0 0 0 0) h (before ++ jump_out st) ((subst (λ (r : std.Result Jumped Refusal). IfOk r (λ jumped. (before : List Row) → Holds b p.rows (pushed before []) → Holds b₁ jumped.rows (pushed (before ++ jump_out st) []))) z met.held) before k));
           same =
               λ F R C d o. ap turn (went F R C z o ∙ into_free a 19 p.block _ F _ C
               (seen_scheduled S H p.visits C o.sets a ∙ f)) ∙ turn_ok _
               ∙ ap (λ (l : Output). going (visiting a (second_part (machine.frame_of p.block none 0 R p.count) ∷ F) l 0 C)) (rows_are R)
-              ∙ sym (nest_applied a (second (open_frame p 65535 0)) (p.depth + 1) rows' p.visits 65535 65535 Nothing F (R ⊕ (jump_out st ++ (row op n 0 0 0 0 ∷ []))) C _ refl
+              ∙ sym (nest_applied a (second (open_frame p 65535 0)) (p.depth + 1) rows' p.visits 65535 65535 None F (R ⊕ (jump_out st ++ (row op n 0 0 0 0 ∷ []))) C _ refl
               ∙ rw (no_number, d.many, visits_same p.visits C o.sets.visits, within_all (p.depth + 1 - 1) F (omega (arith, d.deep))));
-          fitting = λ _. record { change = tt; handler = rw no_number tt; scope = rw no_number tt; deep = λ _. omega arith; next = omega arith; nested = tt };
+          fitting = record { change = tt; handler = rw no_number tt; scope = rw no_number tt; deep = λ _. omega arith; next = omega arith; nested = tt };
         })
           where
             rows_are : (R : Output) → (R ⊕ jump_out st) ⊕ (block_row (added st 0) ∷ []) ≡ R ⊕ (jump_out st ++ (row op n 0 0 0 0 ∷ []))
             rows_are R =
-                ap (λ (k : ℕ). (R ⊕ jump_out st) ⊕ (block_row k ∷ [])) (sym (counted ∙ met.count z)) ∙ ap (λ (k : ℕ). (R ⊕ jump_out st) ⊕ (row k n 0 0 0 0 ∷ []))
+                ap (λ (k : ℕ). (R ⊕ jump_out st) ⊕ (block_row k ∷ [])) (sym (counted ∙ subst (λ (r : std.Result Jumped Refusal). IfOk r (λ jumped. jumped.count ≡ added st 0)) z met.count)) ∙ ap (λ (k : ℕ). (R ⊕ jump_out st) ⊕ (row k n 0 0 0 0 ∷ []))
                 (sym o₉) ∙ out_assoc R (jump_out st) (row op n 0 0 0 0 ∷ [])

@@ -1,4 +1,6 @@
 -- A statement's closing: its row by the code of its block, and its plan.
+use Rattle.std.specs.Prelude.{None, Some, Ok}
+use Rattle.std.specs.Prelude as std
 use Prim.Native.Nat.{ℕ, zero, suc, ◌+◌, ◌-◌, ◌≤◌, ◌<◌}
 use native.Mathlib.Omega.{arith}
 use mathlib.Core.Path.{◌≡◌, refl, sym, ap, ◌∙◌, subst}
@@ -13,8 +15,8 @@ use Rattle.table.specs.declared.columns.Span.{Span}
 use Rattle.table.specs.Promise.{Promise, Ends, Heads}
 use Rattle.table.specs.Table.{Table, Block, Terminal, absent, unreachable, throw, return, goto, if, branch, switch, do_while, while, for, for_of, for_in}
 use Rattle.table.specs.Table.{logical, ternary, optional, label, sequence, maybe_throw, try, scope, code_of, table_of, terminal_of, terminal_at}
+use Rattle.table.specs.Columns.{maybe_of}
 use Rattle.table.specs.Table.{unless_none}
-use Rattle.table.proofs.RangeLaws.{code_known}
 use Rattle.table.proofs.BlockLaws.{no_number, some_number, end_by, code_at_lem}
 use Rattle.definition.specs.Context as definition
 use Rattle.machine.specs.Machine.{enclosing_by, enclosing_label, popping, going, turn, unscheduled, complete, close_by, close, closing_row_of, with_entries}
@@ -31,7 +33,6 @@ use Rattle.statements.specs.declared.plan.Position.{Position}
 use Rattle.statements.specs.declared.plan.Frame.{Frame}
 use Rattle.statements.specs.declared.plan.Change.{Change}
 use Rattle.statements.specs.declared.plan.Line.{Line}
-use Rattle.statements.specs.declared.plan.Line.TheVariants as line
 use Rattle.statements.specs.declared.plan.Plan.{Plan}
 use Rattle.statements.specs.Plans.{frame_of, changed, lined, applied, leaving, with_line, popping_next, unschedule_if}
 use Rattle.statements.specs.Planned.{NamedChange, Stands}
@@ -41,6 +42,10 @@ use Rattle.statements.proofs.PlanLaws.{within_rest, visits_same, leave_lined, le
 use Rattle.statements.proofs.StepLaws.{turn_ok}
 
 -- ---- the closing row
+
+flag_update : (update : std.Option ℕ) → flag_of (std.is_some update) ≡ update_present (maybe_of update)
+flag_update std.None = refl
+flag_update (std.Some block) = refl
 
 pub or_none_lem : (n : ℕ) → or_none (unless_none n) ≡ n
 unfolding unless_none
@@ -65,10 +70,10 @@ module _ {w : List ℕ} (frame : Frame) {r : ClosingRow} {first count id : ℕ} 
   unfolding closing_row_of
   switch_closes ends is = rw (ends.is, heads.is_id, or_none_lem frame.label) is
 
-  pub for_closes : {init test present loop f : ℕ} {update : Option ℕ} → Ends w frame.block (for init test update loop f) → present ≡ update_present update
+  pub for_closes : {init test present loop f : ℕ} (update : std.Option ℕ) → Ends w frame.block (for init test (maybe_of update) loop f) → present ≡ flag_of (std.is_some update)
       → row_of r ≡ row 15 id frame.label present 0 0 → row_of r ≡ closing_row_at w frame
   unfolding closing_row_of
-  for_closes ends there is = rw (ends.is, heads.is_id, or_none_lem frame.label) (rw there at is)
+  for_closes update ends there is = rw (ends.is, heads.is_id, or_none_lem frame.label) (rw (there, flag_update update) at is)
 
   pub try_closes : {x y f binding : ℕ} → Ends w frame.block (try x y f (unless_none binding)) → row_of r ≡ row 19 id frame.label binding 0 0 → row_of r ≡ closing_row_at w frame
   unfolding closing_row_of
@@ -200,22 +205,18 @@ module _ (w : List ℕ) (frame : Frame) (pr : Promise w) (h : frame.block < bloc
   abbrev terminal : Terminal
   terminal = terminal_at (table_of w) frame.block
 
-  pub unlabelled_line : frame.label ≡ 65535 → line.Nothing ≡ line_at w frame
+  pub unlabelled_line : frame.label ≡ 65535 → None ≡ line_at w frame
   unlabelled_line e =
       ap (λ (o : Option ℕ). line_as o frame.first) (sym (ap (λ (o : Option ℕ). enclosing_label (enclosing_by terminal o)) (ap unless_none e ∙ no_number) ∙ no_label terminal))
 
-  pub scope_line : {code : ℕ} → code ≡ code_at w frame.block → 20 ≤ code → line.Nothing ≡ line_at w frame
+  pub scope_line : {code : ℕ} → code ≡ code_at w frame.block → 20 ≤ code → None ≡ line_at w frame
   scope_line e k =
       ap (λ (o : Option ℕ). line_as o frame.first) (sym ((row_label terminal (unless_none frame.label)).0 (omega (arith, e, k, code_at_lem w frame.block pr h))))
 
-  pub labelled_line : {code : ℕ} → code ≡ code_at w frame.block → (frame.label ≡ 65535 → ⊥) → (code ≡ 20 → ⊥) → (code ≡ 21 → ⊥) → line.Put frame.label frame.first ≡ line_at w frame
-  labelled_line {code} e f a b =
-      let most : code_at w frame.block ≤ 21 = code_known w pr frame.block h in
-      let few : 20 ≤ code_of terminal → ⊥ = λ k. past code (omega (arith, e, k, code_at_lem w frame.block pr h)) (omega (arith, e, most)) a b in
-      ap (λ (o : Option ℕ). line_as o frame.first) (sym ((row_label terminal (unless_none frame.label)).1 few ∙ some_number frame.label f))
-    where
-      past : (n : ℕ) → 20 ≤ n → n ≤ 21 → (n ≡ 20 → ⊥) → (n ≡ 21 → ⊥) → ⊥
-      past n k m x y = omega (arith, k, m, x, y)
+  pub labelled_line : {code : ℕ} → code ≡ code_at w frame.block → (frame.label ≡ 65535 → ⊥) → code < 20 → Some (record { label = frame.label; first = frame.first }) ≡ line_at w frame
+  labelled_line {code} e f few =
+      let below : 20 ≤ code_of terminal → ⊥ = λ k. omega (arith, k, e, few, code_at_lem w frame.block pr h) in
+      ap (λ (o : Option ℕ). line_as o frame.first) (sym ((row_label terminal (unless_none frame.label)).1 below ∙ some_number frame.label f))
 
 -- a line is that of the closing row behind it
 line_closed : (o : Option ℕ) (first rows : ℕ) (R : Output) (last : Row) → rows ≡ length R.rows + 1
@@ -250,35 +251,35 @@ close_last (suc (suc n)) t f F R C h = absurd (omega arith)
 
 module _ (w : List ℕ) (p : Position) (frame : Frame) (cl : Closing w p frame) where
   -- further entries are left
-  pub closed_popping : (plan : Plan) (buffer : List ℕ) → 2 ≤ frame.entries → plan ≡ popping_next (entries_less frame) p.depth p.rows p.visits → PlannedClose w p frame buffer plan buffer
+  pub closed_popping : (plan : Plan) (buffer : List ℕ) → 2 ≤ frame.entries → plan ≡ popping_next (entries_less frame) p.depth p.rows p.visits → PlannedClose w p frame buffer (Ok plan) buffer
   unfolding close
-  closed_popping plan buffer h e = subst (λ (y : Plan). PlannedClose w p frame buffer y buffer) (sym e) (record {
+  closed_popping plan buffer h e = subst (λ (y : Plan). PlannedClose w p frame buffer (Ok y) buffer) (sym e) (record {
     out = [];
-    held = λ _ before k. rw (append-nil before) k;
+    held = λ before k. rw (append-nil before) k;
     same = λ F R C d on. rw (out_nil R) (same F R C d.deep on);
-    fitting = λ _. record { change = omega arith; handler = rw no_number tt; scope = rw no_number tt; deep = λ _. cl.depth; next = omega arith; nested = refl };
+    fitting = record { change = omega arith; handler = rw no_number tt; scope = rw no_number tt; deep = λ _. cl.depth; next = omega arith; nested = refl };
   })
     where
       same : (F : List machine.Frame) (R : Output) (C : definition.Context) → length (frame_of frame ∷ F) ≡ p.depth → C.visits ≡ p.visits
-          → turn (close_step w frame F R C) ≡ applied (popping_next (entries_less frame) p.depth p.rows p.visits) (frame_of frame ∷ F) R C
+          → turn (close_step w frame F R C) ≡ applied (Ok (popping_next (entries_less frame) p.depth p.rows p.visits)) (frame_of frame ∷ F) R C
       same F R C d on = turn_ok _ ∙ ap going (close_many frame.entries (table_of w) (frame_of frame) F R C h)
           ∙ sym (pop_applied (entries_less frame) p.depth p.rows p.visits (frame_of frame ∷ F) R C ∙ rw (visits_same p.visits C on, within_rest p.depth (frame_of frame) F d))
 
   -- the last one, or none: the statement is complete
   pub closed_complete : (plan : Plan) (buffer buffer' : List ℕ) (last : Row) (rows : ℕ) → frame.entries < 2 → last ≡ closing_row_at w frame → Written buffer p.rows last buffer' rows
-      → {change : Change} {left : Plan} {own : Line} → own ≡ line_at w frame → change ≡ unschedule_if (eqb frame.entries 0)
-      → left ≡ leaving frame.label (p.depth - 1) (frame.count + 1) rows p.visits change → plan ≡ with_line left own → PlannedClose w p frame buffer plan buffer'
+      → {change : std.Option Change} {left : Plan} {own : std.Option Line} → own ≡ line_at w frame → change ≡ unschedule_if (eqb frame.entries 0)
+      → left ≡ leaving frame.label (p.depth - 1) (frame.count + 1) rows p.visits change → plan ≡ with_line left own → PlannedClose w p frame buffer (Ok plan) buffer'
   unfolding close
   closed_complete plan buffer buffer' last rows h r put {own = own} l u q e =
-      let away : ℕ → Change → Plan = λ n change. leaving frame.label (p.depth - 1) (frame.count + 1) n p.visits change in
+      let away : ℕ → std.Option Change → Plan = λ n change. leaving frame.label (p.depth - 1) (frame.count + 1) n p.visits change in
       let is : plan ≡ with_line (away rows (unschedule_if (eqb frame.entries 0))) (line_at w frame) =
       e ∙ ap (λ (z : Plan). with_line z own) (q ∙ ap (away rows) u) ∙ ap (with_line (away rows (unschedule_if (eqb frame.entries 0)))) l in
-      subst (λ (y : Plan). PlannedClose w p frame buffer y buffer') (sym is) (record {
+      subst (λ (y : Plan). PlannedClose w p frame buffer (Ok y) buffer') (sym is) (record {
         out = closing_row_at w frame ∷ [];
-        held = λ _ before k. rw (← r, ← (push_row_after last before)) (written_held put (stack.pushed before []) k);
+        held = λ before k. rw (← r, ← (push_row_after last before)) (written_held put (stack.pushed before []) k);
         same = same;
         fitting =
-            λ _. record {
+            record {
               change = named frame.entries h;
               handler = rw no_number tt;
               scope = rw no_number tt;
@@ -295,7 +296,7 @@ module _ (w : List ℕ) (p : Position) (frame : Frame) (cl : Closing w p frame) 
 
       same : (F : List machine.Frame) (R : Output) (C : definition.Context) → Stands (frame_of frame ∷ F) R p.depth p.rows → C.visits ≡ p.visits
           → turn (close_step w frame F R C) ≡ applied
-          (with_line (leaving frame.label (p.depth - 1) (frame.count + 1) rows p.visits (unschedule_if (eqb frame.entries 0))) (line_at w frame)) (frame_of frame ∷ F)
+          (Ok (with_line (leaving frame.label (p.depth - 1) (frame.count + 1) rows p.visits (unschedule_if (eqb frame.entries 0))) (line_at w frame))) (frame_of frame ∷ F)
           (R ⊕ (closing_row_at w frame ∷ [])) C
       same F R C d on = turn_ok _ ∙ ap going (close_last frame.entries (table_of w) (frame_of frame) F R C h)
           ∙ sym (leave_lined frame.label (p.depth - 1) (frame.count + 1) rows p.visits (unschedule_if (eqb frame.entries 0)) (frame_of frame ∷ F)

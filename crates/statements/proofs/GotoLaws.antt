@@ -1,16 +1,15 @@
 -- Goto.
+use Rattle.std.specs.Prelude.{None, Ok, Err, IfOk}
+use Rattle.std.specs.Prelude as std
 use Prim.Native.Nat.{ℕ, ◌+◌, ◌≤◌}
 use native.Mathlib.Omega.{arith}
 use mathlib.Core.Path.{◌≡◌, refl, sym, ap, ◌∙◌, subst}
-use mathlib.Core.Bool.{Bool, true, false}
 use mathlib.Core.List.{List, [], append-nil}
 use mathlib.Core.Option.{Option, none, some}
-use lib.Dec.{eqb}
-use borrow.Author.Tests.{eq-eqb, eqb-true}
 use Rattle.table.specs.declared.columns.Span.{Span}
 use Rattle.table.specs.Promise.{Ends, Heads}
-use Rattle.table.specs.Table.{Terminal, table_of, terminal_at, goto, Variant, Break, Continue, Try, variant_of}
-use Rattle.table.proofs.BlockLaws.{no_number, try_variant}
+use Rattle.table.specs.Table.{Terminal, table_of, terminal_at, goto, Variant, Break, Continue, Try}
+use Rattle.table.proofs.BlockLaws.{no_number}
 use Rattle.definition.specs.Context.{Flags, get_break_target, get_continue_target}
 use Rattle.definition.specs.Context as definition
 use Rattle.machine.specs.Machine.{State, ended, turn, leave, terminal_turn}
@@ -22,14 +21,16 @@ use Rattle.machine.specs.Machine as machine
 use Rattle.definition.specs.Result.{Result, ok, refused, ◌>>=◌}
 use Rattle.definition.specs.Statement.{visit_goto, visit_break, visit_continue, TerminalResult}
 use Rattle.definition.specs.Tree.{Statement}
-use Rattle.control.specs.declared.around.Aim.{Aim}
+use Rattle.control.specs.declared.around.Goal as code
 use Rattle.control.specs.AroundAbstraction.{aim_of}
 use Rattle.statements.specs.declared.jump.Jumped.{Jumped}
+use Rattle.statements.specs.declared.refusal.Refusal.{Refusal}
+use Rattle.statements.specs.declared.refusal.Refused.{Refused}
 use Rattle.statements.specs.declared.plan.Position.{Position}
-use Rattle.statements.specs.declared.plan.Change.TheVariants.{Nothing}
 use Rattle.statements.specs.declared.plan.Plan.{Plan}
 use Rattle.statements.specs.Plans.{leaving}
-use Rattle.statements.specs.Jumps.{JumpSeen, JumpMet, jumped_to, break_outcome, continue_outcome, after_jump_by, after_jump, GotoSeen}
+use Rattle.statements.specs.Refusal.{refusal_code, refusal_place}
+use Rattle.statements.specs.Jumps.{JumpSeen, JumpMet, jumped_to, break_outcome, continue_outcome, after_jump, GotoSeen}
 use Rattle.statements.specs.Planned.{Planned, terminal_step_in}
 use Rattle.statements.specs.Turn.{Resolves}
 use Rattle.statements.proofs.PlanLaws.{within_all, visits_same, refuse_applied, leave_applied}
@@ -45,72 +46,68 @@ added_count none n = omega arith
 added_count (some s) n = omega arith
 
 pub jump_planned : (around : Around) (w : List ℕ) (p : Position) (On : definition.Context → Type 0) (outcome : definition.Context
-    → Result (Option Statement)) (O : Flags) (b : List ℕ) (jump : Jumped) (b' : List ℕ) (plan : Plan)
+    → Result (Option Statement)) (O : Flags) (b : List ℕ) (jump : std.Result Jumped Refusal) (b' : List ℕ) (plan : std.Result Plan Refused)
     → ((F : List machine.Frame) (R : Output) (C : definition.Context) → On C → terminal_step_in around w p F R C ≡ jump_step p outcome F R C) → ((C : definition.Context) → On C → JumpSeen O p.visits C)
     → JumpMet outcome O p.visits p.rows b jump b' → plan ≡ after_jump p jump → Planned (terminal_step_in around w p) On [] p.depth p.rows b plan b'
 unfolding ◌>>=◌
-jump_planned around w p On outcome O b jump b' plan step seen met e = subst (λ (z : Plan). Planned (terminal_step_in around w p) On [] p.depth p.rows b z b') (sym e) (by (eqb jump.code 0) refl)
+jump_planned around w p On outcome O b jump b' plan step seen met e = subst (λ (z : std.Result Plan Refused). Planned (terminal_step_in around w p) On [] p.depth p.rows b z b') (sym e) (by jump met)
   where
-    st : Option Statement
-    st = met.statement
+    stepped : (jump : std.Result Jumped Refusal) (met : JumpMet outcome O p.visits p.rows b jump b') (F : List machine.Frame) (R : Output) (C : definition.Context) → On C
+        → turn (terminal_step_in around w p F R C) ≡ turn (jumped_to jump met.statement p.visits >>= λ s. ok (ended F (R ⊕ jump_out s) (added s p.count) C))
+    stepped jump met F R C o = ap turn (step F R C o ∙ ap (λ (z : Result (Option Statement)). z >>= λ s. ok (ended F (R ⊕ jump_out s) (added s p.count) C)) (met.same C (seen C o)))
 
-    cnt : eqb jump.code 0 ≡ true → p.count + jump.count ≡ added st p.count
-    cnt q = ap (λ (n : ℕ). p.count + n) (met.count (eqb-true jump.code 0 q)) ∙ added_count st p.count
-
-    by : (y : Bool) → eqb jump.code 0 ≡ y → Planned (terminal_step_in around w p) On [] p.depth p.rows b (after_jump_by y p jump) b'
-    by true q = record {
-      out = jump_out st;
-      held = λ _ before h. met.held (eqb-true jump.code 0 q) before h;
-      same =
-          λ F R C d o. ap turn (step F R C o ∙ ap (λ (z : Result (Option Statement)). z >>= λ s. ok (ended F (R ⊕ jump_out s) (added s p.count) C))
-          (met.same C (seen C o) ∙ ap (λ (y : Bool). jumped_to y jump st p.visits) q)) ∙ turn_ok _
-          ∙ sym (leave_applied 65535 p.depth (p.count + jump.count) jump.rows p.visits Nothing F (R ⊕ jump_out st) C _ refl
-          ∙ rw (no_number, visits_same p.visits C (seen C o).visits, within_all p.depth F d.deep, cnt q));
-      fitting = λ _. record { change = tt; handler = rw no_number tt; scope = rw no_number tt; deep = λ z. absurd (let o : ◌≡◌ {A = ℕ} 0 1 = cc in omega arith); next = omega arith; nested = tt };
-    }
-    by false q = record {
+    by : (jump : std.Result Jumped Refusal) (met : JumpMet outcome O p.visits p.rows b jump b') → Planned (terminal_step_in around w p) On [] p.depth p.rows b (after_jump p jump) b'
+    by (Ok jumped) met =
+        let counted : p.count + jumped.count ≡ added met.statement p.count = ap (λ (n : ℕ). p.count + n) met.count ∙ added_count met.statement p.count in
+        record {
+          out = jump_out met.statement;
+          held = λ before h. met.held before h;
+          same =
+              λ F R C d o. stepped (Ok jumped) met F R C o ∙ turn_ok _
+              ∙ sym (leave_applied 65535 p.depth (p.count + jumped.count) jumped.rows p.visits None F (R ⊕ jump_out met.statement) C _ refl
+              ∙ rw (no_number, visits_same p.visits C (seen C o).visits, within_all p.depth F d.deep, counted));
+          fitting = record { change = tt; handler = rw no_number tt; scope = rw no_number tt; deep = λ z. absurd (let o : ◌≡◌ {A = ℕ} 0 1 = cc in omega arith); next = omega arith; nested = tt };
+        }
+    by (Err refusal) met = record {
       out = [];
-      held = λ z. absurd (nz z);
+      held = tt;
       same =
-          λ F R C d o. ap turn (step F R C o ∙ ap (λ (z : Result (Option Statement)). z >>= λ s. ok (ended F (R ⊕ jump_out s) (added s p.count) C))
-          (met.same C (seen C o) ∙ ap (λ (y : Bool). jumped_to y jump st p.visits) q))
-          ∙ turn_refused jump.code jump.at p.visits ∙ sym (refuse_applied p jump.code jump.at F (R ⊕ []) C nz);
-      fitting = λ z. absurd (nz z);
+          λ F R C d o. stepped (Err refusal) met F R C o
+          ∙ turn_refused (refusal_code refusal) (refusal_place refusal) p.visits ∙ sym (refuse_applied p refusal F (R ⊕ []) C);
+      fitting = tt;
     }
-      where
-        nz : jump.code ≡ 0 → ⊥
-        nz z = let o : ◌≡◌ {A = Bool} true false = sym (eq-eqb jump.code 0 z) ∙ q in let u : ◌≡◌ {A = ℕ} 0 1 = cc in omega arith
 
-pub jump_count : (outcome : definition.Context → Result (Option Statement)) (O : Flags) (v n : ℕ) (b : List ℕ) (jump : Jumped) (b' : List ℕ)
-    → JumpMet outcome O v n b jump b' → jump.code ≡ 0 → jump.count ≤ 1
-jump_count outcome O v n b jump b' met z = rw (met.count z) (low met.statement)
+pub jump_count : (outcome : definition.Context → Result (Option Statement)) (O : Flags) (v n : ℕ) (b : List ℕ) (jump : std.Result Jumped Refusal) (b' : List ℕ)
+    → JumpMet outcome O v n b jump b' → IfOk jump (λ jumped. jumped.count ≤ 1)
+jump_count outcome O v n b (Ok jumped) b' met = rw met.count (low met.statement)
   where
     low : (s : Option Statement) → added s 0 ≤ 1
     low none = omega arith
     low (some s) = omega arith
+jump_count outcome O v n b (Err refusal) b' met = tt
 
 -- ---- the three variants
 
-module _ {w : List ℕ} (p : Position) (variant : ℕ) {to first count id : ℕ} {span : Span} (ends : Ends w p.block (goto to (variant_of variant)))
-    (heads : Heads w p.block first count id span) (O : Flags) (aim : Aim) (around : Around) where
+module _ {w : List ℕ} (p : Position) {variant : Variant} {to first count id : ℕ} {span : Span} (ends : Ends w p.block (goto to variant))
+    (heads : Heads w p.block first count id span) (O : Flags) (aim : std.Option code.Goal) (around : Around) where
   abbrev here : Terminal → Type 0
   here e = terminal_at (table_of w) p.block ≡ e
 
-  variant_is : (v : Variant) (n : ℕ) → variant ≡ n → variant_of n ≡ v → here (goto to v)
-  variant_is v n e q = ends.is ∙ ap (λ (z : Variant). goto to z) (ap variant_of e ∙ q)
+  variant_is : (v : Variant) → variant ≡ v → here (goto to v)
+  variant_is v e = ends.is ∙ ap (goto to) e
 
   -- the goal of such a jump
-  found : (v : Variant) (n : ℕ) → variant ≡ n → variant_of n ≡ v → (C : definition.Context) → GotoSeen w p O aim around C → Resolves (goto to v) around C (aim_of aim)
-  found v n e q C o = subst (λ (z : Terminal). Resolves z around C (aim_of aim)) (variant_is v n e q) o.jump
+  found : (v : Variant) → variant ≡ v → (C : definition.Context) → GotoSeen w p O aim around C → Resolves (goto to v) around C (aim_of aim)
+  found v e C o = subst (λ (z : Terminal). Resolves z around C (aim_of aim)) (variant_is v e) o.jump
 
-  pub goto_break : (b : List ℕ) (jump : Jumped) (b' : List ℕ) (plan : Plan) → variant ≡ 0
+  pub goto_break : (b : List ℕ) (jump : std.Result Jumped Refusal) (b' : List ℕ) (plan : std.Result Plan Refused) → variant ≡ Break
       → JumpMet (break_outcome p.block to id aim) O p.visits p.rows b jump b' → plan ≡ after_jump p jump
       → Planned (terminal_step_in around w p) (GotoSeen w p O aim around) [] p.depth p.rows b plan b'
-  unfolding terminal_turn visit_goto visit_break variant_of ◌>>=◌
+  unfolding terminal_turn visit_goto visit_break ◌>>=◌
   goto_break b jump b' plan v met e = jump_planned around w p (GotoSeen w p O aim around) (break_outcome p.block to id aim) O b jump b' plan
-      (λ F R C o. step_in around w p _ F R C (variant_is Break 0 v refl) ∙ rw heads.is_id
+      (λ F R C o. step_in around w p _ F R C (variant_is Break v) ∙ rw heads.is_id
       (ap (after F R C) (break_goal_lem around p.block to id C (get_break_target C to))
-      ∙ ap (λ (z : Option Goal). after F R C (break_to p.block to id C z)) (sym (found Break 0 v refl C o))
+      ∙ ap (λ (z : Option Goal). after F R C (break_to p.block to id C z)) (sym (found Break v C o))
       ∙ moved F R C (break_outcome p.block to id aim C))) (λ C o. o.seen) met e
     where
       after : List machine.Frame → Output → definition.Context → Result (Option Statement) → Result State
@@ -122,14 +119,14 @@ module _ {w : List ℕ} (p : Position) (variant : ℕ) {to first count id : ℕ}
       moved F R C (ok s) = refl
       moved F R C (refused a c v) = refl
 
-  pub goto_continue : (b : List ℕ) (jump : Jumped) (b' : List ℕ) (plan : Plan) → variant ≡ 1
+  pub goto_continue : (b : List ℕ) (jump : std.Result Jumped Refusal) (b' : List ℕ) (plan : std.Result Plan Refused) → variant ≡ Continue
       → JumpMet (continue_outcome p.block to id aim) O p.visits p.rows b jump b' → plan ≡ after_jump p jump
       → Planned (terminal_step_in around w p) (GotoSeen w p O aim around) [] p.depth p.rows b plan b'
-  unfolding terminal_turn visit_goto visit_continue variant_of ◌>>=◌
+  unfolding terminal_turn visit_goto visit_continue ◌>>=◌
   goto_continue b jump b' plan v met e = jump_planned around w p (GotoSeen w p O aim around) (continue_outcome p.block to id aim) O b jump b' plan
-      (λ F R C o. step_in around w p _ F R C (variant_is Continue 1 v refl) ∙ rw heads.is_id
+      (λ F R C o. step_in around w p _ F R C (variant_is Continue v) ∙ rw heads.is_id
       (ap (after F R C) (continue_goal_lem around p.block to id C (get_continue_target C to))
-      ∙ ap (λ (z : Option Goal). after F R C (continue_to p.block to id C z)) (sym (found Continue 1 v refl C o))
+      ∙ ap (λ (z : Option Goal). after F R C (continue_to p.block to id C z)) (sym (found Continue v C o))
       ∙ moved F R C (continue_to p.block to id C (aim_of aim)))) (λ C o. o.seen) met e
     where
       after : List machine.Frame → Output → definition.Context → Result Statement → Result State
@@ -142,13 +139,13 @@ module _ {w : List ℕ} (p : Position) (variant : ℕ) {to first count id : ℕ}
       moved F R C (ok s) = refl
       moved F R C (refused a c v) = refl
 
-  pub goto_try : (b : List ℕ) (plan : Plan) → (variant ≡ 0 → ⊥) → (variant ≡ 1 → ⊥) → plan ≡ leaving 65535 p.depth p.count p.rows p.visits Nothing
-      → Planned (terminal_step_in around w p) (GotoSeen w p O aim around) [] p.depth p.rows b plan b
-  unfolding terminal_turn visit_goto variant_of ◌>>=◌
-  goto_try b plan n₀ n₁ e = subst (λ (z : Plan). Planned (terminal_step_in around w p) (GotoSeen w p O aim around) [] p.depth p.rows b z b) (sym e) (record {
+  pub goto_try : (b : List ℕ) (plan : Plan) → variant ≡ Try → plan ≡ leaving 65535 p.depth p.count p.rows p.visits None
+      → Planned (terminal_step_in around w p) (GotoSeen w p O aim around) [] p.depth p.rows b (Ok plan) b
+  unfolding terminal_turn visit_goto ◌>>=◌
+  goto_try b plan v e = subst (λ (z : Plan). Planned (terminal_step_in around w p) (GotoSeen w p O aim around) [] p.depth p.rows b (Ok z) b) (sym e) (record {
     out = [];
-    held = λ _ before h. rw (append-nil before) h;
-    same = λ F R C d o. ap turn (step_in around w p _ F R C (variant_is Try variant refl (try_variant variant n₀ n₁))) ∙ turn_ok _
-        ∙ sym (leave_applied 65535 p.depth p.count p.rows p.visits Nothing F (R ⊕ []) C _ refl ∙ rw (no_number, visits_same p.visits C o.seen.visits, within_all p.depth F d.deep));
-    fitting = λ _. record { change = tt; handler = rw no_number tt; scope = rw no_number tt; deep = λ z. absurd (let o : ◌≡◌ {A = ℕ} 0 1 = cc in omega arith); next = omega arith; nested = tt };
+    held = λ before h. rw (append-nil before) h;
+    same = λ F R C d o. ap turn (step_in around w p _ F R C (variant_is Try v)) ∙ turn_ok _
+        ∙ sym (leave_applied 65535 p.depth p.count p.rows p.visits None F (R ⊕ []) C _ refl ∙ rw (no_number, visits_same p.visits C o.seen.visits, within_all p.depth F d.deep));
+    fitting = record { change = tt; handler = rw no_number tt; scope = rw no_number tt; deep = λ z. absurd (let o : ◌≡◌ {A = ℕ} 0 1 = cc in omega arith); next = omega arith; nested = tt };
   })

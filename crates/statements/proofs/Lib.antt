@@ -2,6 +2,7 @@ pub mod CountLaws
 pub mod PlanLaws
 pub mod StepLaws
 pub mod PlannedLaws
+pub mod RefusalLaws
 pub mod LoopLaws
 pub mod CloseLaws
 pub mod ResumeLaws

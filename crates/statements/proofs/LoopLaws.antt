@@ -1,4 +1,5 @@
 -- Loops and value statements: values made one after another, the turn that all loops share, and what their plans come to.
+use Rattle.std.specs.Prelude.{None, Some, IfOk}
 use Prim.Native.Nat.{ℕ, zero, suc, ◌+◌, ◌-◌, ◌≤◌, ◌<◌}
 use native.Mathlib.Numerals.{add-one}
 use native.Mathlib.Omega.{arith}
@@ -8,8 +9,9 @@ use mathlib.Core.List.{List, [], ◌∷◌, ◌++◌, append-nil, append_assoc}
 use mathlib.Core.Option.{Option, none, some}
 use lib.Dec.{eqb}
 use lib.ListN.{length}
-use borrow.Author.Tests.{eq-eqb, ne_eqb, eqb-true, eqb-false}
+use borrow.Author.Tests.{ne_eqb}
 use Rattle.table.specs.declared.columns.Span.{Span}
+use Rattle.table.specs.Columns.{maybe_of}
 use Rattle.table.specs.Words.{block_count, place_count, case_count, block_word, code_at}
 use Rattle.table.specs.Promise.{InRange, BelowUnlessNone, Ends}
 use Rattle.table.specs.Table.{Table, Block, Terminal, absent, unreachable, throw, return, goto, if, branch, switch, do_while, while, for, for_of, for_in}
@@ -34,23 +36,29 @@ use Rattle.values.specs.Stack as stack
 use Rattle.values.proofs.RowLaws.{written_held}
 use Rattle.values.proofs.StackLaws.{push_value_after, push_row_after}
 use Rattle.values.specs.declared.result.Tally.{Tally}
-use Rattle.values.specs.declared.result.ValueResult.{ValueResult}
+use Rattle.values.specs.declared.result.ValueBlockResult as code
+use Rattle.values.specs.declared.refusal.Refused.{Refused}
+use Rattle.values.specs.Refusal.{refused_by}
+use Rattle.std.specs.Prelude.{Ok, Err, IfOk, None, Some, unwrap_or}
+use Rattle.std.specs.Prelude as std
 use Rattle.values.specs.Met.{block_result, terminal_result, Met}
 use Rattle.values.proofs.MetLaws.{then_on_lem, then_off}
 use Rattle.statements.specs.declared.plan.Position.{Position}
 use Rattle.statements.specs.declared.plan.Frame.{Frame}
-use Rattle.statements.specs.declared.plan.Change.TheVariants.{Nothing, Schedule}
+use Rattle.statements.specs.declared.plan.Change.TheVariants.{Schedule}
 use Rattle.statements.specs.declared.plan.Plan.{Plan}
-use Rattle.statements.specs.declared.loop_parts.Values.{Values}
+use Rattle.statements.specs.declared.refusal.Refusal.TheVariants.{MissingBlock, LoopScheduled}
+use Rattle.statements.specs.declared.refusal.Refused as walk
 use Rattle.statements.specs.declared.loop_parts.Loop as loops
 use Rattle.control.specs.declared.ControlFlowTarget.TheVariants.{Loop}
 use Rattle.statements.specs.Plans.{frame_of, applied, open_frame, refusing, leaving, unless_taken, entries_if, schedule_if, unschedule_if}
 use Rattle.statements.specs.Planned.{Seen, Stands, NamedChange, Fitting, PlannedBare, Entered, nowhere, terminal_step}
 use Rattle.statements.specs.Loops.{Made, plain_made, flat_made, tested_values, for_values, for_of_values, none_made, value_made, plain_form, flat_form}
-use Rattle.statements.specs.Loops.{update_made, made_by, values_at, values_position, Making, values_step, PlannedValues, no_values, values_of, Makes, Spent, MakesMore, MakesTested}
-use Rattle.statements.specs.Loops.{after_values, scheduling_loop, scheduling_value, entering_body, loop_taken, continues_at, value_code, value_fallthrough}
+use Rattle.statements.specs.Loops.{update_made, made_by, values_at, values_position, Making, values_step, PlannedValues, tally_of, Makes, Spent, MakesMore, MakesTested}
+use Rattle.statements.specs.Loops.{after_values, refusing_value, scheduling_loop, scheduling_value, entering_body, loop_taken, value_code, value_fallthrough}
 use Rattle.statements.proofs.PlanLaws.{within_all, within_rest, visits_same, refuse_applied, leave_applied, leave_nested, nest_applied, values_asked, off_changed, Label, label_taken, label_below, label_entries, label_if}
 use Rattle.statements.proofs.StepLaws.{label_scheduled, seen_scheduled, turn_refused, turn_ok, turn_asked}
+use Rattle.statements.proofs.RefusalLaws.{refusal_planned}
 use Rattle.statements.proofs.PlannedLaws.{bare_planned, step_by, few_blocks, reach_same, reached_missing, Takes}
 
 no_some : {f : ℕ} → ◌≡◌ {A = Option ℕ} none (some f) → ⊥
@@ -68,66 +76,51 @@ then_same (refused code at visits) f g h = refl
 
 -- ---- values
 
-module _ {p : Position} {o : Result Made} {b₀ b : List ℕ} {before : Values} (m : Makes p o b₀ before b) where
-  made_on : {B : Type 0} (k : Made → Result B) → before.code ≡ 0 → (o >>= k) ≡ k (record { out = m.out; visits = before.visits })
+module _ {p : Position} {o : Result Made} {b₀ b : List ℕ} where
+  made_on : {before : Tally} (m : Makes p o b₀ (Ok before) b) {B : Type 0} (k : Made → Result B) → (o >>= k) ≡ k (record { out = m.out; visits = before.visits })
   unfolding ◌>>=◌
-  made_on k e = rw (m.same, eq-eqb before.code 0 e)
+  made_on m k = rw m.same refl
 
-  made_off : {B : Type 0} (k : Made → Result B) → (before.code ≡ 0 → ⊥) → (o >>= k) ≡ refused before.code before.at before.visits
+  made_off : {e : Refused} → Makes p o b₀ (Err e) b → {B : Type 0} (k : Made → Result B) → (o >>= k) ≡ refused_by e
   unfolding ◌>>=◌
-  made_off k f = rw (m.same, ne_eqb before.code 0 f)
+  made_off m k = rw m.same refl
 
   -- values that were refused stay so
-  pub still_refused : (k : Made → Result Made) (b' : List ℕ) → (before.code ≡ 0 → ⊥) → Makes p (o >>= k) b₀ before b'
-  still_refused k b' f = record { out = []; same = made_off k f ∙ rw (ne_eqb before.code 0 f); held = λ e. absurd (f e) }
+  pub still_refused : {e : Refused} {r : std.Result Tally Refused} {b' : List ℕ} (k : Made → Result Made) → r ≡ Err e → Makes p o b₀ (Err e) b → Makes p (o >>= k) b₀ r b'
+  still_refused k q m = rw q (record { out = []; same = made_off m k; held = tt })
 
-  module _ {w : List ℕ} {x : Tally} {n : ℕ} {r : ValueResult} {b₁ : List ℕ} (visit : VisitValueBlock) (form : ValueBlockResult → Value) (block : ℕ) (span : Span)
-      (e : before.code ≡ 0) (v : Met w block_result (visit block (unless_none 65535) span before.visits) x n b r b₁) where
+  module _ {before : Tally} (m : Makes p o b₀ (Ok before) b) {w : List ℕ} {x : Tally} {n : ℕ} {b₁ : List ℕ} (visit : VisitValueBlock) (form : ValueBlockResult → Value)
+      (block : ℕ) (span : Span) where
     -- one value more was refused
-    pub value_refused : (b' : List ℕ) → (r.code ≡ 0 → ⊥) → Makes p (o >>= value_made visit form block span) b₀ (values_of r) b'
+    value_refused : {e : Refused} (b' : List ℕ) → Met w block_result (visit block none span before.visits) x n b (Err e) b₁ → Makes p (o >>= value_made visit form block span) b₀ (Err e) b'
     unfolding value_made
-    value_refused b' f = record { out = []; same = made_on (value_made visit form block span) e ∙ rw (← no_number) (then_off _ v f ∙ rw (ne_eqb r.code 0 f)); held = λ g. absurd (f g) }
+    value_refused b' v = record { out = []; same = made_on m (value_made visit form block span) ∙ then_off _ v; held = tt }
 
     -- one value more was found, and the buffer holds it in its form
-    pub value_found : (values : Values) (b' : List ℕ) → r.code ≡ 0 → values.code ≡ 0 → values.visits ≡ r.tally.visits
+    value_found : {r : code.ValueBlockResult} (v : Met w block_result (visit block none span before.visits) x n b (Ok r) b₁) (values : Tally) (b' : List ℕ) → values.visits ≡ r.tally.visits
         → ((below : List Row) → Holds b before.rows below → Holds b' values.rows (push_value (form (block_result r v.value)) below))
-        → Makes p (o >>= value_made visit form block span) b₀ values b'
+        → Makes p (o >>= value_made visit form block span) b₀ (Ok values) b'
     unfolding value_made
-    value_found values b' f z t held = record {
+    value_found {r} v values b' t held = record {
       out = m.out ++ value_out (form (block_result r v.value));
-      same = made_on (value_made visit form block span) e ∙ rw (← no_number) (then_on_lem _ v f ∙ rw (eq-eqb values.code 0 z, t));
-      held = λ _ R h. rw (← (append_assoc R m.out (value_out (form (block_result r v.value)))), ← (push_value_after (form (block_result r v.value)) (R ++ m.out))) (held _ (m.held e R h));
+      same = made_on m (value_made visit form block span) ∙ (then_on_lem _ v ∙ rw t);
+      held = λ R h. rw (← (append_assoc R m.out (value_out (form (block_result r v.value)))), ← (push_value_after (form (block_result r v.value)) (R ++ m.out))) (held _ (m.held R h));
     }
 
 -- what `plain_value` and `flat_value` answer
-module _ {p : Position} {b : List ℕ} (before : Values) where
-  pub more_refused : (step : Made → Result Made) → (before.code ≡ 0 → ⊥) → Spent (no_values p) 6 before → MakesMore p step before b before b
-  more_refused step f s = record { made = λ o first m. still_refused m step b f; spent = record { visits = s.visits; paid = omega arith } }
+module _ {p : Position} {b : List ℕ} (before : Tally) {w : List ℕ} {b₁ : List ℕ} (visit : VisitValueBlock) (form : ValueBlockResult → Value) (block : ℕ) (span : Span) where
+  pub more_refused : {r : std.Result Tally Refused} {e : Refused} → r ≡ Err e → Met w block_result (visit block none span before.visits) before 0 b (Err e) b₁
+      → MakesMore p (value_made visit form block span) before b r b₁
+  more_refused q v = rw q (record { made = λ o first m. value_refused m visit form block span b₁ v; spent = tt })
 
-  module _ {w : List ℕ} {r : ValueResult} {b₁ : List ℕ} (visit : VisitValueBlock) (form : ValueBlockResult → Value) (block : ℕ) (span : Span)
-      (e : before.code ≡ 0) (v : Met w block_result (visit block (unless_none 65535) span before.visits) (record { rows = before.rows; visits = before.visits }) 0 b r b₁) where
-    value_more_refused : (r.code ≡ 0 → ⊥) → MakesMore p (value_made visit form block span) before b (values_of r) b₁
-    value_more_refused f = record { made = λ o first m. value_refused m visit form block span e v b₁ f; spent = record { visits = v.numbers.visits; paid = omega (arith, v.numbers.paid) } }
-
-    pub value_more : (values : Values) → values ≡ values_of r → (r.code ≡ 0 → ⊥) → MakesMore p (value_made visit form block span) before b values b₁
-    value_more values q f = rw q (value_more_refused f)
-
-    pub flat_more : (values : Values) (b' : List ℕ) → r.code ≡ 0 → values.code ≡ 0 → values.visits ≡ r.tally.visits → values.rows ≤ r.tally.rows + 3
-        → ((below : List Row) → Holds b₁ r.tally.rows (push_value v.value below) → Holds b' values.rows (push_value (form (block_result r v.value)) below))
-        → MakesMore p (value_made visit form block span) before b values b'
-    flat_more values b' f z t most flat = record {
-      made = λ o first m. value_found m visit form block span e v values b' f z t (λ below h. flat below ((v.found f).held below h));
-      spent = record { visits = rw t v.numbers.visits; paid = omega (arith, v.numbers.paid, t, most) };
-    }
-
-  pub plain_more : {w : List ℕ} {r : ValueResult} {b₁ : List ℕ} (visit : VisitValueBlock) (block : ℕ) (span : Span) → before.code ≡ 0
-      → Met w block_result (visit block (unless_none 65535) span before.visits) (record { rows = before.rows; visits = before.visits }) 0 b r b₁ → (values : Values) → values ≡ values_of r
-      → MakesMore p (value_made visit plain_form block span) before b values b₁
-  plain_more {r = r} {b₁ = b₁} visit block span e v values q = rw q (by (eqb r.code 0) refl)
-    where
-      by : (y : Bool) → eqb r.code 0 ≡ y → MakesMore p (value_made visit plain_form block span) before b (values_of r) b₁
-      by true z = flat_more visit plain_form block span e v (values_of r) b₁ (eqb-true r.code 0 z) (eqb-true r.code 0 z) refl (omega arith) (λ below h. h)
-      by false z = value_more visit plain_form block span e v (values_of r) refl (eqb-false r.code 0 z)
+  pub more_found : {r : code.ValueBlockResult} (v : Met w block_result (visit block none span before.visits) before 0 b (Ok r) b₁) (values : Tally) (b' : List ℕ)
+      → values.visits ≡ r.tally.visits → values.rows ≤ r.tally.rows + 3
+      → ((below : List Row) → Holds b₁ r.tally.rows (push_value v.value below) → Holds b' values.rows (push_value (form (block_result r v.value)) below))
+      → MakesMore p (value_made visit form block span) before b (Ok values) b'
+  more_found v values b' t most flat = record {
+    made = λ o first m. value_found m visit form block span v values b' t (λ below h. flat below (v.found.held below h));
+    spent = record { visits = rw t v.numbers.visits; paid = omega (arith, v.numbers.paid, t, most) };
+  }
 
 -- a value, or an update, and then more
 value_then : {B : Type 0} (visit : VisitValueBlock) (form : ValueBlockResult → Value) (block : ℕ) (span : Span) (made : Made) (k : Made → Result B)
@@ -164,44 +157,43 @@ abbrev blocks_of : (f n c l : ℕ) → loops.Loop
 blocks_of f n c l = record { fallthrough = f; label = n; continue_block = c; loop_block = l }
 
 schedules : (S H : Flags) (p : Position) (f c l n : ℕ) (F : List machine.Frame) (R : Output) (C : definition.Context) → Seen S H p.visits C → Stands F R p.depth p.rows → l < 1024
-    → turn (schedule_loop p.block f c l (unless_none n) F R p.count C) ≡ applied (scheduling_loop (loop_taken S H l f) p (blocks_of f n c l)) F R C
+    → turn (schedule_loop p.block f c l (unless_none n) F R p.count C) ≡ applied (Ok (scheduling_loop (loop_taken S H l f) p (blocks_of f n c l))) F R C
 unfolding schedule_loop
 schedules S H p f c l n F R C seen d h =
     turn_asked (schedule (target_loop f c l) C) (making (body_unless (loop_is_taken C l f) l) (machine.frame_of p.block (unless_none n) 1 R p.count) F R)
     ∙ rw (loop_taken_lem S H p.visits C seen f l, body_is (loop_taken S H l f) l h)
-    (sym (values_asked (unless_taken (loop_taken S H l f) l) (open_frame p n 1) (p.depth + 1) p.rows p.visits (Schedule (Loop f c l)) F R C
+    (sym (values_asked (unless_taken (loop_taken S H l f) l) (open_frame p n 1) (p.depth + 1) p.rows p.visits (Some (Schedule (Loop f c l))) F R C
     ∙ rw (visits_same p.visits C seen.visits, d.many, within_all (p.depth + 1 - 1) F (omega (arith, d.deep)))))
 
 -- ---- the arms of loops
 
-start_made : (p : Position) (b : List ℕ) → Makes p (ok (none_made p.visits)) b (no_values p) b
-start_made p b = record { out = []; same = refl; held = λ _ R h. rw (append-nil R) h }
+start_made : (p : Position) (b : List ℕ) → Makes p (ok (none_made p.visits)) b (Ok (tally_of p)) b
+start_made p b = record { out = []; same = refl; held = λ R h. rw (append-nil R) h }
 
-pub first_made : {p : Position} {b b' : List ℕ} {before r : Values} (step : Made → Result Made) → before ≡ no_values p → MakesMore p step before b r b' → Makes p (step (none_made p.visits)) b r b'
+pub first_made : {p : Position} {b b' : List ℕ} {before : Tally} {r : std.Result Tally Refused} (step : Made → Result Made) → before ≡ tally_of p → MakesMore p step before b r b'
+    → Makes p (step (none_made p.visits)) b r b'
 unfolding ◌>>=◌
 first_made {p} {b} {before = before} step q m = m.made (ok (none_made p.visits)) b (rw q (start_made p b))
 
-module _ {w : List ℕ} {p : Position} (init test : ℕ) {before first r : Values} {b b₁ b' : List ℕ} (en : Entered w p) (start : before ≡ no_values p)
-    (made : MakesMore p (flat_made w p init) before b first b₁) where
-  pub tested_made_lem : MakesMore p (plain_made w p test) first b₁ r b' → Makes p (tested_values w p init test) b r b'
-  tested_made_lem more = more.made _ b (first_made _ start made)
+module _ (w : List ℕ) (p : Position) (init test : ℕ) {before : Tally} {b b₁ b' : List ℕ} (start : before ≡ tally_of p) where
+  -- init, and then the test, plain or flat
+  pub init_refused : {e : Refused} {r : std.Result Tally Refused} → r ≡ Err e → MakesMore p (flat_made w p init) before b (Err e) b₁
+      → Makes p (tested_values w p init test) b r b' × Makes p (for_of_values w p init test) b r b'
+  init_refused q made = (still_refused _ q (first_made _ start made), still_refused _ q (first_made _ start made))
 
-  pub for_of_made_lem : MakesMore p (flat_made w p test) first b₁ r b' → Makes p (for_of_values w p init test) b r b'
-  for_of_made_lem more = more.made _ b (first_made _ start made)
+  module _ {first : Tally} {r : std.Result Tally Refused} (made : MakesMore p (flat_made w p init) before b (Ok first) b₁) where
+    pub tested_made_lem : MakesMore p (plain_made w p test) first b₁ r b' → Makes p (tested_values w p init test) b r b'
+    tested_made_lem more = more.made _ b (first_made _ start made)
 
-no_values_made : (p : Position) (b : List ℕ) (r : Values) → r ≡ no_values p → Makes p (ok (none_made p.visits)) b r b
-no_values_made p b r q = rw q (start_made p b)
+    pub for_of_made_lem : MakesMore p (flat_made w p test) first b₁ r b' → Makes p (for_of_values w p init test) b r b'
+    for_of_made_lem more = more.made _ b (first_made _ start made)
 
 -- ---- rows and visits
 
-pub nothing_spent : {w : List ℕ} {p : Position} {before : Values} → Entered w p → before ≡ no_values p → Spent (no_values p) 6 before
-nothing_spent en q = rw q (record { visits = en.visits; paid = omega arith })
-
-pub first_spent : {w : List ℕ} {p : Position} {before r : Values} → Entered w p → before ≡ no_values p → Spent before 3 r → Spent (no_values p) 6 r
-first_spent en q s = let t = rw q at s in record { visits = s.visits; paid = omega (arith, t.paid) }
-
-pub second_spent : {w : List ℕ} {p : Position} {before first r : Values} → Entered w p → before ≡ no_values p → Spent before 3 first → Spent first 3 r → Spent (no_values p) 6 r
-second_spent en q s u = let t = rw q at s in record { visits = u.visits; paid = omega (arith, t.paid, u.paid) }
+pub second_spent : (p : Position) {before first : Tally} (r : std.Result Tally Refused) → before ≡ tally_of p → Spent before 3 first → IfOk r (λ v. Spent first 3 v)
+    → IfOk r (λ v. Spent (tally_of p) 6 v)
+second_spent p (Ok v) q s u = let t = rw q at s in record { visits = u.visits; paid = omega (arith, t.paid, u.paid) }
+second_spent p (Err e) q s u = tt
 
 -- ---- a For's update
 
@@ -210,15 +202,17 @@ unfolding ◌>>=◌
 then_ok (ok a) = refl
 then_ok (refused code at visits) = refl
 
-pub there_unless_none : {update blocks : ℕ} → ((update ≡ 65535 → ⊥) → update < blocks) → (update ≡ 65535 → ⊥) → update < blocks
-there_unless_none h = h
+module _ {w : List ℕ} {p : Position} {b b₁ : List ℕ} {init test : ℕ} where
+  pub for_refused : (update : std.Option ℕ) {e : Refused} {r : std.Result Tally Refused} {b' : List ℕ} → r ≡ Err e → MakesTested w p init test b (Err e) b₁
+      → Makes p (for_values w p init test update) b r b'
+  for_refused update q made = still_refused _ q made.made
 
-module _ {w : List ℕ} {p : Position} {b b₁ : List ℕ} {init test update : ℕ} {tested : Values} (made : MakesTested w p init test b tested b₁) where
-  pub for_without_update : update ≡ 65535 → Makes p (for_values w p init test update) b tested b₁
-  for_without_update e = rw (e, no_number) (rw then_ok made.made)
+  module _ {tested : Tally} (made : MakesTested w p init test b (Ok tested) b₁) where
+    pub for_without_update : Makes p (for_values w p init test None) b (Ok tested) b₁
+    for_without_update = rw then_ok made.made
 
-  pub for_with_update : {r : Values} {b' : List ℕ} → (update ≡ 65535 → ⊥) → MakesMore p (plain_made w p update) tested b₁ r b' → Makes p (for_values w p init test update) b r b'
-  for_with_update f m = rw (some_number update f) (m.made _ b made.made)
+    pub for_with_update : (update : ℕ) {r : std.Result Tally Refused} {b' : List ℕ} → MakesMore p (plain_made w p update) tested b₁ r b' → Makes p (for_values w p init test (Some update)) b r b'
+    for_with_update update m = m.made _ b made.made
 
 module _ (w : List ℕ) (S H : Flags) (p : Position) (en : Entered w p) where
   abbrev visit : VisitValueBlock
@@ -230,10 +224,10 @@ module _ (w : List ℕ) (S H : Flags) (p : Position) (en : Entered w p) where
       → turn (terminal_step w p F R C) ≡ turn (schedule_loop p.block f c l (unless_none n) F R p.count C)
 
   loop_planned : (f c l n : ℕ) (plan : Plan) → Turns f c l n → (f < block_count w) × (c < block_count w) × (l < block_count w) → plan ≡ scheduling_loop (loop_taken S H l f) p (blocks_of f n c l)
-      → PlannedBare w S H p plan
-  loop_planned f c l n plan turns h q = subst (λ (z : Plan). PlannedBare w S H p z) (sym q)
-      (bare_planned w S H p (scheduling_loop (loop_taken S H l f) p (blocks_of f n c l)) (λ _. refl)
-      (λ F R C d seen. turns F R C seen ∙ schedules S H p f c l n F R C seen d (few_blocks w en.promise l h.2)) (λ _. record {
+      → PlannedBare w S H p (Ok plan)
+  loop_planned f c l n plan turns h q = subst (λ (z : Plan). PlannedBare w S H p (Ok z)) (sym q)
+      (bare_planned w S H p (Ok (scheduling_loop (loop_taken S H l f) p (blocks_of f n c l))) refl
+      (λ F R C d seen. turns F R C seen ∙ schedules S H p f c l n F R C seen d (few_blocks w en.promise l h.2)) (record {
         change = (few_blocks w en.promise f h.0, few_blocks w en.promise c h.1, few_blocks w en.promise l h.2);
         handler = rw no_number tt;
         scope = rw no_number tt;
@@ -264,26 +258,19 @@ module _ (w : List ℕ) (S H : Flags) (p : Position) (en : Entered w p) where
 
 -- ---- a For's update, as its code reads it
 
-continue_is : (test update : ℕ) → continue_block_of (unless_none update) test ≡ continues_at (eqb update 65535) test update
-unfolding unless_none
-continue_is test update = at (eqb update 65535)
-  where
-    at : (y : Bool) → continue_block_of (elim y [ true ↦ none | false ↦ some update ]) test ≡ continues_at y test update
-    at true = refl
-    at false = refl
+continue_is : (test : ℕ) (update : std.Option ℕ) → continue_block_of (maybe_of update) test ≡ unwrap_or update test
+continue_is test None = refl
+continue_is test (Some update) = refl
 
-module _ {w : List ℕ} {block init test : ℕ} (update : ℕ) {l f : ℕ} (ends : Ends w block (for init test (unless_none update) l f)) where
-  pub update_below : (update ≡ 65535 → ⊥) → update < block_count w
-  update_below z = subst (λ (o : Option ℕ). BelowUnlessNone (block_count w) o) (some_number update z) ends.named.2
-
-  pub continues_below : {c : ℕ} → c ≡ continues_at (eqb update 65535) test update → c < block_count w
-  continues_below q = rw q (at (eqb update 65535) refl)
+module _ {w : List ℕ} {block init test : ℕ} (update : std.Option ℕ) {l f : ℕ} (ends : Ends w block (for init test (maybe_of update) l f)) where
+  pub continues_below : {c : ℕ} → c ≡ unwrap_or update test → c < block_count w
+  continues_below q = rw q (at update ends.named.2)
     where
-      at : (y : Bool) → eqb update 65535 ≡ y → continues_at y test update < block_count w
-      at true e = ends.named.1
-      at false e = update_below (eqb-false update 65535 e)
+      at : (o : std.Option ℕ) → BelowUnlessNone (block_count w) (maybe_of o) → unwrap_or o test < block_count w
+      at None h = ends.named.1
+      at (Some block) h = h
 
-  pub continues_few : {c : ℕ} → c ≡ continues_at (eqb update 65535) test update → c < 1024
+  pub continues_few : {c : ℕ} → c ≡ unwrap_or update test → c < 1024
   continues_few q = omega (arith, continues_below q, ends.few)
 
 -- ---- what the loops' code returns. A premise is a contract's own words or a test's, so that `search` finds it among what the code has bound
@@ -291,42 +278,42 @@ module _ {w : List ℕ} {block init test : ℕ} (update : ℕ) {l f : ℕ} (ends
 abbrev Schedules : Flags → Flags → Position → Plan → (f n c l : ℕ) → Type 0
 Schedules S H p plan f n c l = plan ≡ scheduling_loop (loop_taken S H l f) p (blocks_of f n c l)
 
-module _ {w : List ℕ} {S H : Flags} {p : Position} {plan : Plan} (en : Entered w p) where
-  pub do_while_scheduled : {l c f n : ℕ} → Ends w p.block (do_while l c f) → Takes S H f n → Schedules S H p plan f n c l → PlannedBare w S H p plan
+module _ {w : List ℕ} {S H : Flags} {p : Position} (en : Entered w p) where
+  pub do_while_scheduled : {l c f n : ℕ} {plan : Plan} → Ends w p.block (do_while l c f) → Takes S H f n → Schedules S H p plan f n c l → PlannedBare w S H p (Ok plan)
   unfolding terminal_turn
-  do_while_scheduled {l} {c} {f} {n} ends o q =
+  do_while_scheduled {l} {c} {f} {n} {plan} ends o q =
       loop_planned w S H p en f c l n plan (turns w S H p en (do_while l c f) f c l n ends.is (λ F R C. refl) ends.named.2 o) (ends.named.2, ends.named.1, ends.named.0) q
 
   module _ {c l f kind : ℕ} (ends : Ends w p.block (while c l f)) (reached : kind ≡ block_word w f 2) where
-    pub while_missing : kind ≡ 0 → plan ≡ refusing p 10 f → PlannedBare w S H p plan
-    while_missing z q =
+    pub while_missing : {plan : std.Result Plan walk.Refused} → kind ≡ 0 → plan ≡ refusing p (MissingBlock f) → PlannedBare w S H p plan
+    while_missing {plan} z q =
         reached_missing w S H p en (while c l f) f (λ F R C taken. schedule_loop p.block f c l taken F R p.count C) ends (while_asks w S H p en c l f)
         ends.named.2 plan (sym reached ∙ z) q
 
-    pub while_scheduled : {n : ℕ} → (kind ≡ 0 → ⊥) → n ≡ unless_taken (eqb (block_word w f 2) 1 || (has S f || has H f)) f → Schedules S H p plan f n c l → PlannedBare w S H p plan
-    while_scheduled {n} z o q =
+    pub while_scheduled : {n : ℕ} {plan : Plan} → (kind ≡ 0 → ⊥) → n ≡ unless_taken (eqb (block_word w f 2) 1 || (has S f || has H f)) f → Schedules S H p plan f n c l → PlannedBare w S H p (Ok plan)
+    while_scheduled {n} {plan} z o q =
         loop_planned w S H p en f c l n plan
         (λ F R C seen. ap turn (step_by w p (while c l f) F R C ends.is ∙ while_asks w S H p en c l f F R C)
         ∙ reach_same w S H p en.promise f n ends.named.2 (few_blocks w en.promise f ends.named.2) (λ y. z (reached ∙ y)) o
         (λ taken. schedule_loop p.block f c l taken F R p.count C) C seen) (ends.named.2, ends.named.0, ends.named.1) q
 
-  pub for_scheduled : {init test : ℕ} (update : ℕ) {l f c n : ℕ} → Ends w p.block (for init test (unless_none update) l f) → c ≡ continues_at (eqb update 65535) test update → Takes S H f n
-      → Schedules S H p plan f n c l → PlannedBare w S H p plan
+  pub for_scheduled : {init test : ℕ} (update : std.Option ℕ) {l f c n : ℕ} {plan : Plan} → Ends w p.block (for init test (maybe_of update) l f) → c ≡ unwrap_or update test → Takes S H f n
+      → Schedules S H p plan f n c l → PlannedBare w S H p (Ok plan)
   unfolding terminal_turn
-  for_scheduled {init} {test} update {l} {f} {c} {n} ends continues o q =
+  for_scheduled {init} {test} update {l} {f} {c} {n} {plan} ends continues o q =
       loop_planned w S H p en f c l n plan
-      (turns w S H p en (for init test (unless_none update) l f) f c l n ends.is
+      (turns w S H p en (for init test (maybe_of update) l f) f c l n ends.is
       (λ F R C. ap (λ (k : ℕ). schedule_loop p.block f k l (unless_scheduled C f) F R p.count C) (continue_is test update ∙ sym continues)) ends.named.4 o)
       (ends.named.4, continues_below update ends continues, ends.named.3) q
 
-  pub for_of_scheduled : {c test l f n : ℕ} → Ends w p.block (for_of c test l f) → Takes S H f n → Schedules S H p plan f n c l → PlannedBare w S H p plan
+  pub for_of_scheduled : {c test l f n : ℕ} {plan : Plan} → Ends w p.block (for_of c test l f) → Takes S H f n → Schedules S H p plan f n c l → PlannedBare w S H p (Ok plan)
   unfolding terminal_turn
-  for_of_scheduled {c} {test} {l} {f} {n} ends o q =
+  for_of_scheduled {c} {test} {l} {f} {n} {plan} ends o q =
       loop_planned w S H p en f c l n plan (turns w S H p en (for_of c test l f) f c l n ends.is (λ F R C. refl) ends.named.3 o) (ends.named.3, ends.named.0, ends.named.2) q
 
-  pub for_in_scheduled : {c l f n : ℕ} → Ends w p.block (for_in c l f) → Takes S H f n → Schedules S H p plan f n c l → PlannedBare w S H p plan
+  pub for_in_scheduled : {c l f n : ℕ} {plan : Plan} → Ends w p.block (for_in c l f) → Takes S H f n → Schedules S H p plan f n c l → PlannedBare w S H p (Ok plan)
   unfolding terminal_turn
-  for_in_scheduled {c} {l} {f} {n} ends o q =
+  for_in_scheduled {c} {l} {f} {n} {plan} ends o q =
       loop_planned w S H p en f c l n plan (turns w S H p en (for_in c l f) f c l n ends.is (λ F R C. refl) ends.named.2 o) (ends.named.2, ends.named.0, ends.named.1) q
 
 -- ---- its values are made
@@ -435,42 +422,30 @@ none_before t walk (try inner handler fallthrough binding) span made h = refl
 none_before t walk (scope pruned inner fallthrough number) span made h = refl
 
 -- what `loop_values` makes
-module _ {w : List ℕ} {q : Position} (en : Entered w q) {b b' : List ℕ} {r : Values} where
+module _ {w : List ℕ} {q : Position} (en : Entered w q) {b b' : List ℕ} {r : std.Result Tally Refused} where
   by_terminal : (e : Terminal) → terminal_at (table_of w) q.block ≡ e
       → Makes q (made_by (table_of w) (visit_value_block (table_of w) (127 - q.depth)) e (block_at (table_of w) q.block).span (none_made q.visits)) b r b' → Makes q (values_at w q) b r b'
   by_terminal e is m = subst (λ (z : Terminal). Makes q (made_by (table_of w) (visit_value_block (table_of w) (127 - q.depth)) z (block_at (table_of w) q.block).span (none_made q.visits)) b r b') (sym is) m
 
-  pub while_made : {test l f : ℕ} {before : Values} → Ends w q.block (while test l f) → before ≡ no_values q → MakesMore q (plain_made w q test) before b r b' → Makes q (values_at w q) b r b'
+  pub while_made : {test l f : ℕ} {before : Tally} → Ends w q.block (while test l f) → before ≡ tally_of q → MakesMore q (plain_made w q test) before b r b' → Makes q (values_at w q) b r b'
   while_made ends start m = by_terminal _ ends.is (first_made _ start m)
 
-  pub for_made_lem : {init test : ℕ} (update : ℕ) {l f : ℕ} → Ends w q.block (for init test (unless_none update) l f) → Makes q (for_values w q init test update) b r b' → Makes q (values_at w q) b r b'
-  for_made_lem update ends m = by_terminal _ ends.is m
-
-  pub for_of_values_made : {init test l f : ℕ} → Ends w q.block (for_of init test l f) → Makes q (for_of_values w q init test) b r b' → Makes q (values_at w q) b r b'
-  for_of_values_made ends m = by_terminal _ ends.is m
-
-  pub for_in_made : {init l f : ℕ} {before : Values} → Ends w q.block (for_in init l f) → before ≡ no_values q → MakesMore q (flat_made w q init) before b r b' → Makes q (values_at w q) b r b'
+  pub for_in_made : {init l f : ℕ} {before : Tally} → Ends w q.block (for_in init l f) → before ≡ tally_of q → MakesMore q (flat_made w q init) before b r b' → Makes q (values_at w q) b r b'
   for_in_made ends start m = by_terminal _ ends.is (first_made _ start m)
 
-pub none_made_lem : {w : List ℕ} {q : Position} (en : Entered w q) {b : List ℕ} {r : Values} → NoValues (code_at w q.block) → r ≡ no_values q → Makes q (values_at w q) b r b
-none_made_lem {w} {q} en {b} {r} h start =
-    subst (λ (z : Result Made). Makes q z b r b)
+pub none_made_lem : {w : List ℕ} {q : Position} (en : Entered w q) {b : List ℕ} {before : Tally} → NoValues (code_at w q.block) → before ≡ tally_of q → Makes q (values_at w q) b (Ok before) b
+none_made_lem {w} {q} en {b} {before} h start =
+    rw start (subst (λ (z : Result Made). Makes q z b (Ok (tally_of q)) b)
     (sym (none_before (table_of w) (visit_value_block (table_of w) (127 - q.depth)) (terminal_at (table_of w) q.block) (block_at (table_of w) q.block).span (none_made q.visits)
-    (subst NoValues (sym (code_at_lem w q.block en.promise en.block)) h))) (no_values_made q b r start)
+    (subst NoValues (sym (code_at_lem w q.block en.promise en.block)) h))) (start_made q b))
 
 -- ---- the turn of a loop that is scheduled
 
 module _ (w : List ℕ) (p : Position) (frame : Frame) (ma : Making w p frame) where
-  pub values_entered : Entered w (values_position p frame)
-  values_entered = record { promise = ma.promise; block = ma.block; depth = omega (arith, ma.depth, ma.deep); visits = ma.visits; rows = ma.rows; count = omega arith }
-
   coded : (y : Bool) → value_code (code_at w frame.block) ≡ y → value_code (code_of (terminal_at (table_of w) frame.block)) ≡ y
   coded y e = ap value_code (code_at_lem w frame.block ma.promise ma.block) ∙ e
 
-  module _ {b b' : List ℕ} (looped : value_code (code_at w frame.block) ≡ false) (r : Values) (m : Makes (values_position p frame) (values_at w (values_position p frame)) b r b') where
-    abbrev E : Bool → Bool → Plan
-    E y z = entering_body y z p r frame
-
+  module _ (looped : value_code (code_at w frame.block) ≡ false) where
     on : List machine.Frame → Output → definition.Context → Made → Result State
     on F R C made = into_body (unless_none p.block) made.visits (frame_of frame) F (R ⊕ made.out) C
 
@@ -481,43 +456,42 @@ module _ (w : List ℕ) (p : Position) (frame : Frame) (ma : Making w p frame) w
         values_made (table_of w) (visit_value_block (table_of w) (128 - p.depth)) (block_at (table_of w) frame.block) (unless_none p.block) (frame_of frame) F R C (terminal_at (table_of w) frame.block) (coded false looped)
         ∙ rw (e, v)
 
-    body_same : (F : List machine.Frame) (out : Output) (C : definition.Context) → suc (length F) ≡ p.depth
-        → turn (into_body (unless_none p.block) r.visits (frame_of frame) F out C) ≡ applied (E true (eqb p.block 65535)) (frame_of frame ∷ F) out C
-    unfolding unless_none
-    body_same F out C d = by (eqb p.block 65535)
-      where
-        by : (z : Bool) → turn (into_body (elim z [ true ↦ none | false ↦ some p.block ]) r.visits (frame_of frame) F out C) ≡ applied (E true z) (frame_of frame ∷ F) out C
-        by true = unfold into_body in turn_refused 16 frame.block r.visits ∙ sym (refuse_applied (after_values p r) 16 frame.block (frame_of frame ∷ F) out C (λ z. omega arith))
-        by false = unfold into_body in turn_ok _
-            ∙ sym (nest_applied p.block frame p.depth r.rows r.visits 65535 65535 Nothing (frame_of frame ∷ F) out C _ refl ∙ rw (within_rest p.depth (frame_of frame) F d))
+    pub values_refused : {b b' : List ℕ} {e : Refused} {plan : std.Result Plan walk.Refused} → Makes (values_position p frame) (values_at w (values_position p frame)) b (Err e) b' → plan ≡ refusing_value e → PlannedValues w p frame b plan b'
+    values_refused {e} m q = refusal_planned e q (λ F R C v. step_is F R C v ∙ made_off m (on F R C))
 
-    same : (F : List machine.Frame) (R : Output) (C : definition.Context) → Stands (frame_of frame ∷ F) R p.depth p.rows → C.visits ≡ p.visits
-        → turn (values_step w p frame F R C) ≡ applied (E (eqb r.code 0) (eqb p.block 65535)) (frame_of frame ∷ F) (R ⊕ m.out) C
-    same F R C d v = ap turn (step_is F R C v) ∙ by (eqb r.code 0) refl
-      where
-        by : (y : Bool) → eqb r.code 0 ≡ y → turn (values_at w (values_position p frame) >>= on F R C) ≡ applied (E y (eqb p.block 65535)) (frame_of frame ∷ F) (R ⊕ m.out) C
-        by true q = ap turn (made_on m (on F R C) (eqb-true r.code 0 q)) ∙ unfold on in body_same F (R ⊕ m.out) C d.deep
-        by false q =
-            ap turn (made_off m (on F R C) (eqb-false r.code 0 q)) ∙ turn_refused r.code r.at r.visits ∙ sym
-            (refuse_applied (after_values p r) r.code r.at (frame_of frame ∷ F) (R ⊕ m.out) C (eqb-false r.code 0 q))
+    module _ {b b' : List ℕ} (r : Tally) (m : Makes (values_position p frame) (values_at w (values_position p frame)) b (Ok r) b') where
+      abbrev E : Bool → std.Result Plan walk.Refused
+      E z = entering_body z p r frame
 
-    pub values_planned : (plan : Plan) → plan ≡ E (eqb r.code 0) (eqb p.block 65535) → PlannedValues w p frame b plan b'
-    values_planned plan q = subst (λ (z : Plan). PlannedValues w p frame b z b') (sym q) (record {
-      out = m.out;
-      held = held (eqb r.code 0) refl (eqb p.block 65535);
-      same = same;
-      fitting = fits (eqb r.code 0) refl (eqb p.block 65535);
-    })
-      where
-        held : (y : Bool) → eqb r.code 0 ≡ y → (z : Bool) → (E y z).code ≡ 0 → (R : List Row) → Holds b p.rows (stack.pushed R []) → Holds b' (E y z).position.rows (stack.pushed (R ++ m.out) [])
-        held true o true g = absurd (omega arith)
-        held true o false g = m.held (eqb-true r.code 0 o)
-        held false o z g = absurd (eqb-false r.code 0 o g)
+      body_same : (F : List machine.Frame) (out : Output) (C : definition.Context) → suc (length F) ≡ p.depth
+          → turn (into_body (unless_none p.block) r.visits (frame_of frame) F out C) ≡ applied (E (eqb p.block 65535)) (frame_of frame ∷ F) out C
+      unfolding unless_none
+      body_same F out C d = by (eqb p.block 65535)
+        where
+          by : (z : Bool) → turn (into_body (elim z [ true ↦ none | false ↦ some p.block ]) r.visits (frame_of frame) F out C) ≡ applied (E z) (frame_of frame ∷ F) out C
+          by true = unfold into_body in turn_refused 16 frame.block r.visits ∙ sym (refuse_applied (after_values p r) (LoopScheduled frame.block) (frame_of frame ∷ F) out C)
+          by false = unfold into_body in turn_ok _
+              ∙ sym (nest_applied p.block frame p.depth r.rows r.visits 65535 65535 None (frame_of frame ∷ F) out C _ refl ∙ rw (within_rest p.depth (frame_of frame) F d))
 
-        fits : (y : Bool) → eqb r.code 0 ≡ y → (z : Bool) → (E y z).code ≡ 0 → Fitting (frame_of frame ∷ []) p.depth (E y z)
-        fits true o true g = absurd (omega arith)
-        fits true o false g = record { change = tt; handler = rw no_number tt; scope = rw no_number tt; deep = λ _. ma.depth; next = omega arith; nested = tt }
-        fits false o z g = absurd (eqb-false r.code 0 o g)
+      same : (F : List machine.Frame) (R : Output) (C : definition.Context) → Stands (frame_of frame ∷ F) R p.depth p.rows → C.visits ≡ p.visits
+          → turn (values_step w p frame F R C) ≡ applied (E (eqb p.block 65535)) (frame_of frame ∷ F) (R ⊕ m.out) C
+      same F R C d v = ap turn (step_is F R C v ∙ made_on m (on F R C)) ∙ unfold on in body_same F (R ⊕ m.out) C d.deep
+
+      pub values_planned : (plan : std.Result Plan walk.Refused) → plan ≡ E (eqb p.block 65535) → PlannedValues w p frame b plan b'
+      values_planned plan q = subst (λ (z : std.Result Plan walk.Refused). PlannedValues w p frame b z b') (sym q) (record {
+        out = m.out;
+        held = held (eqb p.block 65535);
+        same = same;
+        fitting = fits (eqb p.block 65535);
+      })
+        where
+          held : (z : Bool) → IfOk (E z) (λ y. (R : List Row) → Holds b p.rows (stack.pushed R []) → Holds b' y.position.rows (stack.pushed (R ++ m.out) []))
+          held true = tt
+          held false = m.held
+
+          fits : (z : Bool) → IfOk (E z) (λ y. Fitting (frame_of frame ∷ []) p.depth y)
+          fits true = tt
+          fits false = record { change = tt; handler = rw no_number tt; scope = rw no_number tt; deep = λ _. ma.depth; next = omega arith; nested = tt }
 
 -- ---- value statements
 
@@ -573,9 +547,9 @@ module _ {w : List ℕ} {p : Position} (en : Entered w p) {f : ℕ} (q : value_f
       few_blocks w en.promise f
       ((value_terminal (terminal_at (table_of w) p.block) f q).below (block_count w) (place_count w) (case_count w) (in_range_lem w en.promise p.block en.block))
 
-  pub value_scheduled : {S H : Flags} {plan : Plan} → plan ≡ scheduling_value p (unless_taken (has S f || has H f) f) → PlannedBare w S H p plan
-  value_scheduled {S} {H} {plan} e = subst (λ (z : Plan). PlannedBare w S H p z) (sym e)
-      (bare_planned w S H p (scheduling_value p n) (λ _. refl) same (λ _. record {
+  pub value_scheduled : {S H : Flags} {plan : Plan} → plan ≡ scheduling_value p (unless_taken (has S f || has H f) f) → PlannedBare w S H p (Ok plan)
+  value_scheduled {S} {H} {plan} e = subst (λ (z : Plan). PlannedBare w S H p (Ok z)) (sym e)
+      (bare_planned w S H p (Ok (scheduling_value p n)) refl same (record {
         change = named (eqb n 65535) refl;
         handler = rw no_number tt;
         scope = rw no_number tt;
@@ -594,7 +568,7 @@ module _ {w : List ℕ} {p : Position} (en : Entered w p) {f : ℕ} (q : value_f
       named true g = tt
       named false g = label_below free g
 
-      same : (F : List machine.Frame) (R : Output) (C : definition.Context) → Stands F R p.depth p.rows → Seen S H p.visits C → turn (terminal_step w p F R C) ≡ applied (scheduling_value p n) F R C
+      same : (F : List machine.Frame) (R : Output) (C : definition.Context) → Stands F R p.depth p.rows → Seen S H p.visits C → turn (terminal_step w p F R C) ≡ applied (Ok (scheduling_value p n)) F R C
       same F R C d seen =
           ap turn ((value_terminal (terminal_at (table_of w) p.block) f q).turns (table_of w) (visit_value_block (table_of w) (127 - p.depth)) p.block (block_at (table_of w) p.block) F R p.count C)
           ∙ unfold schedule_value in (turn_ok _ ∙ rw (label_scheduled w en.promise S H p.visits C seen f fallthrough_few)
@@ -621,31 +595,24 @@ module _ (w : List ℕ) (p : Position) (frame : Frame) (ma : Making w p frame) (
       statement_made (table_of w) (visit_value_block (table_of w) (128 - p.depth)) (block_at (table_of w) frame.block) (unless_none p.block) (frame_of frame) F R C (terminal_at (table_of w) frame.block)
       (coded w p frame ma true is) ∙ rw v
 
-  module _ {m : ℕ} {b b₁ : List ℕ} {r : ValueResult} (v : Met w terminal_result outcome (record { rows = p.rows; visits = p.visits }) m b r b₁) where
-    pub value_statement_refused : (plan : Plan) (b' : List ℕ) → (r.code ≡ 0 → ⊥) → plan ≡ refusing (after_values p (values_of r)) r.code r.at → PlannedValues w p frame b plan b'
-    value_statement_refused plan b' z o = subst (λ (y : Plan). PlannedValues w p frame b y b') (sym o) (record {
-      out = [];
-      held = λ e. absurd (z e);
-      same =
-          λ F R C d seen. ap turn (value_step F R C seen ∙ then_off (left F R C) v z) ∙ turn_refused r.code r.at r.tally.visits ∙ sym
-          (refuse_applied (after_values p (values_of r)) r.code r.at (frame_of frame ∷ F) (R ⊕ []) C z);
-      fitting = λ e. absurd (z e);
-    })
+  pub value_statement_refused : {x : Tally} {m : ℕ} {b b₁ b' : List ℕ} {e : Refused} {plan : std.Result Plan walk.Refused} → Met w terminal_result outcome x m b (Err e) b₁ → plan ≡ refusing_value e
+      → PlannedValues w p frame b plan b'
+  value_statement_refused {e = e} v o = refusal_planned e o (λ F R C seen. value_step F R C seen ∙ then_off (left F R C) v)
 
-    pub value_statement_left : (rows : ℕ) (plan : Plan) (b' : List ℕ) → r.code ≡ 0
-        → Written b₁ r.tally.rows (instr_row r.id r.place (block_at (table_of w) frame.block).span) b' rows
-        → plan ≡ leaving frame.label (p.depth - 1) (frame.count + 1) rows r.tally.visits (unschedule_if (eqb frame.entries 0)) → PlannedValues w p frame b plan b'
-    value_statement_left rows plan b' z put e = subst (λ (y : Plan). PlannedValues w p frame b y b') (sym e) (record {
+  module _ {m : ℕ} {b b₁ : List ℕ} {r : code.ValueBlockResult} {x : Tally} (start : x.rows ≡ p.rows) (v : Met w terminal_result outcome x m b (Ok r) b₁) where
+    pub value_statement_left : (rows : ℕ) (plan : Plan) (b' : List ℕ) → Written b₁ r.tally.rows (instr_row r.id r.place (block_at (table_of w) frame.block).span) b' rows
+        → plan ≡ leaving frame.label (p.depth - 1) (frame.count + 1) rows r.tally.visits (unschedule_if (eqb frame.entries 0)) → PlannedValues w p frame b (Ok plan) b'
+    value_statement_left rows plan b' put e = subst (λ (y : Plan). PlannedValues w p frame b (Ok y) b') (sym e) (record {
       out = value_out v.value ++ (last ∷ []);
       held =
-          λ _ R h. rw (
+          λ R h. rw (
             ← (append_assoc R (value_out v.value) (last ∷ [])),
             ← (push_row_after last (R ++ value_out v.value)),
             ← (push_value_after v.value R),
-          ) (written_held put _ ((v.found z).held _ h));
+          ) (written_held put _ (v.found.held _ (rw start h)));
       same = same;
       fitting =
-          λ _. record {
+          record {
             change = off frame.entries refl;
             handler = rw no_number tt;
             scope = rw no_number tt;
@@ -664,10 +631,10 @@ module _ (w : List ℕ) (p : Position) (frame : Frame) (ma : Making w p frame) (
 
         same : (F : List machine.Frame) (R : Output) (C : definition.Context) → Stands (frame_of frame ∷ F) R p.depth p.rows → C.visits ≡ p.visits
             → turn (values_step w p frame F R C)
-            ≡ applied (leaving frame.label (p.depth - 1) (frame.count + 1) rows r.tally.visits (unschedule_if (eqb frame.entries 0))) (frame_of frame ∷ F)
+            ≡ applied (Ok (leaving frame.label (p.depth - 1) (frame.count + 1) rows r.tally.visits (unschedule_if (eqb frame.entries 0)))) (frame_of frame ∷ F)
             (R ⊕ (value_out v.value ++ (last ∷ []))) C
         same F R C d seen =
-            ap turn (value_step F R C seen ∙ then_on_lem (left F R C) v z) ∙ unfold left in (turn_ok _
+            ap turn (value_step F R C seen ∙ then_on_lem (left F R C) v) ∙ unfold left in (turn_ok _
             ∙ rw (out_assoc R (value_out v.value) (last ∷ []))
             (sym (leave_applied frame.label (p.depth - 1) (frame.count + 1) rows r.tally.visits (unschedule_if (eqb frame.entries 0)) (frame_of frame ∷ F)
             (R ⊕ (value_out v.value ++ (last ∷ []))) C _

@@ -1,4 +1,6 @@
 -- What the plans that there are come to, and what an arm's answers have to show.
+use Rattle.std.specs.Prelude.{None, Ok, Err, IfOk}
+use Rattle.std.specs.Prelude as std
 use Prim.Native.Nat.{ℕ, zero, suc, ◌-◌, ◌≤◌, ◌<◌}
 use native.Mathlib.Omega.{arith}
 use mathlib.Core.Path.{◌≡◌, refl, sym, ap, ◌∙◌}
@@ -19,12 +21,15 @@ use Rattle.definition.specs.Result.{Result, ok}
 use Rattle.definition.proofs.Never.{schedule_free}
 use Rattle.definition.proofs.Steps.{true_false}
 use Rattle.statements.specs.declared.plan.Position.{Position}
+use Rattle.statements.specs.declared.refusal.Refusal.{Refusal}
+use Rattle.statements.specs.declared.refusal.Refused.{Refused}
+use Rattle.statements.specs.declared.plan.Plan.{Plan}
+use Rattle.statements.specs.Refusal.{refusal_code, refusal_place, refused_after}
 use Rattle.statements.specs.declared.plan.Frame.{Frame}
 use Rattle.statements.specs.declared.plan.Change.{Change}
 use Rattle.statements.specs.declared.plan.Line.{Line}
-use Rattle.statements.specs.declared.plan.Line.TheVariants.{Nothing}
 use Rattle.statements.specs.declared.plan.Stage.TheVariants.{Visit}
-use Rattle.statements.specs.Plans.{frame_of, within, changed, handled, scoped, context_after, unless_refused, onward, lined, applied, with_line, refusing, stage_after, leaving}
+use Rattle.statements.specs.Plans.{frame_of, within, changed, handled, scoped, unless_refused, onward, lined, applied, with_line, refusing, stage_after, leaving}
 use Rattle.statements.specs.Plans.{nesting, choosing_next, popping_next, making_next, accepting, unless_taken, entries_if, schedule_if, schedule_switch, unschedule_if}
 use Rattle.statements.specs.Planned.{Nested}
 
@@ -53,19 +58,24 @@ visits_same v C e = ap (λ (z : ℕ). with_visits z C) (sym e)
 
 -- ---- plans
 
-pub refuse_applied : (p : Position) (code at : ℕ) (F : List machine.Frame) (R : Output) (C : definition.Context) → (code ≡ 0 → ⊥)
-    → applied (refusing p code at) F R C ≡ halt (rejected code at p.visits)
+-- what is said of a plan follows for each plan
+pub ok_to : {P Q : Plan → Type 0} (outcome : std.Result Plan Refused) → ((plan : Plan) → P plan → Q plan) → IfOk outcome P → IfOk outcome Q
+ok_to (Ok plan) f h = f plan h
+ok_to (Err e) f h = tt
+
+pub refused_applied : (e : Refused) (F : List machine.Frame) (R : Output) (C : definition.Context)
+    → applied (Err e) F R C ≡ halt (rejected (refusal_code e.refusal) (refusal_place e.refusal) e.visits)
 unfolding applied
-refuse_applied p code at F R C h =
-    ap (λ (y : Bool). elim y [
-      | true ↦ onward p.stage (refusing p code at) F R (context_after (refusing p code at) C)
-      | false ↦ halt (rejected code at p.visits)
-    ]) (ne_eqb code 0 h)
+refused_applied e F R C = refl
+
+pub refuse_applied : (p : Position) (refusal : Refusal) (F : List machine.Frame) (R : Output) (C : definition.Context)
+    → applied (refusing p refusal) F R C ≡ halt (rejected (refusal_code refusal) (refusal_place refusal) p.visits)
+refuse_applied p refusal F R C = refused_applied (refused_after refusal p.visits) F R C
 
 -- D is the Context that the plan's change leaves
-module _ (next depth count rows visits : ℕ) (change : Change) (F : List machine.Frame) (R : Output) (C D : definition.Context) (e : changed change (with_visits visits C) ≡ ok D) where
+module _ (next depth count rows visits : ℕ) (change : std.Option Change) (F : List machine.Frame) (R : Output) (C D : definition.Context) (e : changed change (with_visits visits C) ≡ ok D) where
   -- with a line (M-101)
-  pub leave_lined : (line : Line) → applied (with_line (leaving next depth count rows visits change) line) F R C ≡ going (leave (unless_none next) (within depth F) (lined line rows R) count D)
+  pub leave_lined : (line : std.Option Line) → applied (Ok (with_line (leaving next depth count rows visits change) line)) F R C ≡ going (leave (unless_none next) (within depth F) (lined line rows R) count D)
   unfolding applied unless_none
   leave_lined line =
       ap (λ (after : Result definition.Context). onward (stage_after (eqb next 65535)) (with_line (leaving next depth count rows visits change) line) F (lined line rows R) after) e ∙ at (eqb next 65535)
@@ -75,34 +85,34 @@ module _ (next depth count rows visits : ℕ) (change : Change) (F : List machin
       at true = refl
       at false = refl
 
-  pub leave_applied : applied (leaving next depth count rows visits change) F R C ≡ going (leave (unless_none next) (within depth F) R count D)
-  leave_applied = leave_lined Nothing
+  pub leave_applied : applied (Ok (leaving next depth count rows visits change)) F R C ≡ going (leave (unless_none next) (within depth F) R count D)
+  leave_applied = leave_lined None
 
-pub nest_applied : (block : ℕ) (frame : Frame) (depth rows visits handler scope : ℕ) (change : Change) (F : List machine.Frame) (R : Output) (C D : definition.Context)
+pub nest_applied : (block : ℕ) (frame : Frame) (depth rows visits handler scope : ℕ) (change : std.Option Change) (F : List machine.Frame) (R : Output) (C D : definition.Context)
     → changed change (scoped (unless_none scope) (handled (unless_none handler) (with_visits visits C))) ≡ ok D
-    → applied (nesting block frame depth rows visits handler scope change) F R C ≡ going (visiting block (frame_of frame ∷ within (depth - 1) F) R 0 D)
+    → applied (Ok (nesting block frame depth rows visits handler scope change)) F R C ≡ going (visiting block (frame_of frame ∷ within (depth - 1) F) R 0 D)
 unfolding applied
 nest_applied block frame depth rows visits handler scope change F R C D e =
     ap (λ (after : Result definition.Context). onward Visit (nesting block frame depth rows visits handler scope change) F R after) e
 
-pub choose_asked : (frame : Frame) (depth rows visits : ℕ) (change : Change) (F : List machine.Frame) (R : Output) (C : definition.Context)
-    → applied (choosing_next frame depth rows visits change) F R C ≡ unless_refused (changed change (with_visits visits C)) (choosing (frame_of frame) (within (depth - 1) F) R)
+pub choose_asked : (frame : Frame) (depth rows visits : ℕ) (change : std.Option Change) (F : List machine.Frame) (R : Output) (C : definition.Context)
+    → applied (Ok (choosing_next frame depth rows visits change)) F R C ≡ unless_refused (changed change (with_visits visits C)) (choosing (frame_of frame) (within (depth - 1) F) R)
 unfolding applied unless_none
 choose_asked frame depth rows visits change F R C = refl
 
-pub choose_applied : (frame : Frame) (depth rows visits : ℕ) (change : Change) (F : List machine.Frame) (R : Output) (C D : definition.Context) → changed change (with_visits visits C) ≡ ok D
-    → applied (choosing_next frame depth rows visits change) F R C ≡ going (choosing (frame_of frame) (within (depth - 1) F) R D)
+pub choose_applied : (frame : Frame) (depth rows visits : ℕ) (change : std.Option Change) (F : List machine.Frame) (R : Output) (C D : definition.Context) → changed change (with_visits visits C) ≡ ok D
+    → applied (Ok (choosing_next frame depth rows visits change)) F R C ≡ going (choosing (frame_of frame) (within (depth - 1) F) R D)
 choose_applied frame depth rows visits change F R C D e =
     choose_asked frame depth rows visits change F R C ∙ ap (λ (after : Result definition.Context). unless_refused after (choosing (frame_of frame) (within (depth - 1) F) R)) e
 
 pub pop_applied : (frame : Frame) (depth rows visits : ℕ) (F : List machine.Frame) (R : Output) (C : definition.Context)
-    → applied (popping_next frame depth rows visits) F R C ≡ going (popping (frame_of frame) (within (depth - 1) F) R (unscheduled (with_visits visits C)))
+    → applied (Ok (popping_next frame depth rows visits)) F R C ≡ going (popping (frame_of frame) (within (depth - 1) F) R (unscheduled (with_visits visits C)))
 unfolding applied unless_none
 pop_applied frame depth rows visits F R C = refl
 
 -- 15 is `schedule`'s
-pub values_asked : (body : ℕ) (frame : Frame) (depth rows visits : ℕ) (change : Change) (F : List machine.Frame) (R : Output) (C : definition.Context)
-    → applied (making_next body frame depth rows visits change) F R C ≡ unless_refused (changed change (with_visits visits C)) (making (unless_none body) (frame_of frame) (within (depth - 1) F) R)
+pub values_asked : (body : ℕ) (frame : Frame) (depth rows visits : ℕ) (change : std.Option Change) (F : List machine.Frame) (R : Output) (C : definition.Context)
+    → applied (Ok (making_next body frame depth rows visits change)) F R C ≡ unless_refused (changed change (with_visits visits C)) (making (unless_none body) (frame_of frame) (within (depth - 1) F) R)
 unfolding applied unless_none
 values_asked body frame depth rows visits change F R C = refl
 
@@ -111,7 +121,7 @@ pub off_changed : (entries : ℕ) (C : definition.Context) → changed (unschedu
 off_changed zero C = refl
 off_changed (suc n) C = rw (ne_eqb (suc n) 0 (λ e. omega (arith, e))) refl
 
-pub accept_applied : (rows visits : ℕ) (F : List machine.Frame) (R : Output) (C : definition.Context) → applied (accepting rows visits) F R C ≡ halt (accepted R.rows R.lines visits)
+pub accept_applied : (rows visits : ℕ) (F : List machine.Frame) (R : Output) (C : definition.Context) → applied (Ok (accepting rows visits)) F R C ≡ halt (accepted R.rows R.lines visits)
 unfolding applied
 accept_applied rows visits F R C = refl
 

@@ -1,4 +1,6 @@
 -- What every arm shows: a plan that is the machine's turn, with no row or after some.
+use Rattle.std.specs.Prelude.{Ok, Err, IfOk}
+use Rattle.std.specs.Prelude as std
 use Prim.Native.Nat.{ℕ, ◌+◌, ◌-◌, ◌≤◌, ◌<◌}
 use native.Mathlib.Omega.{arith}
 use mathlib.Core.Path.{◌≡◌, refl, sym, ap, ◌∙◌, subst}
@@ -28,10 +30,12 @@ use Rattle.values.specs.Rows.{Holds}
 use Rattle.values.specs.Stack as stack
 use Rattle.statements.specs.declared.plan.Position.{Position}
 use Rattle.statements.specs.declared.plan.Plan.{Plan}
+use Rattle.statements.specs.declared.refusal.Refusal.TheVariants.{MissingBlock}
+use Rattle.statements.specs.declared.refusal.Refused.{Refused}
 use Rattle.statements.specs.Plans.{applied, refusing, unless_taken}
 use Rattle.statements.specs.Planned.{Seen, Fitting, Stands, Planned, PlannedBare, Entered, terminal_step_in, nowhere, terminal_step}
 use Rattle.statements.proofs.CountLaws.{counted_on}
-use Rattle.statements.proofs.PlanLaws.{refuse_applied, Label, label_taken, label_most}
+use Rattle.statements.proofs.PlanLaws.{ok_to, refuse_applied, Label, label_taken, label_most}
 use Rattle.statements.proofs.StepLaws.{label_missing, label_reached, turn_refused}
 
 -- ---- an arm's turn by another
@@ -40,7 +44,7 @@ use Rattle.statements.proofs.StepLaws.{label_missing, label_reached, turn_refuse
 pub stands_after : {F : List machine.Frame} {R : Output} {depth rows rows₁ : ℕ} (more : List Row) → rows₁ ≡ rows + length more → Stands F R depth rows → Stands F (R ⊕ more) depth rows₁
 stands_after {R = R} more e s = record { deep = s.deep; many = omega (arith, e, s.many, length-append R.rows more) }
 
-module _ {top : List machine.Frame} {depth rows : ℕ} {buffer buffer' : List ℕ} {plan : Plan}
+module _ {top : List machine.Frame} {depth rows : ℕ} {buffer buffer' : List ℕ} {plan : std.Result Plan Refused}
     {next next' : List machine.Frame → Output → definition.Context → Result State} {On On' : definition.Context → Type 0} where
   -- another step that comes to the same, and a Context of which more is known
   pub planned_as : ((F : List machine.Frame) (R : Output) (C : definition.Context) → next' F R C ≡ next F R C) → ((C : definition.Context) → On' C → On C)
@@ -55,7 +59,7 @@ module _ {top : List machine.Frame} {depth rows : ℕ} {buffer buffer' : List �
       → Planned next On top depth rows₁ buffer₁ plan buffer' → Planned next' On' top depth rows buffer plan buffer'
   planned_after more to put e on same m = record {
     out = more ++ m.out;
-    held = λ z before h. rw (← (append_assoc before more m.out)) (m.held z (before ++ more) (put before h));
+    held = ok_to plan (λ x held before h. rw (← (append_assoc before more m.out)) (held (before ++ more) (put before h))) m.held;
     same =
         λ F R C l o. ap turn (e F R C o) ∙ m.same F (R ⊕ more) (to C) (stands_after more (counted_on more put) l) (on C o) ∙ same (top ++ F) ((R ⊕ more) ⊕ m.out) C ∙ ap
         (λ (z : Output). applied plan (top ++ F) z C) (out_assoc R more m.out);
@@ -63,21 +67,25 @@ module _ {top : List machine.Frame} {depth rows : ℕ} {buffer buffer' : List �
   }
 
 -- a plan sets the visits
-pub applied_visits : (plan : Plan) (v : ℕ) (F : List machine.Frame) (R : Output) (C : definition.Context) → applied plan F R (with_visits v C) ≡ applied plan F R C
+pub applied_visits : (plan : std.Result Plan Refused) (v : ℕ) (F : List machine.Frame) (R : Output) (C : definition.Context) → applied plan F R (with_visits v C) ≡ applied plan F R C
 unfolding applied with_visits
-applied_visits plan v F R C = refl
+applied_visits (Ok plan) v F R C = refl
+applied_visits (Err e) v F R C = refl
 
 -- ---- an arm with no row
 
-pub bare_planned : (w : List ℕ) (S H : Flags) (p : Position) (plan : Plan) → (plan.code ≡ 0 → plan.position.rows ≡ p.rows)
+pub bare_planned : (w : List ℕ) (S H : Flags) (p : Position) (plan : std.Result Plan Refused) → IfOk plan (λ x. x.position.rows ≡ p.rows)
     → ((F : List machine.Frame) (R : Output) (C : definition.Context) → Stands F R p.depth p.rows → Seen S H p.visits C → turn (terminal_step w p F R C) ≡ applied plan F R C)
-    → (plan.code ≡ 0 → Fitting [] p.depth plan) → PlannedBare w S H p plan
+    → IfOk plan (λ x. Fitting [] p.depth x) → PlannedBare w S H p plan
 bare_planned w S H p plan rows same fit buffer = record {
   out = [];
-  held = λ z before h. rw (append-nil before, rows z) h;
+  held = ok_to plan (λ x e. kept x.position.rows e) rows;
   same = λ F R C d seen. rw (out_nil R) (same F R C d seen);
   fitting = fit;
 }
+  where
+    kept : (n : ℕ) → n ≡ p.rows → (before : List Row) → Holds buffer p.rows (stack.pushed before []) → Holds buffer n (stack.pushed (before ++ []) [])
+    kept n e before h = rw (append-nil before, e) h
 
 -- a jump, with this around
 pub step_in : (around : Around) (w : List ℕ) (p : Position) (e : Terminal) (F : List machine.Frame) (R : Output) (C : definition.Context) → terminal_at (table_of w) p.block ≡ e
@@ -115,16 +123,13 @@ around_unread a t v (maybe_throw x) at k F R n C f g = refl
 around_unread a t v (try x y q z) at k F R n C f g = refl
 around_unread a t v (scope o x q z) at k F R n C f g = refl
 
-refuse_fits : (p : Position) (code at : ℕ) → (code ≡ 0 → ⊥) → code ≡ 0 → Fitting [] p.depth (refusing p code at)
-refuse_fits p code at h e = absurd (h e)
-
 -- a fallthrough that is not there
 missing_same : (w : List ℕ) (S H : Flags) (p : Position) → Promise w → (f : ℕ) → f < block_count w → block_word w f 2 ≡ 0 → (k : definition.Context → Option ℕ → Result State)
-    → (F : List machine.Frame) (R : Output) (C : definition.Context) → Seen S H p.visits C → turn (unless_unreachable (table_of w) C f >>= k C) ≡ applied (refusing p 10 f) F R C
+    → (F : List machine.Frame) (R : Output) (C : definition.Context) → Seen S H p.visits C → turn (unless_unreachable (table_of w) C f >>= k C) ≡ applied (refusing p (MissingBlock f)) F R C
 unfolding ◌>>=◌
 missing_same w S H p pr f h e k F R C seen =
     ap (λ (z : Result (Option ℕ)). turn (z >>= k C)) (label_missing w pr S H p.visits C seen f h e) ∙ turn_refused 10 f C.visits ∙ ap (λ (v : ℕ). halt (rejected 10 f v)) seen.visits
-    ∙ sym (refuse_applied p 10 f F R C (λ z. omega arith))
+    ∙ sym (refuse_applied p (MissingBlock f) F R C)
 
 pub reach_same : (w : List ℕ) (S H : Flags) (p : Position) → Promise w → (f n : ℕ) → f < block_count w → f < 1024 → (block_word w f 2 ≡ 0 → ⊥)
     → n ≡ unless_taken (eqb (block_word w f 2) 1 || (has S f || has H f)) f → (k : Option ℕ → Result State) (C : definition.Context) → Seen S H p.visits C
@@ -168,13 +173,12 @@ pub takes_most : (S H : Flags) (f : ℕ) {n : ℕ} → Takes S H f n → f < 102
 takes_most S H f q h = rw q (label_most _ (label_taken S H false f h))
 
 module _ (w : List ℕ) (S H : Flags) (p : Position) (en : Entered w p) (e : Terminal) (f : ℕ) (k : Rest) (ends : Ends w p.block e) (asks : Asks w p e f k) (h : f < block_count w) where
-  pub reached_missing : (plan : Plan) → code_at w f ≡ 0 → plan ≡ refusing p 10 f → PlannedBare w S H p plan
-  reached_missing plan z r = rw r (bare_planned w S H p (refusing p 10 f) (λ _. refl) (λ F R C d seen.
-      ap turn (step_by w p e F R C ends.is ∙ asks F R C) ∙ missing_same w S H p en.promise f h z (λ D taken. k F R D taken) F R C seen)
-      (refuse_fits p 10 f (λ y. omega arith)))
+  pub reached_missing : (plan : std.Result Plan Refused) → code_at w f ≡ 0 → plan ≡ refusing p (MissingBlock f) → PlannedBare w S H p plan
+  reached_missing plan z r = rw r (bare_planned w S H p (refusing p (MissingBlock f)) tt (λ F R C d seen.
+      ap turn (step_by w p e F R C ends.is ∙ asks F R C) ∙ missing_same w S H p en.promise f h z (λ D taken. k F R D taken) F R C seen) tt)
 
-  pub reached_same : (n : ℕ) (plan : Plan) → (code_at w f ≡ 0 → ⊥) → Reached w S H f n
-      → (plan.code ≡ 0 → plan.position.rows ≡ p.rows) → (plan.code ≡ 0 → Fitting [] p.depth plan)
+  pub reached_same : (n : ℕ) (plan : std.Result Plan Refused) → (code_at w f ≡ 0 → ⊥) → Reached w S H f n
+      → IfOk plan (λ x. x.position.rows ≡ p.rows) → IfOk plan (λ x. Fitting [] p.depth x)
       → ((F : List machine.Frame) (R : Output) (C : definition.Context) → Stands F R p.depth p.rows → Seen S H p.visits C → turn (k F R C (unless_none n)) ≡ applied plan F R C)
       → PlannedBare w S H p plan
   reached_same n plan z r rows fit same = bare_planned w S H p plan rows (λ F R C d seen.

@@ -1,10 +1,12 @@
 -- What an arm shows where a nested list has ended, or a Switch chooses: its plan is the machine's turn.
+use Rattle.std.specs.Prelude.{None, Some}
+use Rattle.std.specs.Prelude as std
 use Prim.Native.Nat.{ℕ, zero, suc, ◌+◌, ◌-◌, ◌≤◌, ◌<◌}
 use native.Mathlib.Omega.{arith}
 use mathlib.Core.Path.{◌≡◌, refl, sym, ap, ◌∙◌, subst}
 use mathlib.Core.Bool.{Bool, true, false, not, ◌||◌}
 use mathlib.Core.List.{List, [], ◌∷◌, ◌++◌, append-nil}
-use mathlib.Core.Option.{Option}
+use mathlib.Core.Option.{Option, none}
 use lib.Dec.{eqb}
 use lib.ListN.{length}
 use borrow.Author.Tests.{eq-eqb, ne_eqb}
@@ -12,7 +14,6 @@ use Rattle.table.specs.Words.{block_count, case_count, code_at}
 use Rattle.table.specs.Promise.{Ends, Chooses}
 use Rattle.table.specs.Table.{Table, Block, Case, Terminal, absent, unreachable, throw, return, goto, if, branch, switch, do_while, while, for, for_of, for_in}
 use Rattle.table.specs.Table.{logical, ternary, optional, label, sequence, maybe_throw, try, scope, code_of, table_of, terminal_at, block_at}
-use Rattle.table.specs.Table.{unless_none}
 use Rattle.table.proofs.TableLaws.{length_blocks, length_cases}
 use Rattle.table.proofs.BlockLaws.{no_number, code_at_lem}
 use Rattle.definition.specs.Build.{rejected, accepted}
@@ -34,15 +35,23 @@ use Rattle.values.specs.Stack as stack
 use Rattle.values.proofs.RowLaws.{written_held}
 use Rattle.values.proofs.StackLaws.{push_row_after, push_value_after}
 use Rattle.values.specs.declared.result.Tally.{Tally}
-use Rattle.values.specs.declared.result.ValueResult.{ValueResult}
+use Rattle.values.specs.declared.result.ValueBlockResult as code
+use Rattle.values.specs.declared.refusal.Refused.{Refused}
+use Rattle.std.specs.Prelude.{Ok, Err}
+use Rattle.statements.specs.Loops.{refusing_value}
+use Rattle.statements.proofs.RefusalLaws.{refusal_planned}
 use Rattle.values.specs.Met.{Met, block_result}
 use Rattle.values.proofs.MetLaws.{then_on_lem, then_off}
 use Rattle.statements.specs.declared.plan.Stage.{Stage}
 use Rattle.statements.specs.declared.plan.Stage.TheVariants.{Ended, Choose, Pop}
 use Rattle.statements.specs.declared.plan.Position.{Position}
 use Rattle.statements.specs.declared.plan.Frame.{Frame}
-use Rattle.statements.specs.declared.plan.Change.TheVariants.{Nothing, Schedule}
+use Rattle.statements.specs.declared.plan.Change.TheVariants.{Schedule}
 use Rattle.statements.specs.declared.plan.Plan.{Plan}
+use Rattle.statements.specs.declared.refusal.Refusal as walk
+use Rattle.statements.specs.declared.refusal.Refusal.TheVariants.{CaseScheduled}
+use Rattle.statements.specs.declared.refusal.Refused as stopped
+use Rattle.statements.specs.Refusal.{refusal_code, refusal_place}
 use Rattle.statements.specs.Plans.{frame_of, state_at, second, applied, refusing, nesting, choosing_next, accepting}
 use Rattle.statements.specs.Planned.{Seen, Stands, Fitting, Planned}
 use Rattle.definition.specs.Around.{Around}
@@ -69,36 +78,36 @@ module _ (w : List ℕ) (p : Position) (frame : Frame) where
   abbrev pub Closed : Type 0
   Closed = (F : List machine.Frame) (R : Output) (C : definition.Context) → resume_step w p frame F R C ≡ close_step w frame F R C
 
-  pub resumed_closed : {buffer buffer' : List ℕ} {plan : Plan} → Closed → PlannedClose w p frame buffer plan buffer' → PlannedOn w p frame buffer plan buffer'
+  pub resumed_closed : {buffer buffer' : List ℕ} {plan : std.Result Plan stopped.Refused} → Closed → PlannedClose w p frame buffer plan buffer' → PlannedOn w p frame buffer plan buffer'
   resumed_closed e m = planned_as e (λ C o. o) m
 
-  pub resumed_seen : {S H : Flags} {buffer buffer' : List ℕ} {plan : Plan} → PlannedOn w p frame buffer plan buffer' → PlannedResume w S H p frame buffer plan buffer'
+  pub resumed_seen : {S H : Flags} {buffer buffer' : List ℕ} {plan : std.Result Plan stopped.Refused} → PlannedOn w p frame buffer plan buffer' → PlannedResume w S H p frame buffer plan buffer'
   resumed_seen m = planned_as (λ F R C. refl) (λ C o. o.visits) m
 
   -- it goes on with a second part that must not be scheduled
-  pub resumed_alternate : (S H : Flags) (block code at : ℕ) (plan : Plan) (buffer : List ℕ)
-      → ((F : List machine.Frame) (R : Output) (C : definition.Context) → resume_step w p frame F R C ≡ into block code at (second_part (frame_of frame)) F R C)
-      → 1 ≤ p.depth → (code ≡ 0 → ⊥) → plan ≡ alternating (has S block || has H block) p frame block code at → PlannedResume w S H p frame buffer plan buffer
-  resumed_alternate S H block code at plan buffer e deep nz q = subst (λ (y : Plan). PlannedResume w S H p frame buffer y buffer) (sym q) (by (has S block || has H block) refl)
+  pub resumed_alternate : (S H : Flags) (block : ℕ) (r : walk.Refusal) (plan : std.Result Plan stopped.Refused) (buffer : List ℕ)
+      → ((F : List machine.Frame) (R : Output) (C : definition.Context) → resume_step w p frame F R C ≡ into block (refusal_code r) (refusal_place r) (second_part (frame_of frame)) F R C)
+      → 1 ≤ p.depth → plan ≡ alternating (has S block || has H block) p frame block r → PlannedResume w S H p frame buffer plan buffer
+  resumed_alternate S H block r plan buffer e deep q = subst (λ (y : std.Result Plan stopped.Refused). PlannedResume w S H p frame buffer y buffer) (sym q) (by (has S block || has H block) refl)
     where
-      by : (y : Bool) → has S block || has H block ≡ y → PlannedResume w S H p frame buffer (alternating y p frame block code at) buffer
+      by : (y : Bool) → has S block || has H block ≡ y → PlannedResume w S H p frame buffer (alternating y p frame block r) buffer
       by true u = record {
         out = [];
-        held = λ z. absurd (nz z);
+        held = tt;
         same =
             λ F R C d seen. rw (out_nil R) (ap turn
-            (e F R C ∙ into_busy block code at (second_part (frame_of frame)) F R C (seen_scheduled S H p.visits C seen block ∙ u)) ∙ turn_refused code at
-            C.visits
-            ∙ ap (λ (v : ℕ). halt (rejected code at v)) seen.visits ∙ sym (refuse_applied p code at (frame_of frame ∷ F) R C nz));
-        fitting = λ z. absurd (nz z);
+            (e F R C ∙ into_busy block (refusal_code r) (refusal_place r) (second_part (frame_of frame)) F R C (seen_scheduled S H p.visits C seen block ∙ u)) ∙ turn_refused (refusal_code r)
+            (refusal_place r) C.visits
+            ∙ ap (λ (v : ℕ). halt (rejected (refusal_code r) (refusal_place r) v)) seen.visits ∙ sym (refuse_applied p r (frame_of frame ∷ F) R C));
+        fitting = tt;
       }
       by false u = record {
         out = [];
-        held = λ _ before h. rw (append-nil before) h;
-        same = λ F R C d seen. rw (out_nil R) (ap turn (e F R C ∙ into_free block code at (second_part (frame_of frame)) F R C (seen_scheduled S H p.visits C seen block ∙ u)) ∙ turn_ok _
-            ∙ sym (nest_applied block (second frame) p.depth p.rows p.visits 65535 65535 Nothing (frame_of frame ∷ F) R C _ refl ∙ rw
+        held = λ before h. rw (append-nil before) h;
+        same = λ F R C d seen. rw (out_nil R) (ap turn (e F R C ∙ into_free block (refusal_code r) (refusal_place r) (second_part (frame_of frame)) F R C (seen_scheduled S H p.visits C seen block ∙ u)) ∙ turn_ok _
+            ∙ sym (nest_applied block (second frame) p.depth p.rows p.visits 65535 65535 None (frame_of frame ∷ F) R C _ refl ∙ rw
             (no_number, visits_same p.visits C seen.visits, within_rest p.depth (frame_of frame) F d.deep)));
-        fitting = λ _. record { change = tt; handler = rw no_number tt; scope = rw no_number tt; deep = λ _. deep; next = omega arith; nested = tt };
+        fitting = record { change = tt; handler = rw no_number tt; scope = rw no_number tt; deep = λ _. deep; next = omega arith; nested = tt };
       }
 
   module _ (re : Resuming w p frame) where
@@ -164,14 +173,14 @@ module _ (w : List ℕ) (p : Position) (frame : Frame) where
       try_goes_on s F R C = resume_at_lem _ F R C ends.is ∙ rw s
 
       pub try_handler : (plan : Plan) (buffer : List ℕ) → frame.second ≡ false
-          → plan ≡ nesting y (second frame) p.depth p.rows p.visits 65535 65535 Nothing → PlannedOn w p frame buffer plan buffer
-      try_handler plan buffer s q = subst (λ (q : Plan). PlannedOn w p frame buffer q buffer) (sym q) (record {
+          → plan ≡ nesting y (second frame) p.depth p.rows p.visits 65535 65535 None → PlannedOn w p frame buffer (Ok plan) buffer
+      try_handler plan buffer s q = subst (λ (q : Plan). PlannedOn w p frame buffer (Ok q) buffer) (sym q) (record {
         out = [];
-        held = λ _ before h. rw (append-nil before) h;
+        held = λ before h. rw (append-nil before) h;
         same = λ F R C d on. rw (out_nil R) (ap turn (try_goes_on s F R C) ∙ turn_ok _
-            ∙ sym (nest_applied y (second frame) p.depth p.rows p.visits 65535 65535 Nothing (frame_of frame ∷ F) R C _ refl ∙ rw
+            ∙ sym (nest_applied y (second frame) p.depth p.rows p.visits 65535 65535 None (frame_of frame ∷ F) R C _ refl ∙ rw
             (no_number, visits_same p.visits C on, within_rest p.depth (frame_of frame) F d.deep)));
-        fitting = λ _. record { change = tt; handler = rw no_number tt; scope = rw no_number tt; deep = λ _. re.depth; next = omega arith; nested = tt };
+        fitting = record { change = tt; handler = rw no_number tt; scope = rw no_number tt; deep = λ _. re.depth; next = omega arith; nested = tt };
       })
 
     -- ---- Switch
@@ -194,18 +203,18 @@ module _ (w : List ℕ) (p : Position) (frame : Frame) where
             ∙ ap (λ (k : Case). schedule (target_case k.block) C >>= λ inside. ok (choosing (case_built (frame_of frame)) F (R ⊕ (row 11 k.test 0 0 0 0 ∷ [])) inside)) (chooses.is no_case)
 
         abbrev case_plan : (rows target : ℕ) → Plan
-        case_plan rows target = choosing_next (one_built frame) p.depth rows p.visits (Schedule (CaseTarget target))
+        case_plan rows target = choosing_next (one_built frame) p.depth rows p.visits (Some (Schedule (CaseTarget target)))
 
         pub case_built_lem : (plan : Plan) (buffer buffer' : List ℕ) (target rows : ℕ) → target ≡ block → Written buffer p.rows (row 11 test 0 0 0 0) buffer' rows
-            → plan ≡ case_plan rows target → PlannedOn w p frame buffer plan buffer'
-        case_built_lem plan buffer buffer' target rows u put q = subst (λ (y : Plan). PlannedOn w p frame buffer y buffer') (sym (q ∙ ap (case_plan rows) u)) (record {
+            → plan ≡ case_plan rows target → PlannedOn w p frame buffer (Ok plan) buffer'
+        case_built_lem plan buffer buffer' target rows u put q = subst (λ (y : Plan). PlannedOn w p frame buffer (Ok y) buffer') (sym (q ∙ ap (case_plan rows) u)) (record {
           out = case_row ∷ [];
-          held = λ _ before h. rw (← (push_row_after case_row before)) (written_held put (stack.pushed before []) h);
+          held = λ before h. rw (← (push_row_after case_row before)) (written_held put (stack.pushed before []) h);
           same =
               λ F R C d on. ap turn (case_goes_on F R C) ∙ turn_asked _ _ ∙ sym
-              (choose_asked (one_built frame) p.depth rows p.visits (Schedule (CaseTarget block)) (frame_of frame ∷ F) (R ⊕ (case_row ∷ [])) C
+              (choose_asked (one_built frame) p.depth rows p.visits (Some (Schedule (CaseTarget block))) (frame_of frame ∷ F) (R ⊕ (case_row ∷ [])) C
               ∙ rw (visits_same p.visits C on, within_rest p.depth (frame_of frame) F d.deep, more frame.entries, more frame.built));
-          fitting = λ _. record { change = case_below; handler = rw no_number tt; scope = rw no_number tt; deep = λ _. re.depth; next = omega arith; nested = refl };
+          fitting = record { change = case_below; handler = rw no_number tt; scope = rw no_number tt; deep = λ _. re.depth; next = omega arith; nested = refl };
         })
           where
             more : (n : ℕ) → n + 1 ≡ suc n
@@ -215,35 +224,28 @@ module _ (w : List ℕ) (p : Position) (frame : Frame) where
 
     module _ {l x f : ℕ} (ends : Ends w frame.block (do_while l x f)) where
       abbrev tests : ℕ → Result ValueBlockResult
-      tests visits = visit_value_block (table_of w) (128 - p.depth) x (unless_none 65535) (block_at t frame.block).span visits
+      tests visits = visit_value_block (table_of w) (128 - p.depth) x none (block_at t frame.block).span visits
 
       abbrev closes : List machine.Frame → Output → definition.Context → ValueBlockResult → Result State
       closes F R C tested = ok (close t (frame_of frame) F (R ⊕ value_out tested.value) (with_visits tested.visits C))
 
       test_step : (F : List machine.Frame) (R : Output) (C : definition.Context) → C.visits ≡ p.visits → resume_step w p frame F R C ≡ (tests p.visits >>= closes F R C)
       unfolding resume_at
-      test_step F R C on = resume_at_lem _ F R C ends.is ∙ rw (no_number, on)
+      test_step F R C on = resume_at_lem _ F R C ends.is ∙ rw on
 
-      module _ (start : Tally) (buffer buffer₁ : List ℕ) (r : ValueResult)
-          (m : Met w block_result (visit_value_block (table_of w) (128 - p.depth) x (unless_none 65535) (block_at t frame.block).span p.visits) start 0
-          buffer r buffer₁) where
-        pub test_refused : (after : Position) (plan : Plan) → after.visits ≡ r.tally.visits → (r.code ≡ 0 → ⊥) → plan ≡ refusing after r.code r.at → PlannedOn w p frame buffer plan buffer₁
-        test_refused after plan e nz q = subst (λ (y : Plan). PlannedOn w p frame buffer y buffer₁) (sym q) (record {
-          out = [];
-          held = λ z. absurd (nz z);
-          same = λ F R C d on. rw (out_nil R) (ap turn (test_step F R C on ∙ then_off (closes F R C) m nz) ∙ turn_refused r.code r.at r.tally.visits
-              ∙ ap (λ (v : ℕ). halt (rejected r.code r.at v)) (sym e) ∙ sym (refuse_applied after r.code r.at (frame_of frame ∷ F) R C nz));
-          fitting = λ z. absurd (nz z);
-        })
+      pub test_refused : {start : Tally} {buffer buffer₁ buffer' : List ℕ} {e : Refused} {plan : std.Result Plan stopped.Refused} → Met w block_result (tests p.visits) start 0 buffer (Err e) buffer₁
+          → plan ≡ refusing_value e → PlannedOn w p frame buffer plan buffer'
+      test_refused {e = e} m q = refusal_planned e q (λ F R C on. test_step F R C on ∙ then_off (closes F R C) m)
 
-        pub test_closed : (plan : Plan) (buffer' : List ℕ) → start.rows ≡ p.rows → r.code ≡ 0
-            → Planned (close_step w frame) (Begun r.tally.visits) (frame_of frame ∷ []) p.depth r.tally.rows buffer₁ plan buffer' → PlannedOn w p frame buffer plan buffer'
-        test_closed plan buffer' b z closed = planned_after (value_out m.value) (with_visits r.tally.visits)
-            (λ before h. rw (← (push_value_after m.value before)) ((m.found z).held (stack.pushed before []) (rw b h)))
-            (λ F R C on. test_step F R C on ∙ then_on_lem (closes F R C) m z)
-            (λ C on. visits_set r.tally.visits C)
-            (λ F R C. applied_visits plan r.tally.visits F R C)
-            closed
+      pub test_closed : {start : Tally} {buffer buffer₁ buffer' : List ℕ} {r : code.ValueBlockResult} {plan : std.Result Plan stopped.Refused} → start.rows ≡ p.rows
+          → Met w block_result (tests p.visits) start 0 buffer (Ok r) buffer₁
+          → Planned (close_step w frame) (Begun r.tally.visits) (frame_of frame ∷ []) p.depth r.tally.rows buffer₁ plan buffer' → PlannedOn w p frame buffer plan buffer'
+      test_closed {r = r} {plan = plan} b m closed = planned_after (value_out m.value) (with_visits r.tally.visits)
+          (λ before h. rw (← (push_value_after m.value before)) (m.found.held (stack.pushed before []) (rw b h)))
+          (λ F R C on. test_step F R C on ∙ then_on_lem (closes F R C) m)
+          (λ C on. visits_set r.tally.visits C)
+          (λ F R C. applied_visits plan r.tally.visits F R C)
+          closed
 
     -- ---- any other
 
@@ -282,7 +284,7 @@ module _ (w : List ℕ) (p : Position) (frame : Frame) where
 
 module _ (w : List ℕ) (p : Position) (frame : Frame) (ch : Choosing w p frame) where
   -- none is left
-  pub choice_closes : {S H : Flags} {buffer buffer' : List ℕ} {plan : Plan} → frame.left ≡ 0 → PlannedClose w p frame buffer plan buffer' → PlannedChoice w S H p frame buffer plan buffer'
+  pub choice_closes : {S H : Flags} {buffer buffer' : List ℕ} {plan : std.Result Plan stopped.Refused} → frame.left ≡ 0 → PlannedClose w p frame buffer plan buffer' → PlannedChoice w S H p frame buffer plan buffer'
   unfolding choose_case
   choice_closes e m = planned_as (λ F R C. ap (λ (n : ℕ). choose_case (table_of w) columns.first columns.fallthrough n (frame_of frame) F R C) e) (λ C o. o.visits) m
     where
@@ -321,19 +323,19 @@ module _ (w : List ℕ) (p : Position) (frame : Frame) (ch : Choosing w p frame)
           ∙ ap (λ (k : Case). chosen (is_scheduled C k.block) k.block (frame.left - 1) F R C) (chooses.is no_case)
           ∙ ap (λ (y : Bool). chosen y block (frame.left - 1) F R C) (seen_scheduled S H p.visits C seen block ∙ e)
 
-      fits : Fitting (frame_of frame ∷ []) p.depth (choosing_next (left_less frame) p.depth p.rows p.visits Nothing)
+      fits : Fitting (frame_of frame ∷ []) p.depth (choosing_next (left_less frame) p.depth p.rows p.visits None)
       fits = record { change = tt; handler = rw no_number tt; scope = rw no_number tt; deep = λ _. ch.closing.depth; next = omega arith; nested = refl }
 
       pub choice_visits : (plan : Plan) (buffer : List ℕ) → has S block || has H block ≡ false
-          → plan ≡ nesting block (left_less frame) p.depth p.rows p.visits 65535 65535 Nothing → PlannedChoice w S H p frame buffer plan buffer
-      choice_visits plan buffer e q = subst (λ (y : Plan). PlannedChoice w S H p frame buffer y buffer) (sym q) (record {
+          → plan ≡ nesting block (left_less frame) p.depth p.rows p.visits 65535 65535 None → PlannedChoice w S H p frame buffer (Ok plan) buffer
+      choice_visits plan buffer e q = subst (λ (y : Plan). PlannedChoice w S H p frame buffer (Ok y) buffer) (sym q) (record {
         out = [];
-        held = λ _ before h. rw (append-nil before) h;
+        held = λ before h. rw (append-nil before) h;
         same =
             λ F R C d seen. rw (out_nil R) (ap turn (case_chosen false F R C seen e) ∙ turn_ok _
-            ∙ sym (nest_applied block (left_less frame) p.depth p.rows p.visits 65535 65535 Nothing (frame_of frame ∷ F) R C _ refl ∙ rw
+            ∙ sym (nest_applied block (left_less frame) p.depth p.rows p.visits 65535 65535 None (frame_of frame ∷ F) R C _ refl ∙ rw
             (no_number, visits_same p.visits C seen.visits, within_rest p.depth (frame_of frame) F d.deep)));
-        fitting = λ _. record { change = tt; handler = rw no_number tt; scope = rw no_number tt; deep = λ _. ch.closing.depth; next = omega arith; nested = tt };
+        fitting = record { change = tt; handler = rw no_number tt; scope = rw no_number tt; deep = λ _. ch.closing.depth; next = omega arith; nested = tt };
       })
 
       abbrev refusal : (same : Bool) → List machine.Frame → Output → definition.Context → Result State
@@ -343,27 +345,27 @@ module _ (w : List ℕ) (p : Position) (frame : Frame) (ch : Choosing w p frame)
           → choose_step w frame F R C ≡ refusal same F R C
       case_busy same F R C seen e z = case_chosen true F R C seen e ∙ ap (λ (y : Bool). refusal y F R C) z
 
-      pub choice_refused : (plan : Plan) (buffer : List ℕ) → has S block || has H block ≡ true → (block ≡ f → ⊥) → plan ≡ refusing p 14 frame.block
+      pub choice_refused : (plan : std.Result Plan stopped.Refused) (buffer : List ℕ) → has S block || has H block ≡ true → (block ≡ f → ⊥) → plan ≡ refusing p (CaseScheduled frame.block)
           → PlannedChoice w S H p frame buffer plan buffer
       unfolding ◌>>=◌ refuse_if
-      choice_refused plan buffer e z q = subst (λ (y : Plan). PlannedChoice w S H p frame buffer y buffer) (sym q) (record {
+      choice_refused plan buffer e z q = subst (λ (y : std.Result Plan stopped.Refused). PlannedChoice w S H p frame buffer y buffer) (sym q) (record {
         out = [];
-        held = λ y. absurd (let o : ◌≡◌ {A = ℕ} 14 0 = y in omega arith);
+        held = tt;
         same = λ F R C d seen. rw (out_nil R) (ap turn (case_busy false F R C seen e (ne_eqb block f z)) ∙ turn_refused 14 frame.block C.visits
-            ∙ ap (λ (v : ℕ). halt (rejected 14 frame.block v)) seen.visits ∙ sym (refuse_applied p 14 frame.block (frame_of frame ∷ F) R C (λ y. omega arith)));
-        fitting = λ y. absurd (let o : ◌≡◌ {A = ℕ} 14 0 = y in omega arith);
+            ∙ ap (λ (v : ℕ). halt (rejected 14 frame.block v)) seen.visits ∙ sym (refuse_applied p (CaseScheduled frame.block) (frame_of frame ∷ F) R C));
+        fitting = tt;
       })
 
-      pub choice_skips : (plan : Plan) (buffer : List ℕ) → has S block || has H block ≡ true → block ≡ f → plan ≡ choosing_next (left_less frame) p.depth p.rows p.visits Nothing
-          → PlannedChoice w S H p frame buffer plan buffer
+      pub choice_skips : (plan : Plan) (buffer : List ℕ) → has S block || has H block ≡ true → block ≡ f → plan ≡ choosing_next (left_less frame) p.depth p.rows p.visits None
+          → PlannedChoice w S H p frame buffer (Ok plan) buffer
       unfolding ◌>>=◌ refuse_if
-      choice_skips plan buffer e z q = subst (λ (y : Plan). PlannedChoice w S H p frame buffer y buffer) (sym q) (record {
+      choice_skips plan buffer e z q = subst (λ (y : Plan). PlannedChoice w S H p frame buffer (Ok y) buffer) (sym q) (record {
         out = [];
-        held = λ _ before h. rw (append-nil before) h;
+        held = λ before h. rw (append-nil before) h;
         same = λ F R C d seen. rw (out_nil R) (ap turn (case_busy true F R C seen e (eq-eqb block f z)) ∙ turn_ok _
-            ∙ sym (choose_applied (left_less frame) p.depth p.rows p.visits Nothing (frame_of frame ∷ F) R C _ refl ∙ rw
+            ∙ sym (choose_applied (left_less frame) p.depth p.rows p.visits None (frame_of frame ∷ F) R C _ refl ∙ rw
             (visits_same p.visits C seen.visits, within_rest p.depth (frame_of frame) F d.deep)));
-        fitting = λ _. fits;
+        fitting = fits;
       })
 
 -- ---- whole turns
@@ -382,7 +384,7 @@ hand_pop (suc depth) frame h = refl
 
 module _ (w : List ℕ) (p : Position) (frame : Frame) where
   -- a plan for the frame in hand is one for the turn
-  pub turn_planned : {around : Around} {On : definition.Context → Type 0} {buffer buffer' : List ℕ} {plan : Plan} {next : List machine.Frame → Output → definition.Context → Result State} (stage : Stage) (top : List machine.Frame)
+  pub turn_planned : {around : Around} {On : definition.Context → Type 0} {buffer buffer' : List ℕ} {plan : std.Result Plan stopped.Refused} {next : List machine.Frame → Output → definition.Context → Result State} (stage : Stage) (top : List machine.Frame)
       → p.stage ≡ stage → in_hand stage p.depth frame ≡ top
       → ((F : List machine.Frame) (R : Output) (C : definition.Context) → Stands (top ++ F) R p.depth p.rows → step around.rule (table_of w) (state_at stage p.block (top ++ F) R p.count C) ≡ turn (next F R C))
       → ((C : definition.Context) → emitting stage p.block C ≡ C)
@@ -391,11 +393,11 @@ module _ (w : List ℕ) (p : Position) (frame : Frame) where
     out = m.out;
     held = m.held;
     same = λ F R C. rw (e, h) (λ l _ o. steps F R C l ∙ m.same F R C l o ∙ ap (λ (D : definition.Context). applied plan (top ++ F) (R ⊕ m.out) D) (sym (still C)));
-    fitting = λ z. rw (e, h) (m.fitting z);
+    fitting = rw (e, h) m.fitting;
   }
 
   -- of a Context of which more is known
-  pub turn_on : {around : Around} {On On' : definition.Context → Type 0} {buffer buffer' : List ℕ} {plan : Plan} → ((C : definition.Context) → On' C → On C)
+  pub turn_on : {around : Around} {On On' : definition.Context → Type 0} {buffer buffer' : List ℕ} {plan : std.Result Plan stopped.Refused} → ((C : definition.Context) → On' C → On C)
       → PlannedTurn w around On p frame buffer plan buffer' → PlannedTurn w around On' p frame buffer plan buffer'
   turn_on on m = record { out = m.out; held = m.held; same = λ F R C l inside o. m.same F R C l inside (on C o); fitting = m.fitting }
 
@@ -406,7 +408,7 @@ module _ (w : List ℕ) (p : Position) (frame : Frame) where
       let at : StageFits w Pop p frame = subst (λ (s : Stage). StageFits w s p frame) e ready.stage in
       record { promise = ready.promise; block = rw (length_blocks w) at at.1.framed.block; depth = at.0; rows = omega (arith, ready.rows); count = at.1.count }
 
-  pub popped : {around : Around} {buffer buffer' : List ℕ} {plan : Plan} → Ready w p frame → p.stage ≡ Pop → PlannedClose w p frame buffer plan buffer' → PlannedTurn w around (Begun p.visits) p frame buffer plan buffer'
+  pub popped : {around : Around} {buffer buffer' : List ℕ} {plan : std.Result Plan stopped.Refused} → Ready w p frame → p.stage ≡ Pop → PlannedClose w p frame buffer plan buffer' → PlannedTurn w around (Begun p.visits) p frame buffer plan buffer'
   unfolding step
   popped ready e m = turn_planned Pop (frame_of frame ∷ []) e (hand_pop p.depth frame (closing_at_pop ready e).depth) (λ F R C l. sym (turn_ok _)) (λ C. refl) m
 
@@ -434,14 +436,14 @@ module _ (w : List ℕ) (p : Position) (frame : Frame) where
 
   -- the root
   pub ended_root : {around : Around} (plan : Plan) (On : definition.Context → Type 0) (buffer buffer' : List ℕ) (rows : ℕ) → p.stage ≡ Ended → p.depth ≡ 0 → ((C : definition.Context) → On C → C.visits ≡ p.visits)
-      → Written buffer p.rows (row 9 p.count 0 0 0 0) buffer' rows → plan ≡ accepting rows p.visits → PlannedTurn w around On p frame buffer plan buffer'
+      → Written buffer p.rows (row 9 p.count 0 0 0 0) buffer' rows → plan ≡ accepting rows p.visits → PlannedTurn w around On p frame buffer (Ok plan) buffer'
   unfolding step
   ended_root {around} plan On buffer buffer' rows e z on put q = rw q (record {
     out = block_row p.count ∷ [];
-    held = λ _ before h. rw (← (push_row_after (block_row p.count) before)) (written_held put (stack.pushed before []) h);
+    held = λ before h. rw (← (push_row_after (block_row p.count) before)) (written_held put (stack.pushed before []) h);
     same = λ F R C. rw (e, z) (λ l _ o. root F R C l.deep o);
     fitting =
-        λ _. rw (e, z) (record {
+        rw (e, z) (record {
           change = tt;
           handler = rw no_number tt;
           scope = rw no_number tt;
@@ -452,12 +454,12 @@ module _ (w : List ℕ) (p : Position) (frame : Frame) where
   })
     where
       root : (F : List machine.Frame) (R : Output) (C : definition.Context) → length F ≡ 0 → On C
-          → step around.rule (table_of w) (ended F R p.count C) ≡ applied (accepting rows p.visits) F (R ⊕ (block_row p.count ∷ [])) C
+          → step around.rule (table_of w) (ended F R p.count C) ≡ applied (Ok (accepting rows p.visits)) F (R ⊕ (block_row p.count ∷ [])) C
       root [] R C l o = ap (λ (v : ℕ). halt (accepted (R.rows ++ (block_row p.count ∷ [])) R.lines v)) (on C o) ∙ sym (accept_applied rows p.visits [] (R ⊕ (block_row p.count ∷ [])) C)
       root (f ∷ F) R C l o = absurd (omega arith)
 
   -- and a nested one
-  pub ended_nested : {around : Around} (plan : Plan) (S H : Flags) (buffer buffer₁ buffer' : List ℕ) (rows : ℕ) → p.stage ≡ Ended → 1 ≤ p.depth → Written buffer p.rows (row 9 p.count 0 0 0 0) buffer₁ rows
+  pub ended_nested : {around : Around} (plan : std.Result Plan stopped.Refused) (S H : Flags) (buffer buffer₁ buffer' : List ℕ) (rows : ℕ) → p.stage ≡ Ended → 1 ≤ p.depth → Written buffer p.rows (row 9 p.count 0 0 0 0) buffer₁ rows
       → Planned (resume_step w p frame) (Seen S H p.visits) (frame_of frame ∷ []) p.depth rows buffer₁ plan buffer' → PlannedTurn w around (Seen S H p.visits) p frame buffer plan buffer'
   unfolding step
   ended_nested plan S H buffer buffer₁ buffer' rows e deep put m =
@@ -509,7 +511,7 @@ module _ (w : List ℕ) (p : Position) (frame : Frame) where
         case = omega (arith, length_cases w, here.2.framed.case here.1);
       }
 
-  pub chosen_turn : {around : Around} {S H : Flags} {buffer buffer' : List ℕ} {plan : Plan} → Ready w p frame → p.stage ≡ Choose
+  pub chosen_turn : {around : Around} {S H : Flags} {buffer buffer' : List ℕ} {plan : std.Result Plan stopped.Refused} → Ready w p frame → p.stage ≡ Choose
       → PlannedChoice w S H p frame buffer plan buffer' → PlannedTurn w around (Seen S H p.visits) p frame buffer plan buffer'
   unfolding step
   chosen_turn ready e m = turn_planned Choose (frame_of frame ∷ []) e (hand_choose p.depth frame (choosing_fits ready e).closing.depth) (λ F R C l. refl) (λ C. refl) m

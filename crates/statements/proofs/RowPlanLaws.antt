@@ -1,4 +1,6 @@
 -- Terminals that put out rows, and scopes.
+use Rattle.std.specs.Prelude.{None, Ok, Err, IfOk}
+use Rattle.std.specs.Prelude as std
 use Prim.Native.Nat.{ℕ, ◌+◌, ◌-◌, ◌<◌}
 use native.Mathlib.Numerals.{add-one}
 use native.Mathlib.Omega.{arith}
@@ -7,7 +9,6 @@ use mathlib.Core.Bool.{Bool, true, false, ◌||◌}
 use mathlib.Core.List.{List, [], ◌∷◌, ◌++◌}
 use mathlib.Core.Option.{Option, none, some}
 use lib.Dec.{eqb}
-use borrow.Author.Tests.{ne_eqb}
 use Rattle.table.specs.declared.columns.Span.{Span}
 use Rattle.table.specs.Promise.{Ends, Heads}
 use Rattle.table.specs.Table.{unless_none, throw, return, scope}
@@ -27,11 +28,12 @@ use Rattle.values.specs.Stack as stack
 use Rattle.values.proofs.RowLaws.{written_held}
 use Rattle.values.proofs.StackLaws.{push_row_after}
 use Rattle.statements.specs.declared.plan.Position.{Position}
-use Rattle.statements.specs.declared.plan.Change.TheVariants.{Nothing}
 use Rattle.statements.specs.declared.plan.Plan.{Plan}
-use Rattle.statements.specs.Plans.{scoped, context_after, lined, applied, onward, open_frame, leaving, entries_if, schedule_if, scheduled_with, enclosing, with_scope}
+use Rattle.statements.specs.declared.refusal.Refusal.TheVariants.{ScopeBlockScheduled}
+use Rattle.statements.specs.declared.refusal.Refused.{Refused}
+use Rattle.statements.specs.Plans.{scoped, applied, open_frame, leaving, entries_if, schedule_if, scheduled_with, enclosing, with_scope}
 use Rattle.statements.specs.Planned.{Stands, Seen, Fitting, Planned, PlannedBare, Entered, terminal_step, SameVisits}
-use Rattle.statements.proofs.PlanLaws.{within_all, visits_same, leave_applied, nest_applied, Label, no_label, free_label, label_taken, label_entries, label_if}
+use Rattle.statements.proofs.PlanLaws.{within_all, visits_same, refuse_applied, leave_applied, nest_applied, Label, no_label, free_label, label_taken, label_entries, label_if}
 use Rattle.statements.proofs.StepLaws.{label_scheduled, into_busy, into_free, turn_refused, turn_ok, busy_with}
 use Rattle.statements.proofs.PlannedLaws.{bare_planned, step_by, Takes}
 use Rattle.statements.proofs.VisitLaws.{named_if}
@@ -61,14 +63,10 @@ unfolding mark_scope_fallthrough_if
 scope_visits none C = refl
 scope_visits (some f) C = unfold pushed mark_scope_fallthrough in refl
 
-refused_applied : (plan : Plan) (F : List machine.Frame) (R : Output) (C : definition.Context) → (plan.code ≡ 0 → ⊥)
-    → applied plan F R C ≡ halt (rejected plan.code plan.at plan.position.visits)
-unfolding applied
-refused_applied plan F R C h =
-    ap (λ (y : Bool). elim y [
-      | true ↦ onward plan.position.stage plan F (lined plan.line plan.position.rows R) (context_after plan C)
-      | false ↦ halt (rejected plan.code plan.at plan.position.visits)
-    ]) (ne_eqb plan.code 0 h)
+-- with the scope of a plan, if it is one
+abbrev pub scoping : std.Result Plan Refused → ℕ → std.Result Plan Refused
+scoping (Ok plan) n = Ok (with_scope plan n)
+scoping (Err e) n = Err e
 
 module _ (w : List ℕ) (S H : Flags) (p : Position) (en : Entered w p) (pruned : Bool) (x f s n : ℕ) (ends : Ends w p.block (scope pruned x f s)) (takes : Takes S H f n) where
   few : (x < 1024) × (f < 1024)
@@ -80,23 +78,23 @@ module _ (w : List ℕ) (S H : Flags) (p : Position) (en : Entered w p) (pruned 
   label_is : (C : definition.Context) → Seen S H p.visits C → unless_scheduled C f ≡ unless_none n
   label_is C seen = label_scheduled w en.promise S H p.visits C seen f few.1 ∙ ap unless_none (sym takes)
 
-  abbrev E : Bool → Plan
-  E b = with_scope (enclosing b p n x 18 p.block) n
+  abbrev E : Bool → std.Result Plan Refused
+  E b = scoping (enclosing b p n x (ScopeBlockScheduled p.block)) n
 
-  rows : (b : Bool) → (E b).code ≡ 0 → (E b).position.rows ≡ p.rows
-  rows true z = refl
-  rows false z = refl
+  rows : (b : Bool) → IfOk (E b) (λ y. y.position.rows ≡ p.rows)
+  rows true = tt
+  rows false = refl
 
-  fits : (b : Bool) → (E b).code ≡ 0 → Fitting [] p.depth (E b)
-  fits true z = absurd (omega (arith, z))
-  fits false z = record { change = named_if n l; handler = rw no_number tt; scope = label_in n l; deep = λ _. omega arith; next = omega arith; nested = tt }
+  fits : (b : Bool) → IfOk (E b) (λ y. Fitting [] p.depth y)
+  fits true = tt
+  fits false = record { change = named_if n l; handler = rw no_number tt; scope = label_in n l; deep = λ _. omega arith; next = omega arith; nested = tt }
 
   scoped_by : (F : List machine.Frame) (R : Output) (C : definition.Context) → Stands F R p.depth p.rows → Seen S H p.visits C → (b : Bool) → eqb x n || (has S x || has H x) ≡ b
       → turn (into x 18 p.block (machine.frame_of p.block (unless_none n) (opens (unless_none n)) R p.count) F R
       (mark_scope_fallthrough_if (unless_none n) (scheduled_if (unless_none n) C))) ≡ applied (E b) F R C
   scoped_by F R C d seen true o =
       ap turn (into_busy x 18 p.block _ F R _ (scope_busy (unless_none n) (unless_none n) C x ∙ busy_with S H p.visits n x C l few.0 seen ∙ o)) ∙ turn_refused 18 p.block _
-      ∙ ap (λ (v : ℕ). halt (rejected 18 p.block v)) (scope_visits (unless_none n) C ∙ seen.visits) ∙ sym (refused_applied (E true) F R C (λ z. omega arith))
+      ∙ ap (λ (v : ℕ). halt (rejected 18 p.block v)) (scope_visits (unless_none n) C ∙ seen.visits) ∙ sym (refuse_applied p (ScopeBlockScheduled p.block) F R C)
   scoped_by F R C d seen false o =
       ap turn (into_free x 18 p.block _ F R _ (scope_busy (unless_none n) (unless_none n) C x ∙ busy_with S H p.visits n x C l few.0 seen ∙ o)) ∙ turn_ok _
       ∙ sym (nest_applied x (open_frame p n (entries_if (eqb n 65535))) (p.depth + 1) p.rows p.visits 65535 n (schedule_if (eqb n 65535) n) F R C
@@ -107,17 +105,17 @@ module _ (w : List ℕ) (S H : Flags) (p : Position) (en : Entered w p) (pruned 
   abbrev busy_now : Bool
   busy_now = eqb x n || (has S x || has H x)
 
-  scope_enclosed : (plan : Plan) {busy : Bool} {inner : Plan} → busy ≡ has S x || has H x → inner ≡ enclosing (scheduled_with busy n x) p n x 18 p.block
-      → plan ≡ with_scope inner n → PlannedBare w S H p plan
+  scope_enclosed : (plan : std.Result Plan Refused) {busy : Bool} {inner : std.Result Plan Refused} → busy ≡ has S x || has H x → inner ≡ enclosing (scheduled_with busy n x) p n x (ScopeBlockScheduled p.block)
+      → plan ≡ scoping inner n → PlannedBare w S H p plan
   unfolding terminal_turn
   scope_enclosed plan b i e = rw (e, i, b) (bare_planned w S H p (E busy_now) (rows busy_now) (λ F R C d seen. ap turn (step_by w p _ F R C ends.is)
       ∙ ap (λ (g : Option ℕ). turn (into x 18 p.block (machine.frame_of p.block g (opens g) R p.count) F R (mark_scope_fallthrough_if g (scheduled_if g C)))) (label_is C seen)
       ∙ scoped_by F R C d seen busy_now refl) (fits busy_now))
 
 -- what the code of a scope returns
-module _ {w : List ℕ} {S H : Flags} {p : Position} {plan : Plan} (en : Entered w p) {pruned : Bool} {x f s : ℕ} (ends : Ends w p.block (scope pruned x f s)) where
-  pub scope_nested : {n : ℕ} {busy : Bool} {inner : Plan} → Takes S H f n → busy ≡ has S x || has H x
-      → inner ≡ enclosing (scheduled_with busy n x) p n x 18 p.block → plan ≡ with_scope inner n → PlannedBare w S H p plan
+module _ {w : List ℕ} {S H : Flags} {p : Position} {plan : std.Result Plan Refused} (en : Entered w p) {pruned : Bool} {x f s : ℕ} (ends : Ends w p.block (scope pruned x f s)) where
+  pub scope_nested : {n : ℕ} {busy : Bool} {inner : std.Result Plan Refused} → Takes S H f n → busy ≡ has S x || has H x
+      → inner ≡ enclosing (scheduled_with busy n x) p n x (ScopeBlockScheduled p.block) → plan ≡ scoping inner n → PlannedBare w S H p plan
   scope_nested {n} takes b i e = scope_enclosed w S H p en pruned x f s n ends takes plan b i e
 
 -- ---- Throw and Return
@@ -126,30 +124,30 @@ module _ {w : List ℕ} {S H : Flags} {p : Position} {plan : Plan} (en : Entered
 pub left_planned : (w : List ℕ) (p : Position) (out : List Row) (b b' : List ℕ) (rows' count' : ℕ) (plan : Plan)
     → ((before : List Row) → Holds b p.rows (stack.pushed before []) → Holds b' rows' (stack.pushed (before ++ out) []))
     → ((F : List machine.Frame) (R : Output) (C : definition.Context) → Stands F R p.depth p.rows → C.visits ≡ p.visits → terminal_step w p F R C ≡ ok (ended F (R ⊕ out) count' C))
-    → plan ≡ leaving 65535 p.depth count' rows' p.visits Nothing
-    → Planned (terminal_step w p) (λ C. C.visits ≡ p.visits) [] p.depth p.rows b plan b'
-left_planned w p out b b' rows' count' plan held same e = subst (λ (z : Plan). Planned (terminal_step w p) (λ C. C.visits ≡ p.visits) [] p.depth p.rows b z b') (sym e) (record {
+    → plan ≡ leaving 65535 p.depth count' rows' p.visits None
+    → Planned (terminal_step w p) (λ C. C.visits ≡ p.visits) [] p.depth p.rows b (Ok plan) b'
+left_planned w p out b b' rows' count' plan held same e = subst (λ (z : Plan). Planned (terminal_step w p) (λ C. C.visits ≡ p.visits) [] p.depth p.rows b (Ok z) b') (sym e) (record {
   out = out;
-  held = λ _ before h. held before h;
+  held = λ before h. held before h;
   same =
       λ F R C d v. ap turn (same F R C d v) ∙ turn_ok _ ∙ sym
-      (leave_applied 65535 p.depth count' rows' p.visits Nothing F (R ⊕ out) C _ refl ∙ rw
+      (leave_applied 65535 p.depth count' rows' p.visits None F (R ⊕ out) C _ refl ∙ rw
       (no_number, visits_same p.visits C v, within_all p.depth F d.deep));
-  fitting = λ _. record { change = tt; handler = rw no_number tt; scope = rw no_number tt; deep = λ z. absurd (let o : ◌≡◌ {A = ℕ} 0 1 = cc in omega arith); next = omega arith; nested = tt };
+  fitting = record { change = tt; handler = rw no_number tt; scope = rw no_number tt; deep = λ z. absurd (let o : ◌≡◌ {A = ℕ} 0 1 = cc in omega arith); next = omega arith; nested = tt };
 })
 
 pub row_held : (b b' : List ℕ) (n n' : ℕ) (r : Row) → Written b n r b' n' → (before : List Row) → Holds b n (stack.pushed before []) → Holds b' n' (stack.pushed (before ++ (r ∷ [])) [])
 row_held b b' n n' r h before k = rw (push_row_after) at (written_held h (stack.pushed before []) k)
 
 module _ {w : List ℕ} {p : Position} {plan : Plan} {b b' : List ℕ} {rows' v first count id : ℕ} {span : Span} (en : Entered w p) (heads : Heads w p.block first count id span) where
-  pub return_left : Ends w p.block (return v) → Written b p.rows (row 22 v id 0 0 0) b' rows' → plan ≡ leaving 65535 p.depth (p.count + 1) rows' p.visits Nothing
-      → Planned (terminal_step w p) (SameVisits p) [] p.depth p.rows b plan b'
+  pub return_left : Ends w p.block (return v) → Written b p.rows (row 22 v id 0 0 0) b' rows' → plan ≡ leaving 65535 p.depth (p.count + 1) rows' p.visits None
+      → Planned (terminal_step w p) (SameVisits p) [] p.depth p.rows b (Ok plan) b'
   unfolding terminal_turn
   return_left ends h e = left_planned w p (row 22 v id 0 0 0 ∷ []) b b' rows' (p.count + 1) plan (row_held b b' p.rows rows' _ h)
       (λ F R C d s. step_by w p _ F R C ends.is ∙ rw (heads.is_id, add-one)) e
 
-  pub throw_left : Ends w p.block (throw v) → Written b p.rows (row 23 v id 0 0 0) b' rows' → plan ≡ leaving 65535 p.depth (p.count + 1) rows' p.visits Nothing
-      → Planned (terminal_step w p) (SameVisits p) [] p.depth p.rows b plan b'
+  pub throw_left : Ends w p.block (throw v) → Written b p.rows (row 23 v id 0 0 0) b' rows' → plan ≡ leaving 65535 p.depth (p.count + 1) rows' p.visits None
+      → Planned (terminal_step w p) (SameVisits p) [] p.depth p.rows b (Ok plan) b'
   unfolding terminal_turn
   throw_left ends h e = left_planned w p (row 23 v id 0 0 0 ∷ []) b b' rows' (p.count + 1) plan (row_held b b' p.rows rows' _ h)
       (λ F R C d s. step_by w p _ F R C ends.is ∙ rw (heads.is_id, add-one)) e

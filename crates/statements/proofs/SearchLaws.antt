@@ -1,4 +1,6 @@
 -- What a block's jump looks for, and the search of the stack for it, an entry at a time.
+use Rattle.std.specs.Prelude.{None, Some}
+use Rattle.std.specs.Prelude as std
 use Prim.Native.Nat.{ℕ, ◌+◌, ◌-◌, ◌<◌, ◌≤◌}
 use native.Mathlib.Omega.{arith}
 use mathlib.Core.Path.{◌≡◌, refl, sym, ap, ◌∙◌, subst}
@@ -10,8 +12,8 @@ use borrow.Author.Tests.{eq-eqb, ne_eqb, eqb-true, eqb-false}
 use Rattle.table.specs.Words.{block_count, code_at}
 use Rattle.table.specs.Promise.{Promise, Ends}
 use Rattle.table.specs.Table.{Terminal, absent, unreachable, throw, return, goto, if, branch, switch, do_while, while, for, for_of, for_in, logical, ternary}
-use Rattle.table.specs.Table.{optional, label, sequence, maybe_throw, try, scope, code_of, table_of, terminal_at, variant_of}
-use Rattle.table.proofs.BlockLaws.{code_at_lem, try_variant}
+use Rattle.table.specs.Table.{optional, label, sequence, maybe_throw, try, scope, code_of, table_of, terminal_at, Break, Continue, Try}
+use Rattle.table.proofs.BlockLaws.{code_at_lem}
 use Rattle.definition.specs.Context.{Flags, has, is_scheduled, loops_of, break_target_from, continue_target_from, get_break_target, get_continue_target}
 use Rattle.definition.specs.Context as definition
 use Rattle.definition.specs.Around.{Around}
@@ -20,7 +22,6 @@ use Rattle.control.specs.declared.Context.{Context}
 use Rattle.control.specs.Abstraction.{stack_of, context_of}
 use Rattle.control.proofs.SearchLaws.{last_target, break_none, break_found, break_missed, continue_none, continue_found, continue_missed}
 use Rattle.statements.specs.declared.search.Jump.{Jump}
-use Rattle.statements.specs.declared.search.Jump.TheVariants.{Nothing}
 use Rattle.statements.specs.declared.search.Jump.TheVariants as jump
 use Rattle.statements.specs.Turn.{Resolves}
 use Rattle.statements.specs.Search.{found_by, searched_from, is_met, resolved_at, Searches}
@@ -50,40 +51,37 @@ quiet (try body handler fallthrough binding) around cx aim f g = tt
 quiet (scope pruned body fallthrough number) around cx aim f g = tt
 
 module _ (w : List ℕ) (S H : Flags) (b : ℕ) where
-  pub no_jump : Promise w → b < block_count w → (code_at w b ≡ 4 → ⊥) → (code_at w b ≡ 6 → ⊥) → Searches w S H b Nothing
+  pub no_jump : Promise w → b < block_count w → (code_at w b ≡ 4 → ⊥) → (code_at w b ≡ 6 → ⊥) → Searches w S H b None
   no_jump pr below f g =
       record { resolves = λ around cx s h. quiet (terminal_at (table_of w) b) around cx none (λ e. f (sym (code_at_lem w b pr below) ∙ e)) (λ e. g (sym (code_at_lem w b pr below) ∙ e)) }
 
   -- ---- Goto
 
-  module _ {target variant : ℕ} (ends : Ends w b (goto target (variant_of variant))) where
-    pub goto_breaks : (n : ℕ) → n ≡ target → variant ≡ 0 → Searches w S H b (jump.Break n)
-    unfolding variant_of
-    goto_breaks n s e = record {
-      resolves = λ around cx _ _. subst (λ (z : Terminal). Resolves z around cx (goals (break_goal around) (get_break_target cx n))) (sym (ends.is ∙ ap (λ (v : ℕ). goto target (variant_of v)) e))
-          (ap (λ (k : ℕ). goals (break_goal around) (get_break_target cx k)) s);
-    }
+  pub goto_breaks : {target : ℕ} (n : ℕ) → n ≡ target → Ends w b (goto target Break) → Searches w S H b (Some (jump.Break n))
+  goto_breaks n s ends = record {
+    resolves = λ around cx _ _. subst (λ (z : Terminal). Resolves z around cx (goals (break_goal around) (get_break_target cx n))) (sym ends.is)
+        (ap (λ (k : ℕ). goals (break_goal around) (get_break_target cx k)) s);
+  }
 
-    pub goto_continues : (n : ℕ) → n ≡ target → variant ≡ 1 → Searches w S H b (jump.Continue n)
-    unfolding variant_of
-    goto_continues n s e = record {
-      resolves = λ around cx _ _. subst (λ (z : Terminal). Resolves z around cx (goals (continue_goal around) (get_continue_target cx n)))
-          (sym (ends.is ∙ ap (λ (v : ℕ). goto target (variant_of v)) e)) (ap (λ (k : ℕ). goals (continue_goal around) (get_continue_target cx k)) s);
-    }
+  pub goto_continues : {target : ℕ} (n : ℕ) → n ≡ target → Ends w b (goto target Continue) → Searches w S H b (Some (jump.Continue n))
+  goto_continues n s ends = record {
+    resolves = λ around cx _ _. subst (λ (z : Terminal). Resolves z around cx (goals (continue_goal around) (get_continue_target cx n))) (sym ends.is)
+        (ap (λ (k : ℕ). goals (continue_goal around) (get_continue_target cx k)) s);
+  }
 
-    pub goto_tries : (variant ≡ 0 → ⊥) → (variant ≡ 1 → ⊥) → Searches w S H b Nothing
-    goto_tries f g = record { resolves = λ around cx _ _. subst (λ (z : Terminal). Resolves z around cx none) (sym (ends.is ∙ ap (goto target) (try_variant variant f g))) tt }
+  pub goto_tries : {target : ℕ} → Ends w b (goto target Try) → Searches w S H b None
+  goto_tries ends = record { resolves = λ around cx _ _. subst (λ (z : Terminal). Resolves z around cx none) (sym ends.is) tt }
 
   -- ---- Branch
 
   module _ {test consequent alternate : ℕ} (ends : Ends w b (branch test consequent alternate)) where
-    pub branch_breaks : (n : ℕ) → n ≡ consequent → Searches w S H b (jump.Break n)
+    pub branch_breaks : (n : ℕ) → n ≡ consequent → Searches w S H b (Some (jump.Break n))
     branch_breaks n s = record {
       resolves = λ around cx _ _. subst (λ (z : Terminal). Resolves z around cx (goals (break_goal around) (get_break_target cx n))) (sym ends.is)
           (λ _. ap (λ (k : ℕ). goals (break_goal around) (get_break_target cx k)) s);
     }
 
-    pub branch_goes : has S consequent || has H consequent ≡ false → Searches w S H b Nothing
+    pub branch_goes : has S consequent || has H consequent ≡ false → Searches w S H b None
     unfolding is_scheduled
     branch_goes e = record { resolves = λ around cx s h. subst (λ (z : Terminal). Resolves z around cx none) (sym ends.is) (λ q. absurd (differ (sym q ∙ rw (s, h) e))) }
       where
@@ -92,43 +90,43 @@ module _ (w : List ℕ) (S H : Flags) (b : ℕ) where
 
 -- ---- the search
 
-abbrev found_among : Jump → List definition.Entry → (top : Bool) → (loops_above : ℕ) → Option definition.Resolution
-found_among Nothing entries top loops_above = none
-found_among (jump.Break block) entries top loops_above = break_target_from entries block top loops_above
-found_among (jump.Continue block) entries top loops_above = continue_target_from entries block top loops_above
+abbrev found_among : std.Option Jump → List definition.Entry → (top : Bool) → (loops_above : ℕ) → Option definition.Resolution
+found_among None entries top loops_above = none
+found_among (Some (jump.Break block)) entries top loops_above = break_target_from entries block top loops_above
+found_among (Some (jump.Continue block)) entries top loops_above = continue_target_from entries block top loops_above
 
 -- the first so many entries give what all give; the innermost is the last of all
-pub record Searching (sought : Jump) (cx : Context) (at : ℕ) (loops_above : ℕ) : Type 0 where
+pub record Searching (sought : std.Option Jump) (cx : Context) (at : ℕ) (loops_above : ℕ) : Type 0 where
   pub within : loops_above + at ≤ cx.len
   pub rest : found_among sought (stack_of cx.stack cx.len) true 0 ≡ found_among sought (stack_of cx.stack at) (eqb at cx.len) loops_above
 
-pub search_start : (sought : Jump) (cx : Context) (n : ℕ) → n ≡ searched_from sought cx.len → Searching sought cx n 0
-search_start Nothing cx n e = record { within = omega (arith, e); rest = refl }
-search_start (jump.Break b) cx n e = record { within = omega (arith, e); rest = rw (eq-eqb n cx.len e, e) refl }
-search_start (jump.Continue b) cx n e = record { within = omega (arith, e); rest = rw (eq-eqb n cx.len e, e) refl }
+pub search_start : (sought : std.Option Jump) (cx : Context) (n : ℕ) → n ≡ searched_from sought cx.len → Searching sought cx n 0
+search_start None cx n e = record { within = omega (arith, e); rest = refl }
+search_start (Some (jump.Break b)) cx n e = record { within = omega (arith, e); rest = rw (eq-eqb n cx.len e, e) refl }
+search_start (Some (jump.Continue b)) cx n e = record { within = omega (arith, e); rest = rw (eq-eqb n cx.len e, e) refl }
 
 module _ (cx : Context) (at : ℕ) (above : ℕ) where
-  below_top : (sought : Jump) → Searching sought cx at above → (at ≡ 0 → ⊥) → eqb (at - 1) cx.len ≡ false
+  below_top : (sought : std.Option Jump) → Searching sought cx at above → (at ≡ 0 → ⊥) → eqb (at - 1) cx.len ≡ false
   below_top sought h f = ne_eqb (at - 1) cx.len (λ (q : at - 1 ≡ cx.len). omega (arith, h.within, f, q))
 
   -- one entry further down, with the loops counted
-  pub search_on : {counted : ℕ} (sought : Jump) → Searching sought cx at above → (at ≡ 0 → ⊥) → is_met sought (last_target cx.stack at) ≡ false
+  pub search_on : {counted : ℕ} (sought : std.Option Jump) → Searching sought cx at above → (at ≡ 0 → ⊥) → is_met sought (last_target cx.stack at) ≡ false
       → (counted ≡ loops_of (last_target cx.stack at) + above) × (counted ≤ above + 1) → Searching sought cx (at - 1) counted
-  search_on Nothing h f m (e, one) = record { within = omega (arith, h.within, one); rest = refl }
-  search_on (jump.Break b) h f m (e, one) =
+  search_on None h f m (e, one) = record { within = omega (arith, h.within, one); rest = refl }
+  search_on (Some (jump.Break b)) h f m (e, one) =
       record { within = omega (arith, h.within, one); rest = h.rest ∙ rw (e, below_top _ h f) (break_missed _ _ _ _ _ f (eqb-false _ _ m)) }
-  search_on (jump.Continue b) h f m (e, one) =
+  search_on (Some (jump.Continue b)) h f m (e, one) =
       record { within = omega (arith, h.within, one); rest = h.rest ∙ rw (e, below_top _ h f) (continue_missed _ _ _ _ _ f m) }
 
-  pub search_none : (sought : Jump) → Searching sought cx at above → at ≡ 0 → (visits : ℕ) → none ≡ found_by sought (context_of visits cx)
+  pub search_none : (sought : std.Option Jump) → Searching sought cx at above → at ≡ 0 → (visits : ℕ) → none ≡ found_by sought (context_of visits cx)
   unfolding get_break_target get_continue_target context_of
-  search_none Nothing h e visits = refl
-  search_none (jump.Break b) h e visits = sym (h.rest ∙ break_none _ _ _ _ _ e)
-  search_none (jump.Continue b) h e visits = sym (h.rest ∙ continue_none _ _ _ _ _ e)
+  search_none None h e visits = refl
+  search_none (Some (jump.Break b)) h e visits = sym (h.rest ∙ break_none _ _ _ _ _ e)
+  search_none (Some (jump.Continue b)) h e visits = sym (h.rest ∙ continue_none _ _ _ _ _ e)
 
-  pub search_found : (sought : Jump) → Searching sought cx at above → (at ≡ 0 → ⊥) → is_met sought (last_target cx.stack at) ≡ true → (visits : ℕ)
+  pub search_found : (sought : std.Option Jump) → Searching sought cx at above → (at ≡ 0 → ⊥) → is_met sought (last_target cx.stack at) ≡ true → (visits : ℕ)
       → resolved_at sought (last_target cx.stack at) (eqb at cx.len) above ≡ found_by sought (context_of visits cx)
   unfolding get_break_target get_continue_target context_of
-  search_found Nothing h f m visits = refl
-  search_found (jump.Break b) h f m visits = sym (h.rest ∙ break_found _ _ _ _ _ f (eqb-true _ _ m))
-  search_found (jump.Continue b) h f m visits = sym (h.rest ∙ continue_found _ _ _ _ _ f m)
+  search_found None h f m visits = refl
+  search_found (Some (jump.Break b)) h f m visits = sym (h.rest ∙ break_found _ _ _ _ _ f (eqb-true _ _ m))
+  search_found (Some (jump.Continue b)) h f m visits = sym (h.rest ∙ continue_found _ _ _ _ _ f m)

@@ -23,6 +23,8 @@ use Rattle.machine.specs.Machine as machine
 use Rattle.definition.specs.Result.{Result, ok, refused, ◌>>=◌, refuse_if}
 use Rattle.definition.specs.Statement.{unless_scheduled, unless_unreachable}
 use Rattle.statements.specs.declared.plan.Position.{Position}
+use Rattle.statements.specs.declared.refusal.Refusal.{Refusal}
+use Rattle.statements.specs.Refusal.{refusal_code, refusal_place}
 use Rattle.statements.specs.Plans.{unless_refused, applied, open_frame, unless_taken, entries_if, schedule_if, scheduled_with, enclosing}
 use Rattle.statements.specs.Planned.{Seen, Stands}
 use Rattle.statements.proofs.PlanLaws.{within_all, visits_same, refuse_applied, nest_applied, Label, no_label, free_label, label_entries, label_if}
@@ -105,11 +107,11 @@ busy_with S H v n block C (free_label h _) k seen =
     wide h = rw seen.scheduled (omega (arith, seen.wide))
 
 -- what `enclose` plans is what the machine does
-pub enclose_same : (S H : Flags) (p : Position) (n block code at : ℕ) (F : List machine.Frame) (R : Output) (C : definition.Context)
-    → Label S n → block < 1024 → (code ≡ 0 → ⊥) → Seen S H p.visits C → Stands F R p.depth p.rows
-    → turn (into block code at (machine.frame_of p.block (unless_none n) (opens (unless_none n)) R p.count) F R (scheduled_if (unless_none n) C))
-    ≡ applied (enclosing (scheduled_with (has S block || has H block) n block) p n block code at) F R C
-enclose_same S H p n block code at F R C l k nz seen d = by (eqb block n || (has S block || has H block)) refl
+pub enclose_same : (S H : Flags) (p : Position) (n block : ℕ) (r : Refusal) (F : List machine.Frame) (R : Output) (C : definition.Context)
+    → Label S n → block < 1024 → Seen S H p.visits C → Stands F R p.depth p.rows
+    → turn (into block (refusal_code r) (refusal_place r) (machine.frame_of p.block (unless_none n) (opens (unless_none n)) R p.count) F R (scheduled_if (unless_none n) C))
+    ≡ applied (enclosing (scheduled_with (has S block || has H block) n block) p n block r) F R C
+enclose_same S H p n block r F R C l k seen d = by (eqb block n || (has S block || has H block)) refl
   where
     fr : machine.Frame
     fr = machine.frame_of p.block (unless_none n) (opens (unless_none n)) R p.count
@@ -124,12 +126,12 @@ enclose_same S H p n block code at F R C l k nz seen d = by (eqb block n || (has
     visits none = seen.visits
     visits (some f) = unfold pushed in seen.visits
 
-    by : (y : Bool) → eqb block n || (has S block || has H block) ≡ y → turn (into block code at fr F R D) ≡ applied (enclosing y p n block code at) F R C
+    by : (y : Bool) → eqb block n || (has S block || has H block) ≡ y → turn (into block (refusal_code r) (refusal_place r) fr F R D) ≡ applied (enclosing y p n block r) F R C
     by true e =
-        ap turn (into_busy block code at fr F R D (busy ∙ e) ∙ ap (λ (v : ℕ). refused code at v) (visits (unless_none n))) ∙ turn_refused code at p.visits ∙
-        sym (refuse_applied p code at F R C nz)
+        ap turn (into_busy block (refusal_code r) (refusal_place r) fr F R D (busy ∙ e) ∙ ap (λ (v : ℕ). refused (refusal_code r) (refusal_place r) v) (visits (unless_none n)))
+        ∙ turn_refused (refusal_code r) (refusal_place r) p.visits ∙ sym (refuse_applied p r F R C)
     by false e =
-        ap turn (into_free block code at fr F R D (busy ∙ e)) ∙ turn_ok _
+        ap turn (into_free block (refusal_code r) (refusal_place r) fr F R D (busy ∙ e)) ∙ turn_ok _
         ∙ sym (nest_applied block (open_frame p n (entries_if (eqb n 65535))) (p.depth + 1) p.rows p.visits 65535 65535 (schedule_if (eqb n 65535) n) F R C D
         (rw (no_number, visits_same p.visits C seen.visits) (label_if l C seen.scheduled))
         ∙ rw (label_entries n, d.many, within_all (p.depth + 1 - 1) F (omega (arith, d.deep))))

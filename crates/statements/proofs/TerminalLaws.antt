@@ -1,4 +1,6 @@
 -- The visit of a block: what comes before its terminal, and what the terminal's arms see.
+use Rattle.std.specs.Prelude.{IfOk}
+use Rattle.std.specs.Prelude as std
 use Prim.Native.Nat.{ℕ, zero, suc, ◌+◌, ◌-◌, ◌≤◌, ◌<◌}
 use native.Mathlib.Omega.{arith}
 use mathlib.Core.Path.{◌≡◌, refl, sym, ap, ◌∙◌, subst}
@@ -29,7 +31,7 @@ use Rattle.definition.specs.Statement.{enter_block}
 use Rattle.definition.specs.Tree.{Row}
 use Rattle.definition.proofs.Steps.{true_false}
 use Rattle.definition.specs.Value.{begin_visit, visit_value_block}
-use Rattle.control.specs.declared.around.Aim.{Aim}
+use Rattle.control.specs.declared.around.Goal as code
 use Rattle.control.specs.AroundAbstraction.{aim_of}
 use Rattle.values.specs.Rows.{Holds}
 use Rattle.values.specs.Stack.{pushed, push_instruction_rows}
@@ -40,19 +42,23 @@ use Rattle.statements.specs.declared.plan.Stage.TheVariants.{Visit, Halt}
 use Rattle.statements.specs.declared.plan.Position.{Position}
 use Rattle.statements.specs.declared.plan.Frame.{Frame}
 use Rattle.statements.specs.declared.plan.Plan.{Plan}
+use Rattle.statements.specs.declared.refusal.Refusal.{Refusal}
+use Rattle.statements.specs.declared.refusal.Refused.{Refused}
+use Rattle.statements.specs.declared.refusal.Refusal.TheVariants.{MissingBlock, AlreadyEmitted, TooDeep, TooManyVisits}
+use Rattle.statements.specs.Refusal.{refusal_code, refusal_place}
 use Rattle.statements.specs.Plans.{state_at, applied, refusing}
 use Rattle.statements.specs.Planned.{Stands, Seen, Fitting, Planned, Entered, terminal_step_in, terminal_step}
 use Rattle.statements.specs.Loops.{value_code}
 use Rattle.statements.specs.Jumps.{JumpSeen, GotoSeen, BranchSeen}
 use Rattle.statements.specs.Turn.{Resolves, Shown, AtTerminal, Visits, in_hand, StageFits, Ready, emitting, PlannedTurn}
-use Rattle.statements.proofs.PlanLaws.{refuse_applied}
+use Rattle.statements.proofs.PlanLaws.{ok_to, refuse_applied}
 use Rattle.statements.proofs.StepLaws.{turn_refused}
 use Rattle.statements.proofs.CountLaws.{counted_on}
 use Rattle.statements.proofs.PlannedLaws.{stands_after, planned_as, around_unread, applied_visits}
 
 -- ---- what the arms that jump see
 
-module _ {w : List ℕ} {S H Z : Flags} {p : Position} {aim : Aim} {around : Around} {C : definition.Context} (A : AtTerminal w S H Z p aim around C) where
+module _ {w : List ℕ} {S H Z : Flags} {p : Position} {aim : std.Option code.Goal} {around : Around} {C : definition.Context} (A : AtTerminal w S H Z p aim around C) where
   jump_seen : JumpSeen Z p.visits C
   jump_seen = record { scope_fallthroughs = A.scopes; visits = A.seen.visits }
 
@@ -63,7 +69,7 @@ module _ {w : List ℕ} {S H Z : Flags} {p : Position} {aim : Aim} {around : Aro
   branch_seen = record { seen = jump_seen; sets = A.seen; jump = A.jump }
 
 -- a terminal that is no jump, by its code, with anything around
-pub elsewhere : (around : Around) {w : List ℕ} {p : Position} {On On' : definition.Context → Type 0} {buffer buffer' : List ℕ} {plan : Plan} {read n : ℕ} → Entered w p
+pub elsewhere : (around : Around) {w : List ℕ} {p : Position} {On On' : definition.Context → Type 0} {buffer buffer' : List ℕ} {plan : std.Result Plan Refused} {read n : ℕ} → Entered w p
     → read ≡ code_at w p.block → read ≡ n → eqb n 4 || eqb n 6 ≡ false → ((C : definition.Context) → On' C → On C)
     → Planned (terminal_step w p) On [] p.depth p.rows buffer plan buffer' → Planned (terminal_step_in around w p) On' [] p.depth p.rows buffer plan buffer'
 elsewhere around {w} {p} {n = n} en q k other on m =
@@ -149,10 +155,10 @@ unfolding emit with_visits
 emit_visits b v C = refl
 
 -- the visits are set once more where a plan is applied
-entered_applied : (plan : Plan) (b v : ℕ) (F : List machine.Frame) (R : Output) (C : definition.Context) → applied plan F R (emit b (with_visits v C)) ≡ applied plan F R (emit b C)
+entered_applied : (plan : std.Result Plan Refused) (b v : ℕ) (F : List machine.Frame) (R : Output) (C : definition.Context) → applied plan F R (emit b (with_visits v C)) ≡ applied plan F R (emit b C)
 entered_applied plan b v F R C = ap (applied plan F R) (emit_visits b v C) ∙ applied_visits plan v F R (emit b C)
 
-module _ (w : List ℕ) (E S H Z : Flags) (p : Position) (aim : Aim) (around : Around) (here : Visits w p) (frame : Frame) where
+module _ (w : List ℕ) (E S H Z : Flags) (p : Position) (aim : std.Option code.Goal) (around : Around) (here : Visits w p) (frame : Frame) where
   abbrev On : definition.Context → Type 0
   On = Shown w E S H Z p aim around
 
@@ -167,11 +173,11 @@ module _ (w : List ℕ) (E S H Z : Flags) (p : Position) (aim : Aim) (around : A
     jump = rw e (resolves_entered (terminal_at (table_of w) b) b (suc C.visits) around C (aim_of aim) (o.jump here.stage));
   }
 
-  planned : {buffer buffer' : List ℕ} (plan : Plan) (out : List Row)
-      → (plan.code ≡ 0 → (before : List Row) → Holds buffer p.rows (pushed before []) → Holds buffer' plan.position.rows (pushed (before ++ out) []))
+  planned : {buffer buffer' : List ℕ} (plan : std.Result Plan Refused) (out : List Row)
+      → IfOk plan (λ x. (before : List Row) → Holds buffer p.rows (pushed before []) → Holds buffer' x.position.rows (pushed (before ++ out) []))
       → ((F : List machine.Frame) (R : Output) (C : definition.Context) → Stands F R p.depth p.rows → enclosings (table_of w) F ≡ around.statements → On C
       → turn (visit_turn around.rule (table_of w) b F R p.count C) ≡ applied plan F (R ⊕ out) (emit b C))
-      → (plan.code ≡ 0 → Fitting [] p.depth plan) → PlannedTurn w around On p frame buffer plan buffer'
+      → IfOk plan (λ x. Fitting [] p.depth x) → PlannedTurn w around On p frame buffer plan buffer'
   unfolding step
   planned plan out held same fit = record {
     out = out;
@@ -180,17 +186,17 @@ module _ (w : List ℕ) (E S H Z : Flags) (p : Position) (aim : Aim) (around : A
         λ F R C. subst (λ (s : Stage). Stands (in_hand s p.depth frame ++ F) R p.depth p.rows → enclosings (table_of w) (in_hand s p.depth frame ++ F) ≡ around.statements → On C → step around.rule (table_of w)
         (state_at s b (in_hand s p.depth frame ++ F) R p.count C) ≡ applied plan (in_hand s p.depth frame ++ F) (R ⊕ out) (emitting s b C))
         (sym here.stage) (λ l n o. same F R C l n o);
-    fitting = λ z. subst (λ (s : Stage). Fitting (in_hand s p.depth frame) p.depth plan) (sym here.stage) (fit z);
+    fitting = ok_to plan (λ x f. subst (λ (s : Stage). Fitting (in_hand s p.depth frame) p.depth x) (sym here.stage) f) fit;
   }
 
-  refused_turn : (buffer : List ℕ) (q : Position) (code at : ℕ) (plan : Plan) → (code ≡ 0 → ⊥) → plan ≡ refusing q code at
+  refused_turn : (buffer : List ℕ) (q : Position) (r : Refusal) (plan : std.Result Plan Refused) → plan ≡ refusing q r
       → ((F : List machine.Frame) (R : Output) (C : definition.Context) → Stands F R p.depth p.rows → On C
-      → visit_turn around.rule (table_of w) b F R p.count C ≡ refused code at q.visits) → PlannedTurn w around On p frame buffer plan buffer
-  refused_turn buffer q code at plan nz e same = subst (λ (z : Plan). PlannedTurn w around On p frame buffer z buffer) (sym e) (planned (refusing q code at) [] (λ z. absurd (nz z))
-      (λ F R C l _ o. ap turn (same F R C l o) ∙ turn_refused code at q.visits ∙ sym (refuse_applied q code at F (R ⊕ []) (emit b C) nz)) (λ z. absurd (nz z)))
+      → visit_turn around.rule (table_of w) b F R p.count C ≡ refused (refusal_code r) (refusal_place r) q.visits) → PlannedTurn w around On p frame buffer plan buffer
+  refused_turn buffer q r plan e same = subst (λ (z : std.Result Plan Refused). PlannedTurn w around On p frame buffer z buffer) (sym e) (planned (refusing q r) [] tt
+      (λ F R C l _ o. ap turn (same F R C l o) ∙ turn_refused (refusal_code r) (refusal_place r) q.visits ∙ sym (refuse_applied q r F (R ⊕ []) (emit b C))) tt)
 
-  pub deep_planned : (buffer : List ℕ) (plan : Plan) → 128 ≤ p.depth → plan ≡ refusing p 30 b → PlannedTurn w around On p frame buffer plan buffer
-  deep_planned buffer plan h e = refused_turn buffer p 30 b plan (λ z. omega arith) e (λ F R C l o. too_deep around.rule (table_of w) b F R p.count C (omega (arith, l.deep)) ∙ ap (refused 30 b) o.visits)
+  pub deep_planned : (buffer : List ℕ) (plan : std.Result Plan Refused) → 128 ≤ p.depth → plan ≡ refusing p (TooDeep b) → PlannedTurn w around On p frame buffer plan buffer
+  deep_planned buffer plan h e = refused_turn buffer p (TooDeep b) plan e (λ F R C l o. too_deep around.rule (table_of w) b F R p.count C (omega (arith, l.deep)) ∙ ap (refused 30 b) o.visits)
 
   module _ (shallow : p.depth < 128) where
     entering_turn : (F : List machine.Frame) (R : Output) (C : definition.Context) (code at v : ℕ) → Stands F R p.depth p.rows
@@ -199,16 +205,16 @@ module _ (w : List ℕ) (E S H Z : Flags) (p : Position) (aim : Aim) (around : A
         not_deep around.rule (table_of w) b F R p.count C (omega (arith, l.deep)) ∙ ap (inside around.rule (table_of w) b F R p.count C) e ∙ inside_refused around.rule (table_of w) b F R p.count
         C code at v
 
-    pub visits_planned : (buffer : List ℕ) (plan : Plan) → 8192 ≤ p.visits → plan ≡ refusing p 31 b → PlannedTurn w around On p frame buffer plan buffer
-    visits_planned buffer plan h e = refused_turn buffer p 31 b plan (λ z. omega arith) e
+    pub visits_planned : (buffer : List ℕ) (plan : std.Result Plan Refused) → 8192 ≤ p.visits → plan ≡ refusing p (TooManyVisits b) → PlannedTurn w around On p frame buffer plan buffer
+    visits_planned buffer plan h e = refused_turn buffer p (TooManyVisits b) plan e
         (λ F R C l o. entering_turn F R C 31 b p.visits l (many_visits around.rule (table_of w) b F R p.count C (omega (arith, o.visits, h)) ∙ ap (refused 31 b) o.visits))
 
     module _ (few : p.visits < 8192) where
       next_visit : (C : definition.Context) (q : Position) → On C → q.visits ≡ p.visits + 1 → suc C.visits ≡ q.visits
       next_visit C q o s = omega (arith, o.visits, s)
 
-      pub absent_planned : (buffer : List ℕ) (q : Position) (plan : Plan) → q.visits ≡ p.visits + 1 → code_at w b ≡ 0 → plan ≡ refusing q 10 b → PlannedTurn w around On p frame buffer plan buffer
-      absent_planned buffer q plan s z e = refused_turn buffer q 10 b plan (λ y. omega arith) e (λ F R C l o. entering_turn F R C 10 b q.visits l
+      pub absent_planned : (buffer : List ℕ) (q : Position) (plan : std.Result Plan Refused) → q.visits ≡ p.visits + 1 → code_at w b ≡ 0 → plan ≡ refusing q (MissingBlock b) → PlannedTurn w around On p frame buffer plan buffer
+      absent_planned buffer q plan s z e = refused_turn buffer q (MissingBlock b) plan e (λ F R C l o. entering_turn F R C 10 b q.visits l
           (no_block around.rule (table_of w) b F R p.count C (omega (arith, o.visits, few))
           (ap (λ (k : ℕ). eqb k 0) (code_at_lem w b here.promise here.block) ∙ eq-eqb (code_at w b) 0 z) ∙ ap (refused 10 b) (next_visit C q o s)))
 
@@ -216,20 +222,20 @@ module _ (w : List ℕ) (E S H Z : Flags) (p : Position) (aim : Aim) (around : A
         present : eqb (code_of (terminal_at (table_of w) b)) 0 ≡ false
         present = ap (λ (k : ℕ). eqb k 0) (code_at_lem w b here.promise here.block) ∙ ne_eqb (code_at w b) 0 there
 
-        pub emitted_planned : (buffer : List ℕ) (q : Position) (plan : Plan) → q.visits ≡ p.visits + 1 → has E b ≡ true → plan ≡ refusing q 11 b → PlannedTurn w around On p frame buffer plan buffer
-        emitted_planned buffer q plan s z e = refused_turn buffer q 11 b plan (λ y. omega arith) e (λ F R C l o. entering_turn F R C 11 b q.visits l
+        pub emitted_planned : (buffer : List ℕ) (q : Position) (plan : std.Result Plan Refused) → q.visits ≡ p.visits + 1 → has E b ≡ true → plan ≡ refusing q (AlreadyEmitted b) → PlannedTurn w around On p frame buffer plan buffer
+        emitted_planned buffer q plan s z e = refused_turn buffer q (AlreadyEmitted b) plan e (λ F R C l o. entering_turn F R C 11 b q.visits l
             (emitted_twice around.rule (table_of w) b F R p.count C (omega (arith, o.visits, few)) present (ap (λ (k : Flags). has k b) o.emitted ∙ z) ∙ ap (refused 11 b) (next_visit C q o s)))
 
         -- the terminal's arm goes on from the instructions
-        pub entered_planned : {first count id : ℕ} {span : Span} → Heads w b first count id span → (buffer buffer₁ buffer' : List ℕ) (q : Position) (plan : Plan) → has E b ≡ false → q.block ≡ b → q.depth ≡ p.depth
+        pub entered_planned : {first count id : ℕ} {span : Span} → Heads w b first count id span → (buffer buffer₁ buffer' : List ℕ) (q : Position) (plan : std.Result Plan Refused) → has E b ≡ false → q.block ≡ b → q.depth ≡ p.depth
             → q.count ≡ p.count + count → q.visits ≡ p.visits + 1
             → InstructionsPut w first count buffer p.rows buffer₁ q.rows
             → Planned (terminal_step_in around w q) (AtTerminal w S H Z q aim around) [] q.depth q.rows buffer₁ plan buffer' → PlannedTurn w around On p frame buffer plan buffer'
         entered_planned {first} {count} heads buffer buffer₁ buffer' q plan z eb ed ec ev put m = planned plan (lines ++ m.out)
-            (λ y before h. subst (λ (R : List Row). Holds buffer' plan.position.rows (pushed R [])) (append_assoc before lines m.out) (m.held y (before ++ lines) (written before h)))
+            (ok_to plan (λ x held before h. subst (λ (R : List Row). Holds buffer' x.position.rows (pushed R [])) (append_assoc before lines m.out) (held (before ++ lines) (written before h))) m.held)
             (λ F R C l n o. ap turn (goes F R C l n o) ∙ m.same F (R ⊕ lines) (emit b (with_visits (suc C.visits) C)) (record { deep = l.deep ∙ sym ed; many = (stands_after lines (counted_on lines written) l).many }) (sees C o)
             ∙ entered_applied plan b (suc C.visits) F ((R ⊕ lines) ⊕ m.out) C ∙ ap (λ (X : Output). applied plan F X (emit b C)) (out_assoc R lines m.out))
-            (λ y. subst (λ (d : ℕ). Fitting [] d plan) ed (m.fitting y))
+            (ok_to plan (λ x f. subst (λ (d : ℕ). Fitting [] d x) ed f) m.fitting)
           where
             rows_are : instruction_rows_at (table_of w) b ≡ rows_from first count
             rows_are = rw (heads.is_first, heads.is_count)
@@ -302,7 +308,7 @@ visits_ready w p frame ready e =
     let here : StageFits w Visit p frame = subst (λ (s : Stage). StageFits w s p frame) e ready.stage in
     record { promise = ready.promise; stage = e; block = here.0; depth = ready.depth; visits = ready.visits; rows = ready.rows; count = here.1 }
 
-pub shown_seen : {w : List ℕ} {E S H Z : Flags} {p : Position} {aim : Aim} {around : Around} {C : definition.Context} → Shown w E S H Z p aim around C → Seen S H p.visits C
+pub shown_seen : {w : List ℕ} {E S H Z : Flags} {p : Position} {aim : std.Option code.Goal} {around : Around} {C : definition.Context} → Shown w E S H Z p aim around C → Seen S H p.visits C
 shown_seen o = record { scheduled = o.scheduled; handlers = o.handlers; visits = o.visits; wide = o.wide }
 
 pub not_halted : (w : List ℕ) (p : Position) (frame : Frame) → Ready w p frame → p.stage ≡ Halt → ⊥

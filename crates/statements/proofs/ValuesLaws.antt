@@ -1,4 +1,5 @@
 -- The turn of a statement that is scheduled: what it asks, and that its plan is the machine's turn.
+use Rattle.std.specs.Prelude as std
 use Prim.Native.Nat.{ℕ, zero, suc, ◌-◌, ◌≤◌}
 use native.Mathlib.Omega.{arith}
 use mathlib.Core.Path.{◌≡◌, refl, ap, subst}
@@ -13,6 +14,7 @@ use Rattle.statements.specs.declared.plan.Stage.TheVariants.{Values}
 use Rattle.statements.specs.declared.plan.Position.{Position}
 use Rattle.statements.specs.declared.plan.Frame.{Frame}
 use Rattle.statements.specs.declared.plan.Plan.{Plan}
+use Rattle.statements.specs.declared.refusal.Refused.{Refused}
 use Rattle.statements.specs.Plans.{frame_of}
 use Rattle.statements.specs.Planned.{SameVisits}
 use Rattle.statements.specs.Turn.{in_hand, StageFits, Ready, PlannedTurn}
@@ -29,7 +31,7 @@ module _ (w : List ℕ) (p : Position) (frame : Frame) where
       let at : StageFits w Values p frame = subst (λ (s : Stage). StageFits w s p frame) e ready.stage in
       record { promise = ready.promise; block = rw (length_blocks w) at at.1.framed.block; depth = at.0; deep = ready.depth; visits = ready.visits; rows = omega (arith, ready.rows); count = at.1.count }
 
-  pub valued : {around : Around} {buffer buffer' : List ℕ} {plan : Plan} → Ready w p frame → p.stage ≡ Values → PlannedValues w p frame buffer plan buffer'
+  pub valued : {around : Around} {buffer buffer' : List ℕ} {plan : std.Result Plan Refused} → Ready w p frame → p.stage ≡ Values → PlannedValues w p frame buffer plan buffer'
       → PlannedTurn w around (SameVisits p) p frame buffer plan buffer'
   unfolding step
   valued ready e m =

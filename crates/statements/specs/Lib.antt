@@ -1,3 +1,4 @@
+pub mod Refusal
 pub mod Plans
 pub mod Planned
 pub mod Turn

@@ -1,8 +1,10 @@
 -- Loops: the values that are made before a body, the turn that all loops share, and its plan. And value terminals as statements.
-use Rattle.std.specs.Prelude.{ℕ, ◌+◌, ◌-◌, ◌*◌, ◌≤◌, ◌<◌, ◌≡◌, Bool, true, false, ◌||◌, List, [], ◌∷◌, ◌++◌, eqb}
+use Rattle.std.specs.Prelude.{ℕ, ◌+◌, ◌-◌, ◌*◌, ◌≤◌, ◌<◌, ◌≡◌, Bool, true, false, ◌||◌, List, [], ◌∷◌, ◌++◌, eqb, Ok, Err, IfOk, None, Some}
+use Rattle.std.specs.Prelude as std
 use Rattle.std.proofs.Math.Option.{Option, none, some}
 use Rattle.table.specs.declared.columns.Span.{Span}
 use Rattle.table.specs.Words.{block_count}
+use Rattle.table.specs.Columns.{maybe_of}
 use Rattle.table.specs.Promise.{Promise}
 use Rattle.table.specs.Table.{Table, Terminal, absent, unreachable, throw, return, goto, if, branch, switch, do_while, while, for, for_of, for_in, logical}
 use Rattle.table.specs.Table.{ternary, optional, label, sequence, maybe_throw, try, scope, table_of, terminal_at, block_at, unless_none}
@@ -11,20 +13,24 @@ use Rattle.definition.specs.Context as definition
 use Rattle.machine.specs.Machine.{State, make_at}
 use Rattle.definition.specs.Output.{Output, value_out}
 use Rattle.machine.specs.Machine as machine
-use Rattle.definition.specs.Result.{Result, ok, refused, ◌>>=◌}
+use Rattle.definition.specs.Result.{Result, ok, ◌>>=◌}
 use Rattle.definition.specs.Tree.{Row, Value}
 use Rattle.definition.specs.Value.{VisitValueBlock, ValueBlockResult, value_block_result_to_sequence, visit_value_block}
 use Rattle.control.specs.declared.ControlFlowTarget.{ControlFlowTarget}
 use Rattle.control.specs.declared.ControlFlowTarget.TheVariants.{Loop}
 use Rattle.values.specs.Rows.{Holds}
 use Rattle.values.specs.Stack.{pushed}
-use Rattle.values.specs.declared.result.ValueResult.{ValueResult}
+use Rattle.values.specs.declared.result.Tally.{Tally}
+use Rattle.values.specs.declared.refusal.Refused.{Refused}
+use Rattle.values.specs.Refusal.{refused_by}
+use Rattle.statements.specs.declared.refusal.Refusal.TheVariants.{LoopScheduled, Value as of_value}
+use Rattle.statements.specs.declared.refusal.Refused as walk
+use Rattle.statements.specs.Refusal.{refused_after}
 use Rattle.statements.specs.declared.plan.Stage.TheVariants.{Visit, Values as at_values}
 use Rattle.statements.specs.declared.plan.Position.{Position}
 use Rattle.statements.specs.declared.plan.Frame.{Frame}
-use Rattle.statements.specs.declared.plan.Change.TheVariants.{Nothing, Schedule}
+use Rattle.statements.specs.declared.plan.Change.TheVariants.{Schedule}
 use Rattle.statements.specs.declared.plan.Plan.{Plan}
-use Rattle.statements.specs.declared.loop_parts.Values.{Values}
 use Rattle.statements.specs.declared.loop_parts.Loop as loops
 use Rattle.statements.specs.Plans.{frame_of, advanced, open_frame, refusing, nesting, making_next, entries_if, schedule_if, unless_taken}
 use Rattle.statements.specs.Planned.{Planned, SameVisits}
@@ -76,9 +82,9 @@ module _ (words : List ℕ) (p : Position) where
   abbrev pub tested_values : (init test : ℕ) → Result Made
   tested_values init test = tested_made (table_of words) (visit_value_block (table_of words) (127 - p.depth)) init test (block_at (table_of words) p.block).span (none_made p.visits)
 
-  abbrev pub for_values : (init test update : ℕ) → Result Made
+  abbrev pub for_values : (init test : ℕ) → (update : std.Option ℕ) → Result Made
   for_values init test update =
-      for_made (table_of words) (visit_value_block (table_of words) (127 - p.depth)) init test (unless_none update) (block_at (table_of words) p.block).span
+      for_made (table_of words) (visit_value_block (table_of words) (127 - p.depth)) init test (maybe_of update) (block_at (table_of words) p.block).span
       (none_made p.visits)
 
   abbrev pub for_of_values : (init test : ℕ) → Result Made
@@ -86,36 +92,34 @@ module _ (words : List ℕ) (p : Position) where
 
 -- ---- the code's values
 
-abbrev pub no_values : Position → Values
-no_values p = record { code = 0; at = 0; rows = p.rows; visits = p.visits }
+-- the rows and visits before a position's values
+abbrev pub tally_of : Position → Tally
+tally_of p = record { rows = p.rows; visits = p.visits }
 
-abbrev pub values_of : ValueResult → Values
-values_of result = record { code = result.code; at = result.at; rows = result.tally.rows; visits = result.tally.visits }
-
-abbrev pub made_if : Bool → Values → List Row → Result Made
-made_if true values out = ok (record { out = out; visits = values.visits })
-made_if false values out = refused values.code values.at values.visits
+abbrev pub made_of : std.Result Tally Refused → List Row → Result Made
+made_of (Ok values) out = ok (record { out = out; visits = values.visits })
+made_of (Err e) out = refused_by e
 
 -- the code's values are the definition's, `outcome`, and the buffer holds their rows
-pub record Makes (p : Position) (outcome : Result Made) (buffer : List ℕ) (values : Values) (buffer' : List ℕ) : Type 0 where
+pub record Makes (p : Position) (outcome : Result Made) (buffer : List ℕ) (values : std.Result Tally Refused) (buffer' : List ℕ) : Type 0 where
   pub out : List Row
-  pub same : outcome ≡ made_if (eqb values.code 0) values out
-  pub held : values.code ≡ 0 → (before : List Row) → Holds buffer p.rows (pushed before []) → Holds buffer' values.rows (pushed (before ++ out) [])
+  pub same : outcome ≡ made_of values out
+  pub held : IfOk values (λ v. (before : List Row) → Holds buffer p.rows (pushed before []) → Holds buffer' v.rows (pushed (before ++ out) []))
 
 -- each visit pays for 8,200 rows; `unpaid` rows are not paid for
-pub record Spent (before : Values) (unpaid : ℕ) (values : Values) : Type 0 where
+pub record Spent (before : Tally) (unpaid : ℕ) (values : Tally) : Type 0 where
   pub visits : values.visits ≤ 8192
   pub paid : values.rows + 8200 * before.visits ≤ before.rows + 8200 * values.visits + unpaid
 
 -- values that follow others, whatever those are, and whatever the buffer held before them
-pub record MakesMore (p : Position) (step : Made → Result Made) (before : Values) (buffer : List ℕ) (values : Values) (buffer' : List ℕ) : Type 0 where
-  pub made : (outcome : Result Made) (first : List ℕ) → Makes p outcome first before buffer → Makes p (outcome >>= step) first values buffer'
-  pub spent : Spent before 3 values
+pub record MakesMore (p : Position) (step : Made → Result Made) (before : Tally) (buffer : List ℕ) (values : std.Result Tally Refused) (buffer' : List ℕ) : Type 0 where
+  pub made : (outcome : Result Made) (first : List ℕ) → Makes p outcome first (Ok before) buffer → Makes p (outcome >>= step) first values buffer'
+  pub spent : IfOk values (λ v. Spent before 3 v)
 
 -- a For's init and test
-pub record MakesTested (words : List ℕ) (p : Position) (init test : ℕ) (buffer : List ℕ) (values : Values) (buffer' : List ℕ) : Type 0 where
+pub record MakesTested (words : List ℕ) (p : Position) (init test : ℕ) (buffer : List ℕ) (values : std.Result Tally Refused) (buffer' : List ℕ) : Type 0 where
   pub made : Makes p (tested_values words p init test) buffer values buffer'
-  pub spent : Spent (no_values p) 6 values
+  pub spent : IfOk values (λ v. Spent (tally_of p) 6 v)
 
 -- ---- a statement that is scheduled
 
@@ -165,7 +169,7 @@ values_step words p frame frames before cx =
     make_at (table_of words) (visit_value_block (table_of words) (128 - p.depth)) (terminal_at (table_of words) frame.block) (block_at (table_of words) frame.block) (unless_none p.block)
     (frame_of frame) frames before cx
 
-abbrev pub PlannedValues : List ℕ → Position → Frame → List ℕ → Plan → List ℕ → Type 0
+abbrev pub PlannedValues : List ℕ → Position → Frame → List ℕ → std.Result Plan walk.Refused → List ℕ → Type 0
 PlannedValues words p frame = Planned (values_step words p frame) (SameVisits p) (frame_of frame ∷ []) p.depth p.rows
 
 -- ---- plans
@@ -176,15 +180,18 @@ loop_target fallthrough continue_block loop_block = Loop fallthrough continue_bl
 abbrev pub scheduling_loop : (taken : Bool) → Position → loops.Loop → Plan
 scheduling_loop taken p blocks =
     making_next (unless_taken taken blocks.loop_block) (open_frame p blocks.label 1) (p.depth + 1) p.rows p.visits
-    (Schedule (loop_target blocks.fallthrough blocks.continue_block blocks.loop_block))
+    (Some (Schedule (loop_target blocks.fallthrough blocks.continue_block blocks.loop_block)))
 
-abbrev pub after_values : Position → Values → Position
+abbrev pub after_values : Position → Tally → Position
 after_values p values = advanced p p.count values.rows values.visits at_values
 
-abbrev pub entering_body : (made taken : Bool) → Position → Values → Frame → Plan
-entering_body false taken p values frame = refusing (after_values p values) values.code values.at
-entering_body true true p values frame = refusing (after_values p values) 16 frame.block
-entering_body true false p values frame = nesting p.block frame p.depth values.rows values.visits 65535 65535 Nothing
+abbrev pub entering_body : (taken : Bool) → Position → Tally → Frame → std.Result Plan walk.Refused
+entering_body true p values frame = refusing (after_values p values) (LoopScheduled frame.block)
+entering_body false p values frame = Ok (nesting p.block frame p.depth values.rows values.visits 65535 65535 None)
+
+-- a value was refused
+abbrev pub refusing_value : Refused → std.Result Plan walk.Refused
+refusing_value e = Err (refused_after (of_value e.refusal) e.visits)
 
 -- a value statement, with that label
 abbrev pub scheduling_value : Position → (label : ℕ) → Plan
@@ -193,10 +200,6 @@ scheduling_value p taken = making_next 65535 (open_frame p taken (entries_if (eq
 -- a loop block is the loop's fallthrough, or is scheduled
 abbrev pub loop_taken : Flags → Flags → (loop fallthrough : ℕ) → Bool
 loop_taken scheduled_set handler_set loop fallthrough = eqb loop fallthrough || (has scheduled_set loop || has handler_set loop)
-
-abbrev pub continues_at : (no_update : Bool) → (test update : ℕ) → ℕ
-continues_at true test update = test
-continues_at false test update = update
 
 -- ---- value terminals as statements
 

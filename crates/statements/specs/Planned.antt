@@ -1,4 +1,6 @@
 -- The contract of an arm: its plan, applied, is what the machine's turn comes to, and the buffer holds the rows that it put out.
+use Rattle.std.specs.Prelude.{None, Some, IfOk}
+use Rattle.std.specs.Prelude as std
 use Rattle.std.specs.Prelude.{ℕ, suc, ◌+◌, ◌-◌, ◌≤◌, ◌<◌, ◌≡◌, Bool, true, false, List, [], ◌∷◌, ◌++◌, length}
 use Rattle.table.specs.Words.{block_count}
 use Rattle.table.specs.Promise.{Promise}
@@ -20,8 +22,9 @@ use Rattle.statements.specs.declared.plan.Stage.{Stage}
 use Rattle.statements.specs.declared.plan.Stage.TheVariants.{Visit, Ended, Choose, Pop, Values, Halt}
 use Rattle.statements.specs.declared.plan.Position.{Position}
 use Rattle.statements.specs.declared.plan.Change.{Change}
-use Rattle.statements.specs.declared.plan.Change.TheVariants.{Nothing, Schedule, Unschedule}
+use Rattle.statements.specs.declared.plan.Change.TheVariants.{Schedule, Unschedule}
 use Rattle.statements.specs.declared.plan.Plan.{Plan}
+use Rattle.statements.specs.declared.refusal.Refused.{Refused}
 use Rattle.statements.specs.Plans.{applied}
 
 -- an arm sees the sets and the visits of this Context
@@ -32,10 +35,10 @@ pub record Seen (scheduled_set handler_set : Flags) (begun : ℕ) (cx : definiti
   pub wide : length scheduled_set ≡ 1024
 
 -- the blocks that a change names are among the 1,024; an entry is taken off only where the statement has one
-abbrev pub NamedChange : (entries : ℕ) → Change → Type 0
-NamedChange entries Nothing = Unit {0}
-NamedChange entries (Schedule target) = Named target
-NamedChange entries Unschedule = 1 ≤ entries
+abbrev pub NamedChange : (entries : ℕ) → std.Option Change → Type 0
+NamedChange entries None = Unit {0}
+NamedChange entries (Some (Schedule target)) = Named target
+NamedChange entries (Some Unschedule) = 1 ≤ entries
 
 abbrev pub entries_on_top : List machine.Frame → ℕ
 entries_on_top [] = 0
@@ -71,12 +74,12 @@ pub record Stands (frames : List machine.Frame) (out : Output) (depth rows : ℕ
 
 -- `top` and then the frames are `depth` in all; `On` says what is known of the Context
 pub record Planned (step : List machine.Frame → Output → definition.Context → Result State) (On : definition.Context
-    → Type 0) (top : List machine.Frame) (depth rows : ℕ) (buffer : List ℕ) (plan : Plan) (buffer' : List ℕ) : Type 0 where
+    → Type 0) (top : List machine.Frame) (depth rows : ℕ) (buffer : List ℕ) (outcome : std.Result Plan Refused) (buffer' : List ℕ) : Type 0 where
   pub out : List Row
-  pub held : plan.code ≡ 0 → (before : List Row) → Holds buffer rows (pushed before []) → Holds buffer' plan.position.rows (pushed (before ++ out) [])
+  pub held : IfOk outcome (λ plan. (before : List Row) → Holds buffer rows (pushed before []) → Holds buffer' plan.position.rows (pushed (before ++ out) []))
   pub same : (frames : List machine.Frame) (before : Output) (cx : definition.Context) → Stands (top ++ frames) before depth rows → On cx
-      → turn (step frames before cx) ≡ applied plan (top ++ frames) (before ⊕ out) cx
-  pub fitting : plan.code ≡ 0 → Fitting top depth plan
+      → turn (step frames before cx) ≡ applied outcome (top ++ frames) (before ⊕ out) cx
+  pub fitting : IfOk outcome (λ plan. Fitting top depth plan)
 
 -- ---- the terminal of a block that is entered
 
@@ -103,8 +106,8 @@ pub record Entered (words : List ℕ) (p : Position) : Type 0 where
   pub count : p.count ≤ p.rows
 
 -- an arm that puts out no row
-abbrev pub PlannedBare : List ℕ → Flags → Flags → Position → Plan → Type 0
-PlannedBare words scheduled_set handler_set p plan = (buffer : List ℕ) → Planned (terminal_step words p) (Seen scheduled_set handler_set p.visits) [] p.depth p.rows buffer plan buffer
+abbrev pub PlannedBare : List ℕ → Flags → Flags → Position → std.Result Plan Refused → Type 0
+PlannedBare words scheduled_set handler_set p outcome = (buffer : List ℕ) → Planned (terminal_step words p) (Seen scheduled_set handler_set p.visits) [] p.depth p.rows buffer outcome buffer
 
 abbrev pub SameVisits : Position → definition.Context → Type 0
 SameVisits p cx = cx.visits ≡ p.visits

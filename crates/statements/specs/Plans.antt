@@ -1,4 +1,6 @@
 -- What a plan means for the machine of turns.
+use Rattle.std.specs.Prelude.{None, Some, Ok, Err}
+use Rattle.std.specs.Prelude as std
 use Rattle.std.specs.Prelude.{ℕ, zero, suc, ◌+◌, ◌-◌, Bool, true, false, ◌||◌, List, [], ◌∷◌, ◌++◌, eqb, length, get_or, drop}
 use Rattle.std.proofs.Math.Option.{Option, none, some}
 use Rattle.table.specs.Table.{unless_none}
@@ -17,10 +19,12 @@ use Rattle.statements.specs.declared.plan.Stage.TheVariants.{Visit, Ended, Choos
 use Rattle.statements.specs.declared.plan.Position.{Position}
 use Rattle.statements.specs.declared.plan.Frame.{Frame}
 use Rattle.statements.specs.declared.plan.Change.{Change}
-use Rattle.statements.specs.declared.plan.Change.TheVariants.{Nothing, Schedule, Unschedule}
+use Rattle.statements.specs.declared.plan.Change.TheVariants.{Schedule, Unschedule}
 use Rattle.statements.specs.declared.plan.Line.{Line}
-use Rattle.statements.specs.declared.plan.Line.TheVariants as line
 use Rattle.statements.specs.declared.plan.Plan.{Plan}
+use Rattle.statements.specs.declared.refusal.Refusal.{Refusal}
+use Rattle.statements.specs.declared.refusal.Refused.{Refused}
+use Rattle.statements.specs.Refusal.{refusal_code, refusal_place, refused_after}
 
 -- ---- from the code's records to the machine's
 
@@ -50,10 +54,10 @@ state_at Halt block frames out count cx = ended frames out count cx
 -- ---- what the walk does with a plan
 
 -- only `schedule` gives 15 and 90
-abbrev pub changed : Change → definition.Context → Result definition.Context
-changed Nothing cx = ok cx
-changed (Schedule target) cx = schedule (target_of target) cx
-changed Unschedule cx = ok (unscheduled cx)
+abbrev pub changed : std.Option Change → definition.Context → Result definition.Context
+changed None cx = ok cx
+changed (Some (Schedule target)) cx = schedule (target_of target) cx
+changed (Some Unschedule) cx = ok (unscheduled cx)
 
 abbrev pub handled : Option ℕ → definition.Context → definition.Context
 handled none cx = cx
@@ -88,20 +92,17 @@ onward Values plan frames out after = unless_refused after (state_at Values plan
 onward Halt plan frames out after = halt (accepted out.rows out.lines plan.position.visits)
 
 -- the line of a statement (M-101) whose closing row is the last of the rows that are out
-abbrev pub lines_by : Line → (rows : ℕ) → List index.Line
-lines_by line.Nothing rows = []
-lines_by (line.Put label first) rows = record { label = label; first = first; closing = rows - 1 } ∷ []
+abbrev pub lines_by : std.Option Line → (rows : ℕ) → List index.Line
+lines_by None rows = []
+lines_by (Some line) rows = record { label = line.label; first = line.first; closing = rows - 1 } ∷ []
 
-abbrev pub lined : Line → (rows : ℕ) → Output → Output
-lined line.Nothing rows out = out
-lined (line.Put label first) rows out = record { rows = out.rows; lines = out.lines ++ lines_by (line.Put label first) rows }
+abbrev pub lined : std.Option Line → (rows : ℕ) → Output → Output
+lined None rows out = out
+lined (Some line) rows out = record { rows = out.rows; lines = out.lines ++ lines_by (Some line) rows }
 
-unfoldable pub applied : Plan → List machine.Frame → Output → definition.Context → Turn
-applied plan frames out cx =
-    elim (eqb plan.code 0) [
-      | true ↦ onward plan.position.stage plan frames (lined plan.line plan.position.rows out) (context_after plan cx)
-      | false ↦ halt (rejected plan.code plan.at plan.position.visits)
-    ]
+unfoldable pub applied : std.Result Plan Refused → List machine.Frame → Output → definition.Context → Turn
+applied (Ok plan) frames out cx = onward plan.position.stage plan frames (lined plan.line plan.position.rows out) (context_after plan cx)
+applied (Err e) frames out cx = halt (rejected (refusal_code e.refusal) (refusal_place e.refusal) e.visits)
 
 -- ---- the plans that there are
 
@@ -120,101 +121,89 @@ with_counts frame entries left built = record { block = frame.block; label = fra
 
 -- on to the position, and nothing else
 abbrev pub going_on : Position → Plan
-going_on position = record { code = 0; at = 0; position = position; frame = no_frame; keep = false; handler = 65535; scope = 65535; change = Nothing; line = line.Nothing }
+going_on position = record { position = position; frame = no_frame; keep = false; handler = 65535; scope = 65535; change = None; line = None }
 
-abbrev pub refusing : Position → (code at : ℕ) → Plan
-refusing p code at = record { code = code; at = at; position = p; frame = no_frame; keep = false; handler = 65535; scope = 65535; change = Nothing; line = line.Nothing }
+abbrev pub refusing : Position → Refusal → std.Result Plan Refused
+refusing p refusal = Err (refused_after refusal p.visits)
 
 abbrev pub stage_after : Bool → Stage
 stage_after true = Ended
 stage_after false = Visit
 
-abbrev pub leaving : (next depth count rows visits : ℕ) → Change → Plan
+abbrev pub leaving : (next depth count rows visits : ℕ) → std.Option Change → Plan
 leaving next depth count rows visits change = record {
-  code = 0;
-  at = 0;
   position = record { block = next; depth = depth; count = count; rows = rows; visits = visits; stage = stage_after (eqb next 65535) };
   frame = no_frame;
   keep = false;
   handler = 65535;
   scope = 65535;
   change = change;
-  line = line.Nothing;
+  line = None;
 }
 
-abbrev pub nesting : (block : ℕ) → Frame → (depth rows visits handler scope : ℕ) → Change → Plan
+abbrev pub nesting : (block : ℕ) → Frame → (depth rows visits handler scope : ℕ) → std.Option Change → Plan
 nesting block frame depth rows visits handler scope change = record {
-  code = 0;
-  at = 0;
   position = record { block = block; depth = depth; count = 0; rows = rows; visits = visits; stage = Visit };
   frame = frame;
   keep = true;
   handler = handler;
   scope = scope;
   change = change;
-  line = line.Nothing;
+  line = None;
 }
 
-abbrev pub choosing_next : Frame → (depth rows visits : ℕ) → Change → Plan
+abbrev pub choosing_next : Frame → (depth rows visits : ℕ) → std.Option Change → Plan
 choosing_next frame depth rows visits change = record {
-  code = 0;
-  at = 0;
   position = record { block = 0; depth = depth; count = 0; rows = rows; visits = visits; stage = Choose };
   frame = frame;
   keep = true;
   handler = 65535;
   scope = 65535;
   change = change;
-  line = line.Nothing;
+  line = None;
 }
 
 abbrev pub popping_next : Frame → (depth rows visits : ℕ) → Plan
 popping_next frame depth rows visits = record {
-  code = 0;
-  at = 0;
   position = record { block = 0; depth = depth; count = 0; rows = rows; visits = visits; stage = Pop };
   frame = frame;
   keep = true;
   handler = 65535;
   scope = 65535;
-  change = Unschedule;
-  line = line.Nothing;
+  change = Some Unschedule;
+  line = None;
 }
 
-abbrev pub making_next : (body : ℕ) → Frame → (depth rows visits : ℕ) → Change → Plan
+abbrev pub making_next : (body : ℕ) → Frame → (depth rows visits : ℕ) → std.Option Change → Plan
 making_next body frame depth rows visits change = record {
-  code = 0;
-  at = 0;
   position = record { block = body; depth = depth; count = 0; rows = rows; visits = visits; stage = Values };
   frame = frame;
   keep = true;
   handler = 65535;
   scope = 65535;
   change = change;
-  line = line.Nothing;
+  line = None;
 }
 
 abbrev pub accepting : (rows visits : ℕ) → Plan
 accepting rows visits = record {
-  code = 0;
-  at = 0;
   position = record { block = 0; depth = 0; count = 0; rows = rows; visits = visits; stage = Halt };
   frame = no_frame;
   keep = false;
   handler = 65535;
   scope = 65535;
-  change = Nothing;
-  line = line.Nothing;
+  change = None;
+  line = None;
 }
 
 abbrev pub with_handler : Plan → ℕ → Plan
-with_handler plan handler = record { code = plan.code; at = plan.at; position = plan.position; frame = plan.frame; keep = plan.keep; handler = handler; scope = plan.scope; change = plan.change; line = plan.line }
+with_handler plan handler = record { position = plan.position; frame = plan.frame; keep = plan.keep; handler = handler; scope = plan.scope; change = plan.change; line = plan.line }
 
 abbrev pub with_scope : Plan → ℕ → Plan
-with_scope plan scope = record { code = plan.code; at = plan.at; position = plan.position; frame = plan.frame; keep = plan.keep; handler = plan.handler; scope = scope; change = plan.change; line = plan.line }
+with_scope plan scope = record { position = plan.position; frame = plan.frame; keep = plan.keep; handler = plan.handler; scope = scope; change = plan.change; line = plan.line }
 
-abbrev pub with_line : Plan → Line → Plan
-with_line plan line = record { code = plan.code; at = plan.at; position = plan.position; frame = plan.frame; keep = plan.keep; handler = plan.handler; scope = plan.scope; change = plan.change; line = line }
+abbrev pub with_line : Plan → std.Option Line → Plan
+with_line plan line = record { position = plan.position; frame = plan.frame; keep = plan.keep; handler = plan.handler; scope = plan.scope; change = plan.change; line = line }
 
 -- ---- labels
 
@@ -227,23 +216,23 @@ abbrev pub entries_if : Bool → ℕ
 entries_if true = 0
 entries_if false = 1
 
-abbrev pub schedule_if : Bool → ℕ → Change
-schedule_if true taken = Nothing
-schedule_if false taken = Schedule (If taken)
+abbrev pub schedule_if : Bool → ℕ → std.Option Change
+schedule_if true taken = None
+schedule_if false taken = Some (Schedule (If taken))
 
-abbrev pub schedule_switch : Bool → ℕ → Change
-schedule_switch true taken = Nothing
-schedule_switch false taken = Schedule (Switch taken)
+abbrev pub schedule_switch : Bool → ℕ → std.Option Change
+schedule_switch true taken = None
+schedule_switch false taken = Some (Schedule (Switch taken))
 
 -- a statement's entry comes off, if it has one
-abbrev pub unschedule_if : (none : Bool) → Change
-unschedule_if true = Nothing
-unschedule_if false = Unschedule
+abbrev pub unschedule_if : (none : Bool) → std.Option Change
+unschedule_if true = None
+unschedule_if false = Some Unschedule
 
 -- a block is scheduled, or will be once the label is
 abbrev pub scheduled_with : (busy : Bool) → (label block : ℕ) → Bool
 scheduled_with busy taken block = eqb block taken || busy
 
-abbrev pub enclosing : (busy : Bool) → Position → (label block code at : ℕ) → Plan
-enclosing true p taken block code at = refusing p code at
-enclosing false p taken block code at = nesting block (open_frame p taken (entries_if (eqb taken 65535))) (p.depth + 1) p.rows p.visits 65535 65535 (schedule_if (eqb taken 65535) taken)
+abbrev pub enclosing : (busy : Bool) → Position → (label block : ℕ) → Refusal → std.Result Plan Refused
+enclosing true p taken block refusal = refusing p refusal
+enclosing false p taken block refusal = Ok (nesting block (open_frame p taken (entries_if (eqb taken 65535))) (p.depth + 1) p.rows p.visits 65535 65535 (schedule_if (eqb taken 65535) taken))

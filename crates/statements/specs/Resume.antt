@@ -1,4 +1,6 @@
 -- Statements whose nested list has ended: the plans for them, and their contracts.
+use Rattle.std.specs.Prelude.{None, Some, Ok}
+use Rattle.std.specs.Prelude as std
 use Rattle.std.specs.Prelude.{ℕ, ◌+◌, ◌-◌, ◌≤◌, ◌<◌, ◌≡◌, Bool, true, false, List, [], ◌∷◌}
 use Rattle.std.proofs.Math.Option.{Option, none, some}
 use Rattle.table.specs.Words.{block_count, case_count, code_at}
@@ -15,10 +17,10 @@ use Rattle.definition.specs.Value.{visit_value_block}
 use Rattle.machine.specs.Framed.{is_switch}
 use Rattle.statements.specs.declared.plan.Position.{Position}
 use Rattle.statements.specs.declared.plan.Frame.{Frame}
-use Rattle.statements.specs.declared.plan.Change.TheVariants.{Nothing}
 use Rattle.statements.specs.declared.plan.Line.{Line}
-use Rattle.statements.specs.declared.plan.Line.TheVariants as line
 use Rattle.statements.specs.declared.plan.Plan.{Plan}
+use Rattle.statements.specs.declared.refusal.Refusal.{Refusal}
+use Rattle.statements.specs.declared.refusal.Refused.{Refused}
 use Rattle.statements.specs.declared.closing.ClosingRow.{ClosingRow}
 use Rattle.statements.specs.Plans.{frame_of, second, with_counts, refusing, nesting}
 use Rattle.statements.specs.Planned.{Seen, Planned}
@@ -41,19 +43,19 @@ abbrev pub closing_row_at : List ℕ → Frame → Row
 closing_row_at words frame = closing_row (table_of words) frame.block frame.second (unless_none frame.label) frame.built
 
 -- its line (M-101), if its row has a label
-abbrev pub line_as : Option ℕ → (first : ℕ) → Line
-line_as none first = line.Nothing
-line_as (some label) first = line.Put label first
+abbrev pub line_as : Option ℕ → (first : ℕ) → std.Option Line
+line_as none first = None
+line_as (some label) first = Some (record { label = label; first = first })
 
-abbrev pub line_at : List ℕ → Frame → Line
+abbrev pub line_at : List ℕ → Frame → std.Option Line
 line_at words frame = line_as (enclosing_label (enclosing_by (terminal_at (table_of words) frame.block) (unless_none frame.label))) frame.first
 
 -- ---- plans
 
 -- into a second part, which must not be scheduled
-abbrev pub alternating : (busy : Bool) → Position → Frame → (block code at : ℕ) → Plan
-alternating true p frame block code at = refusing p code at
-alternating false p frame block code at = nesting block (second frame) p.depth p.rows p.visits 65535 65535 Nothing
+abbrev pub alternating : (busy : Bool) → Position → Frame → (block : ℕ) → Refusal → std.Result Plan Refused
+alternating true p frame block refusal = refusing p refusal
+alternating false p frame block refusal = Ok (nesting block (second frame) p.depth p.rows p.visits 65535 65535 None)
 
 -- ---- contracts
 
@@ -85,7 +87,7 @@ pub record Choosing (words : List ℕ) (p : Position) (frame : Frame) : Type 0 w
   pub case : frame.left ≤ case_count words - (switch_columns (terminal_at (table_of words) frame.block)).first
 
 -- a plan for the frame in hand
-abbrev pub PlannedFor : (step : List machine.Frame → Output → definition.Context → Result State) → (On : definition.Context → Type 0) → Position → Frame → List ℕ → Plan → List ℕ → Type 0
+abbrev pub PlannedFor : (step : List machine.Frame → Output → definition.Context → Result State) → (On : definition.Context → Type 0) → Position → Frame → List ℕ → std.Result Plan Refused → List ℕ → Type 0
 PlannedFor step On p frame = Planned step On (frame_of frame ∷ []) p.depth p.rows
 
 abbrev pub Begun : ℕ → definition.Context → Type 0
@@ -103,15 +105,15 @@ choose_step words frame frames before cx =
     choose_case (table_of words) (switch_columns (terminal_at (table_of words) frame.block)).first
     (switch_columns (terminal_at (table_of words) frame.block)).fallthrough frame.left (frame_of frame) frames before cx
 
-abbrev pub PlannedClose : List ℕ → Position → Frame → List ℕ → Plan → List ℕ → Type 0
+abbrev pub PlannedClose : List ℕ → Position → Frame → List ℕ → std.Result Plan Refused → List ℕ → Type 0
 PlannedClose words p frame = PlannedFor (close_step words frame) (Begun p.visits) p frame
 
-abbrev pub PlannedResume : List ℕ → Flags → Flags → Position → Frame → List ℕ → Plan → List ℕ → Type 0
+abbrev pub PlannedResume : List ℕ → Flags → Flags → Position → Frame → List ℕ → std.Result Plan Refused → List ℕ → Type 0
 PlannedResume words scheduled_set handler_set p frame = PlannedFor (resume_step words p frame) (Seen scheduled_set handler_set p.visits) p frame
 
 -- the same for an arm that does not look at the sets
-abbrev pub PlannedOn : List ℕ → Position → Frame → List ℕ → Plan → List ℕ → Type 0
+abbrev pub PlannedOn : List ℕ → Position → Frame → List ℕ → std.Result Plan Refused → List ℕ → Type 0
 PlannedOn words p frame = PlannedFor (resume_step words p frame) (Begun p.visits) p frame
 
-abbrev pub PlannedChoice : List ℕ → Flags → Flags → Position → Frame → List ℕ → Plan → List ℕ → Type 0
+abbrev pub PlannedChoice : List ℕ → Flags → Flags → Position → Frame → List ℕ → std.Result Plan Refused → List ℕ → Type 0
 PlannedChoice words scheduled_set handler_set p frame = PlannedFor (choose_step words frame) (Seen scheduled_set handler_set p.visits) p frame

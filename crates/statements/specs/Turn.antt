@@ -1,4 +1,6 @@
 -- The contract of a whole turn: what the walk shows an arm, and what it gets back.
+use Rattle.std.specs.Prelude.{IfOk}
+use Rattle.std.specs.Prelude as std
 use Rattle.std.specs.Prelude.{ℕ, zero, suc, ◌+◌, ◌-◌, ◌≤◌, ◌<◌, ◌≡◌, true, List, [], ◌∷◌, ◌++◌, length}
 use Rattle.std.proofs.Math.Option.{Option}
 use Rattle.table.specs.Words.{block_count}
@@ -14,7 +16,7 @@ use Rattle.definition.specs.Output.{Output, ◌⊕◌}
 use Rattle.machine.specs.Machine as machine
 use Rattle.definition.specs.Tree.{Row}
 use Rattle.machine.specs.Framed.{Framed, is_switch}
-use Rattle.control.specs.declared.around.Aim.{Aim}
+use Rattle.control.specs.declared.around.Goal as code
 use Rattle.control.specs.AroundAbstraction.{aim_of}
 use Rattle.values.specs.Rows.{Holds}
 use Rattle.values.specs.Stack.{pushed}
@@ -23,6 +25,7 @@ use Rattle.statements.specs.declared.plan.Stage.TheVariants.{Visit, Ended, Choos
 use Rattle.statements.specs.declared.plan.Position.{Position}
 use Rattle.statements.specs.declared.plan.Frame.{Frame}
 use Rattle.statements.specs.declared.plan.Plan.{Plan}
+use Rattle.statements.specs.declared.refusal.Refused.{Refused}
 use Rattle.statements.specs.Plans.{frame_of, state_at, applied}
 use Rattle.statements.specs.Planned.{Seen, Fitting, Stands}
 
@@ -57,7 +60,7 @@ Resolves (scope pruned body fallthrough number) around cx aim = Unit {0}
 -- ---- what an arm is shown
 
 -- an arm sees the sets and the visits of this Context, and the goal of the block's jump
-pub record Shown (words : List ℕ) (emitted_set scheduled_set handler_set scope_set : Flags) (p : Position) (aim : Aim) (around : Around) (cx : definition.Context) : Type 0 where
+pub record Shown (words : List ℕ) (emitted_set scheduled_set handler_set scope_set : Flags) (p : Position) (aim : std.Option code.Goal) (around : Around) (cx : definition.Context) : Type 0 where
   pub emitted : cx.emitted ≡ emitted_set
   pub scheduled : cx.scheduled ≡ scheduled_set
   pub handlers : cx.catch_handlers ≡ handler_set
@@ -67,7 +70,7 @@ pub record Shown (words : List ℕ) (emitted_set scheduled_set handler_set scope
   pub jump : p.stage ≡ Visit → Resolves (terminal_at (table_of words) p.block) around cx (aim_of aim)
 
 -- the same at the terminal of a block that is entered
-pub record AtTerminal (words : List ℕ) (scheduled_set handler_set scope_set : Flags) (p : Position) (aim : Aim) (around : Around) (cx : definition.Context) : Type 0 where
+pub record AtTerminal (words : List ℕ) (scheduled_set handler_set scope_set : Flags) (p : Position) (aim : std.Option code.Goal) (around : Around) (cx : definition.Context) : Type 0 where
   pub seen : Seen scheduled_set handler_set p.visits cx
   pub scopes : cx.scope_fallthroughs ≡ scope_set
   pub jump : Resolves (terminal_at (table_of words) p.block) around cx (aim_of aim)
@@ -128,11 +131,11 @@ emitting Values block cx = cx
 emitting Halt block cx = cx
 
 -- the plan, applied, is the machine's step over the frames that are around
-pub record PlannedTurn (words : List ℕ) (around : Around) (On : definition.Context → Type 0) (p : Position) (frame : Frame) (buffer : List ℕ) (plan : Plan) (buffer' : List ℕ) : Type 0 where
+pub record PlannedTurn (words : List ℕ) (around : Around) (On : definition.Context → Type 0) (p : Position) (frame : Frame) (buffer : List ℕ) (outcome : std.Result Plan Refused) (buffer' : List ℕ) : Type 0 where
   pub out : List Row
-  pub held : plan.code ≡ 0 → (before : List Row) → Holds buffer p.rows (pushed before []) → Holds buffer' plan.position.rows (pushed (before ++ out) [])
+  pub held : IfOk outcome (λ plan. (before : List Row) → Holds buffer p.rows (pushed before []) → Holds buffer' plan.position.rows (pushed (before ++ out) []))
   pub same : (frames : List machine.Frame) (before : Output) (cx : definition.Context) → Stands (in_hand p.stage p.depth frame ++ frames) before p.depth p.rows
       → enclosings (table_of words) (in_hand p.stage p.depth frame ++ frames) ≡ around.statements → On cx
       → step around.rule (table_of words) (state_at p.stage p.block (in_hand p.stage p.depth frame ++ frames) before p.count cx)
-      ≡ applied plan (in_hand p.stage p.depth frame ++ frames) (before ⊕ out) (emitting p.stage p.block cx)
-  pub fitting : plan.code ≡ 0 → Fitting (in_hand p.stage p.depth frame) p.depth plan
+      ≡ applied outcome (in_hand p.stage p.depth frame ++ frames) (before ⊕ out) (emitting p.stage p.block cx)
+  pub fitting : IfOk outcome (λ plan. Fitting (in_hand p.stage p.depth frame) p.depth plan)

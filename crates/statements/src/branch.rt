@@ -13,25 +13,24 @@ ghost use Rattle.statements.specs.Resume.{Resuming, PlannedResume};
 use crate::closing::{alternate, close_statement};
 use crate::fallthrough::scheduled_at;
 use crate::jump::visit_break;
-use crate::plan::{
-    Change, Frame, NONE, Plan, Position, frame_of, refuse, second_part, traverse_block,
-};
-use control::around::Aim;
+use crate::plan::{Frame, NONE, Plan, Position, frame_of, refuse, second_part, traverse_block};
+use crate::refusal::{Refusal, Refused};
+use control::around::Goal;
 use table::columns::block_at;
 use table::terminals::{Branch, branch_at};
 use values::rows::{BLOCK, put};
 
 // A Branch whose consequent is scheduled: puts out a break in its place, and then visits the alternate.
-fn branch_break<'a>(
+fn branch_break(
     words: &[u32],
     tree: &mut [u32],
-    scheduled: &'a [bool; 1024],
-    catch_handlers: &'a [bool; 1024],
+    scheduled: &[bool; 1024],
+    catch_handlers: &[bool; 1024],
     scopes: &[bool; 1024],
     p: Position,
     terminal: Branch,
-    aim: Aim,
-) -> Plan
+    aim: Option<Goal>,
+) -> Result<Plan, Refused>
     requires entered { Entered words.now p }
     requires ends { Ends words.now p.block (branch terminal.test terminal.consequent terminal.alternate) }
     requires aim_below { AimBelow aim }
@@ -39,45 +38,41 @@ fn branch_break<'a>(
     ensures { (around : Around) → Planned (terminal_step_in around words.now p) (BranchSeen words.now p scheduled.now catch_handlers.now scopes.now aim around) [] p.depth p.rows tree.old result tree.new }
 {
     let head = block_at(words, p.block);
-    let jump = visit_break(tree, scopes, p, terminal.consequent, head.id, aim);
-    if jump.code != 0 {
-        return refuse(p, jump.code, jump.at);
+    let jumped = match visit_break(tree, scopes, p, terminal.consequent, head.id, aim) {
+        Err(refusal) => return refuse(p, refusal),
+        Ok(jumped) => jumped,
+    };
+    let rows = put(tree, jumped.rows, BLOCK, jumped.count, 0, 0, 0, 0);
+    if scheduled_at(scheduled, catch_handlers, terminal.alternate) {
+        return refuse(p, Refusal::BranchAlternateScheduled(p.block));
     }
-    let rows = put(tree, jump.rows, BLOCK, jump.count, 0, 0, 0, 0);
-    let busy = scheduled_at(scheduled, catch_handlers, terminal.alternate);
-    if busy {
-        return refuse(p, 19, p.block);
-    }
-    let frame = frame_of(p, NONE, 0);
-    let second = second_part(frame);
-    traverse_block(
+    Ok(traverse_block(
         terminal.alternate,
-        second,
+        second_part(frame_of(p, NONE, 0)),
         p.depth + 1,
         rows,
         p.visits,
-        Change::Nothing,
-    )
+        None,
+    ))
 }
 
 // A Branch's consequent, or a break in its place where it is scheduled.
-pub fn visit_branch<'a>(
+pub fn visit_branch(
     words: &[u32],
     tree: &mut [u32],
-    scheduled: &'a [bool; 1024],
-    catch_handlers: &'a [bool; 1024],
+    scheduled: &[bool; 1024],
+    catch_handlers: &[bool; 1024],
     scopes: &[bool; 1024],
     p: Position,
-    aim: Aim,
-) -> Plan
+    aim: Option<Goal>,
+) -> Result<Plan, Refused>
     requires entered { Entered words.now p }
     requires block_value { code_at words.now p.block ≡ 6 }
     requires aim_below { AimBelow aim }
     ensures { (around : Around) → Planned (terminal_step_in around words.now p) (BranchSeen words.now p scheduled.now catch_handlers.now scopes.now aim around) [] p.depth p.rows tree.old result tree.new }
 {
     let terminal = branch_at(words, p.block);
-    let busy = scheduled_at(scheduled, catch_handlers, terminal.consequent);
-    if busy {
+    if scheduled_at(scheduled, catch_handlers, terminal.consequent) {
         return branch_break(
             words,
             tree,
@@ -89,32 +84,31 @@ pub fn visit_branch<'a>(
             aim,
         );
     }
-    let frame = frame_of(p, NONE, 0);
-    traverse_block(
+    Ok(traverse_block(
         terminal.consequent,
-        frame,
+        frame_of(p, NONE, 0),
         p.depth + 1,
         p.rows,
         p.visits,
-        Change::Nothing,
-    )
+        None,
+    ))
 }
 
-pub fn resume_branch<'a>(
+pub fn resume_branch(
     words: &[u32],
     tree: &mut [u32],
-    scheduled: &'a [bool; 1024],
-    catch_handlers: &'a [bool; 1024],
+    scheduled: &[bool; 1024],
+    catch_handlers: &[bool; 1024],
     p: Position,
     frame: Frame,
-) -> Plan
+) -> Result<Plan, Refused>
     requires resuming { Resuming words.now p frame }
     requires block_value { code_at words.now frame.block ≡ 6 }
     ensures { PlannedResume words.now scheduled.now catch_handlers.now p frame tree.old result tree.new }
 {
     let terminal = branch_at(words, frame.block);
     if frame.second {
-        return close_statement(words, tree, p, frame);
+        return Ok(close_statement(words, tree, p, frame));
     }
     alternate(
         scheduled,
@@ -122,7 +116,6 @@ pub fn resume_branch<'a>(
         p,
         frame,
         terminal.alternate,
-        19,
-        frame.block,
+        Refusal::BranchAlternateScheduled(frame.block),
     )
 }

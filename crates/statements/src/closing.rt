@@ -1,8 +1,7 @@
 // The closing row of a statement whose nested lists have ended.
-ghost use Rattle.std.specs.Prelude.{◌≡◌, ◌+◌, ◌<◌, eqb, ◌||◌};
+ghost use Rattle.std.specs.Prelude.{◌≡◌, ◌+◌, ◌<◌, eqb, ◌||◌, Ok};
 ghost use Rattle.table.specs.Words.{block_count};
 ghost use Rattle.table.specs.Promise.{Promise};
-ghost use Rattle.table.specs.Table.{unless_none};
 ghost use Rattle.definition.specs.Context.{has};
 ghost use Rattle.definition.specs.Tree as tree_rows;
 ghost use Rattle.statements.specs.Resume.{row_of, closing_row_at, line_at, alternating, Closing, PlannedClose};
@@ -13,6 +12,7 @@ use crate::plan::{
     Change, Frame, Line, NONE, Plan, Position, leave, pop, refuse, second_part, traverse_block,
     with_counts, with_line,
 };
+use crate::refusal::{Refusal, Refused};
 use table::columns::{block_at, code_at};
 use table::terminals::{branch_at, for_at, if_at, scope_at, switch_at, try_at};
 use values::rows::{DOWHILE, FOR, FORIN, FOROF, IF, LABEL, PRUNED, SCOPE, SWITCH, TRY, WHILE, put};
@@ -30,31 +30,13 @@ pub struct ClosingRow {
 fn row(op: u32, a: u32, b: u32, c: u32, d: u32) -> ClosingRow
     ensures { row_of result ≡ tree_rows.row op a b c d 0 }
 {
-    ClosingRow {
-        op: op,
-        a: a,
-        b: b,
-        c: c,
-        d: d,
-    }
+    ClosingRow { op, a, b, c, d }
 }
 
 fn flag(value: bool) -> u32
     ensures { result ≡ tree_rows.flag_of value }
 {
-    if value {
-        return 1;
-    }
-    0
-}
-
-fn has_update(update: u32) -> u32
-    ensures { result ≡ tree_rows.update_present (unless_none update) }
-{
-    if update == NONE {
-        return 0;
-    }
-    1
+    u32::from(value)
 }
 
 // The closing row of a statement with nested lists. (Other statements have none.)
@@ -82,7 +64,13 @@ fn closing_row(words: &[u32], frame: Frame) -> ClosingRow
         9 => row(WHILE, head.id, frame.label, 0, 0),
         10 => {
             let terminal = for_at(words, frame.block);
-            row(FOR, head.id, frame.label, has_update(terminal.update), 0)
+            row(
+                FOR,
+                head.id,
+                frame.label,
+                flag(terminal.update.is_some()),
+                0,
+            )
         }
         11 => row(FOROF, head.id, frame.label, span.from, span.to),
         12 => row(FORIN, head.id, frame.label, span.from, span.to),
@@ -104,38 +92,37 @@ fn closing_row(words: &[u32], frame: Frame) -> ClosingRow
 }
 
 // Its line (M-101), where the statement has a label: the row of a Scope or a PrunedScope has none.
-fn line_at(words: &[u32], frame: Frame) -> Line
+#[tactic(auto, using(crate::proofs::CloseLaws::unlabelled_line, crate::proofs::CloseLaws::scope_line, crate::proofs::CloseLaws::labelled_line))]
+fn line_at(words: &[u32], frame: Frame) -> Option<Line>
     requires promise { Promise words.now }
     requires block_bound { frame.block < block_count words.now }
     ensures { result ≡ line_at words.now frame }
 {
-    if frame.label == NONE {
-        return Line::Nothing;
+    let is_scope = code_at(words, frame.block) >= 20; // Scope or PrunedScope
+    if is_scope || frame.label == NONE {
+        return None;
     }
-    let code = code_at(words, frame.block);
-    if code == 20 {
-        return Line::Nothing;
-    }
-    if code == 21 {
-        return Line::Nothing;
-    }
-    Line::Put(frame.label, frame.first)
+    Some(Line {
+        label: frame.label,
+        first: frame.first,
+    })
 }
 
 // A statement's entry comes off, if it has one.
-pub fn unschedule_if(entries: u32) -> Change
+pub fn unschedule_if(entries: u32) -> Option<Change>
     ensures { result ≡ unschedule_if (eqb entries 0) }
 {
     if entries == 0 {
-        return Change::Nothing;
+        None
+    } else {
+        Some(Change::Unschedule)
     }
-    Change::Unschedule
 }
 
 // Takes one entry off the stack. With the last one the statement is complete.
 pub fn close_statement(words: &[u32], tree: &mut [u32], p: Position, frame: Frame) -> Plan
     requires { Closing words.now p frame }
-    ensures { PlannedClose words.now p frame tree.old result tree.new }
+    ensures { PlannedClose words.now p frame tree.old (Ok result) tree.new }
 {
     if frame.entries >= 2 {
         let rest = with_counts(frame, frame.entries - 1, frame.left, frame.built);
@@ -156,27 +143,19 @@ pub fn close_statement(words: &[u32], tree: &mut [u32], p: Position, frame: Fram
 }
 
 // Into a second part, which must not be scheduled.
-pub fn alternate<'a>(
-    scheduled: &'a [bool; 1024],
-    catch_handlers: &'a [bool; 1024],
+pub fn alternate(
+    scheduled: &[bool; 1024],
+    catch_handlers: &[bool; 1024],
     p: Position,
     frame: Frame,
     block: u32,
-    code: u32,
-    at: u32,
-) -> Plan
+    refusal: Refusal,
+) -> Result<Plan, Refused>
     requires { block < 1024 }
-    ensures { result ≡ alternating (has scheduled.now block || has catch_handlers.now block) p frame block code at }
+    ensures { result ≡ alternating (has scheduled.now block || has catch_handlers.now block) p frame block refusal }
 {
     if scheduled_at(scheduled, catch_handlers, block) {
-        return refuse(p, code, at);
+        return refuse(p, refusal);
     }
-    traverse_block(
-        block,
-        second_part(frame),
-        p.depth,
-        p.rows,
-        p.visits,
-        Change::Nothing,
-    )
+    Ok(traverse_block(block, second_part(frame), p.depth, p.rows, p.visits, None))
 }

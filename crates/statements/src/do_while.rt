@@ -1,5 +1,5 @@
 // The arm DoWhile.
-ghost use Rattle.std.specs.Prelude.{◌≡◌, ◌-◌, ◌<◌};
+ghost use Rattle.std.specs.Prelude.{◌≡◌, ◌-◌, ◌<◌, Ok};
 ghost use Rattle.table.specs.Words.{code_at};
 ghost use Rattle.statements.specs.Planned.{Entered, PlannedBare};
 ghost use Rattle.statements.specs.declared.plan.Stage.TheVariants.{Ended};
@@ -7,11 +7,11 @@ ghost use Rattle.statements.specs.Resume.{Resuming, PlannedOn};
 
 use crate::closing::close_statement;
 use crate::fallthrough::unless_scheduled;
-use crate::loop_parts::{Loop, schedule_loop};
-use crate::plan::{Frame, NONE, Plan, Position, Stage, advance, refuse};
+use crate::loop_parts::{Loop, refuse_value, schedule_loop, tally_of};
+use crate::plan::{Frame, Plan, Position, Stage, advance};
+use crate::refusal::Refused;
 use table::columns::span_at;
 use table::terminals::do_while_at;
-use values::result::Tally;
 use values::value_walk::visit_value_block;
 
 pub fn visit_do_while<'a>(
@@ -22,35 +22,46 @@ pub fn visit_do_while<'a>(
 ) -> Plan
     requires entered { Entered words.now p }
     requires block_value { code_at words.now p.block ≡ 8 }
-    ensures { PlannedBare words.now scheduled.now catch_handlers.now p result }
+    ensures { PlannedBare words.now scheduled.now catch_handlers.now p (Ok result) }
 {
     let terminal = do_while_at(words, p.block);
     let label = unless_scheduled(scheduled, catch_handlers, terminal.fallthrough);
     let blocks = Loop {
         fallthrough: terminal.fallthrough,
-        label: label,
+        label,
         continue_block: terminal.test,
         loop_block: terminal.loop_block,
     };
     schedule_loop(scheduled, catch_handlers, p, blocks)
 }
 
-pub fn resume_do_while(words: &[u32], tree: &mut [u32], p: Position, frame: Frame) -> Plan
+pub fn resume_do_while(
+    words: &[u32],
+    tree: &mut [u32],
+    p: Position,
+    frame: Frame,
+) -> Result<Plan, Refused>
     requires resuming { Resuming words.now p frame }
     requires block_value { code_at words.now frame.block ≡ 8 }
     ensures { PlannedOn words.now p frame tree.old result tree.new }
 {
     let terminal = do_while_at(words, frame.block);
     let span = span_at(words, frame.block);
-    let tally = Tally {
-        rows: p.rows,
-        visits: p.visits,
-    };
-    let tested = visit_value_block(words, tree, tally, 128 - p.depth, terminal.test, NONE, span);
-    let then = tested.tally;
-    let after = advance(p, p.count, then.rows, then.visits, Stage::Ended);
-    if tested.code != 0 {
-        return refuse(after, tested.code, tested.at);
+    let before = tally_of(p);
+    match visit_value_block(
+        words,
+        tree,
+        before,
+        128 - p.depth,
+        terminal.test,
+        None,
+        span,
+    ) {
+        Ok(tested) => {
+            let then = tested.tally;
+            let after = advance(p, p.count, then.rows, then.visits, Stage::Ended);
+            Ok(close_statement(words, tree, after, frame))
+        }
+        Err(refused) => refuse_value(refused),
     }
-    close_statement(words, tree, after, frame)
 }

@@ -6,14 +6,11 @@ ghost use Rattle.definition.specs.Context.{has};
 ghost use Rattle.statements.specs.Plans.{unless_taken, entries_if, schedule_if, schedule_switch, scheduled_with, enclosing};
 
 use crate::plan::{Change, NONE, Plan, Position, frame_of, refuse, traverse_block};
+use crate::refusal::{Refusal, Refused};
 use control::{ControlFlowTarget, block_id, is_scheduled};
 use table::columns::code_at;
 
-pub fn scheduled_at<'a>(
-    scheduled: &'a [bool; 1024],
-    catch_handlers: &'a [bool; 1024],
-    block: u32,
-) -> bool
+pub fn scheduled_at(scheduled: &[bool; 1024], catch_handlers: &[bool; 1024], block: u32) -> bool
     requires { block < 1024 }
     ensures { result ≡ has scheduled.now block || has catch_handlers.now block }
 {
@@ -23,16 +20,13 @@ pub fn scheduled_at<'a>(
 fn unless_taken(taken: bool, fallthrough: u32) -> u32
     ensures { result ≡ unless_taken taken fallthrough }
 {
-    if taken {
-        return NONE;
-    }
-    fallthrough
+    if taken { NONE } else { fallthrough }
 }
 
 // The fallthrough, if it is taken; NONE where it is scheduled.
-pub fn unless_scheduled<'a>(
-    scheduled: &'a [bool; 1024],
-    catch_handlers: &'a [bool; 1024],
+pub fn unless_scheduled(
+    scheduled: &[bool; 1024],
+    catch_handlers: &[bool; 1024],
     fallthrough: u32,
 ) -> u32
     requires { fallthrough < 1024 }
@@ -44,20 +38,11 @@ pub fn unless_scheduled<'a>(
     )
 }
 
-fn either(first: bool, second: bool) -> bool
-    ensures { result ≡ first || second }
-{
-    if first {
-        return true;
-    }
-    second
-}
-
 // The same for If, Switch, While, Label and Try, which ask first whether it is reachable.
-pub fn unless_unreachable<'a>(
+pub fn unless_unreachable(
     words: &[u32],
-    scheduled: &'a [bool; 1024],
-    catch_handlers: &'a [bool; 1024],
+    scheduled: &[bool; 1024],
+    catch_handlers: &[bool; 1024],
     fallthrough: u32,
 ) -> u32
     requires promise { Promise words.now }
@@ -66,61 +51,63 @@ pub fn unless_unreachable<'a>(
 {
     let unreachable = code_at(words, fallthrough) == 1;
     let taken = scheduled_at(scheduled, catch_handlers, fallthrough);
-    unless_taken(either(unreachable, taken), fallthrough)
+    unless_taken(unreachable || taken, fallthrough)
 }
 
 pub fn entries_of(label: u32) -> u32
     ensures { result ≡ entries_if (eqb label 65535) }
 {
-    if label == NONE {
-        return 0;
-    }
-    1
+    if label == NONE { 0 } else { 1 }
 }
 
 // An If, Label or scope is on the stack only if its fallthrough is taken; a Try too.
-pub fn schedule_if(label: u32) -> Change
+pub fn schedule_if(label: u32) -> Option<Change>
     requires { label ≤ 65535 }
     ensures { result ≡ schedule_if (eqb label 65535) label }
 {
     if label == NONE {
-        return Change::Nothing;
+        return None;
     }
-    Change::Schedule(ControlFlowTarget::If {
+    Some(Change::Schedule(ControlFlowTarget::If {
         block: block_id(label),
-    })
+    }))
 }
 
-pub fn schedule_switch(label: u32) -> Change
+pub fn schedule_switch(label: u32) -> Option<Change>
     requires { label ≤ 65535 }
     ensures { result ≡ schedule_switch (eqb label 65535) label }
 {
     if label == NONE {
-        return Change::Nothing;
+        return None;
     }
-    Change::Schedule(ControlFlowTarget::Switch {
+    Some(Change::Schedule(ControlFlowTarget::Switch {
         block: block_id(label),
-    })
+    }))
 }
 
 // A statement with a label and one nested block that must not be scheduled: If's consequent, Label's and a scope's block.
 // `busy` says whether the block is scheduled before the label is.
-pub fn enclose(busy: bool, p: Position, label: u32, block: u32, code: u32, at: u32) -> Plan
+pub fn enclose(
+    busy: bool,
+    p: Position,
+    label: u32,
+    block: u32,
+    refusal: Refusal,
+) -> Result<Plan, Refused>
     requires label_bound { label ≤ 65535 }
     requires depth_bound { p.depth < 128 }
-    ensures { result ≡ enclosing (scheduled_with busy label block) p label block code at }
+    ensures { result ≡ enclosing (scheduled_with busy label block) p label block refusal }
 {
-    let taken = either(block == label, busy);
-    if taken {
-        return refuse(p, code, at);
+    if block == label || busy {
+        return refuse(p, refusal);
     }
     let frame = frame_of(p, label, entries_of(label));
-    traverse_block(
+    Ok(traverse_block(
         block,
         frame,
         p.depth + 1,
         p.rows,
         p.visits,
         schedule_if(label),
-    )
+    ))
 }

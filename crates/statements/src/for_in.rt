@@ -1,5 +1,5 @@
 // The arm ForIn.
-ghost use Rattle.std.specs.Prelude.{◌≡◌, ◌-◌, ◌<◌};
+ghost use Rattle.std.specs.Prelude.{◌≡◌, ◌-◌, ◌<◌, Ok};
 ghost use Rattle.table.specs.Words.{code_at};
 ghost use Rattle.statements.specs.Planned.{Entered, PlannedBare};
 
@@ -16,13 +16,13 @@ pub fn visit_for_in<'a>(
 ) -> Plan
     requires entered { Entered words.now p }
     requires block_value { code_at words.now p.block ≡ 12 }
-    ensures { PlannedBare words.now scheduled.now catch_handlers.now p result }
+    ensures { PlannedBare words.now scheduled.now catch_handlers.now p (Ok result) }
 {
     let terminal = for_in_at(words, p.block);
     let label = unless_scheduled(scheduled, catch_handlers, terminal.fallthrough);
     let blocks = Loop {
         fallthrough: terminal.fallthrough,
-        label: label,
+        label,
         continue_block: terminal.init,
         loop_block: terminal.loop_block,
     };

@@ -1,31 +1,31 @@
 // The arm For.
-ghost use Rattle.std.specs.Prelude.{◌≡◌, ◌-◌, ◌<◌, eqb};
+ghost use Rattle.std.specs.Prelude.{◌≡◌, ◌-◌, ◌<◌, Ok};
 ghost use Rattle.table.specs.Words.{block_count, code_at};
+ghost use Rattle.table.specs.Columns.{maybe_of};
+ghost use Rattle.table.specs.Promise.{BelowUnlessNone};
 ghost use Rattle.statements.specs.Planned.{Entered, PlannedBare};
-ghost use Rattle.statements.specs.Loops.{for_values, Makes, MakesTested, continues_at};
+ghost use Rattle.statements.specs.Loops.{for_values, Makes, MakesTested};
 
 use crate::fallthrough::unless_scheduled;
-use crate::loop_parts::{Loop, Values, flat_value, no_values, plain_value, schedule_loop};
-use crate::plan::{NONE, Plan, Position};
+use crate::loop_parts::{Loop, flat_value, plain_value, schedule_loop, tally_of};
+use crate::plan::{Plan, Position};
 use table::terminals::for_at;
+use values::refusal::Refused;
+use values::result::Tally;
 
-// A For continues at its update, if it has one.
-fn for_continues_at(test: u32, update: u32) -> u32
-    ensures { result ≡ continues_at (eqb update 65535) test update }
-{
-    if update == NONE {
-        return test;
-    }
-    update
-}
-
-fn init_and_test(words: &[u32], tree: &mut [u32], p: Position, init: u32, test: u32) -> Values
+fn init_and_test(
+    words: &[u32],
+    tree: &mut [u32],
+    p: Position,
+    init: u32,
+    test: u32,
+) -> Result<Tally, Refused>
     requires entered { Entered words.now p }
     requires init_bound { init < block_count words.now }
     requires test_bound { test < block_count words.now }
     ensures { MakesTested words.now p init test tree.old result tree.new }
 {
-    let first = flat_value(words, tree, p, no_values(p), init);
+    let first = flat_value(words, tree, p, tally_of(p), init)?;
     plain_value(words, tree, p, first, test)
 }
 
@@ -35,19 +35,19 @@ pub fn for_values(
     p: Position,
     init: u32,
     test: u32,
-    update: u32,
-) -> Values
+    update: Option<u32>,
+) -> Result<Tally, Refused>
     requires entered { Entered words.now p }
     requires init_bound { init < block_count words.now }
     requires test_bound { test < block_count words.now }
-    requires update_bound { (update ≡ 65535 → ⊥) → update < block_count words.now }
+    requires update_bound { BelowUnlessNone (block_count words.now) (maybe_of update) }
     ensures { Makes p (for_values words.now p init test update) tree.old result tree.new }
 {
-    let tested = init_and_test(words, tree, p, init, test);
-    if update == NONE {
-        return tested;
+    let tested = init_and_test(words, tree, p, init, test)?;
+    match update {
+        None => Ok(tested),
+        Some(update) => plain_value(words, tree, p, tested, update),
     }
-    plain_value(words, tree, p, tested, update)
 }
 
 pub fn visit_for<'a>(
@@ -58,15 +58,15 @@ pub fn visit_for<'a>(
 ) -> Plan
     requires entered { Entered words.now p }
     requires block_value { code_at words.now p.block ≡ 10 }
-    ensures { PlannedBare words.now scheduled.now catch_handlers.now p result }
+    ensures { PlannedBare words.now scheduled.now catch_handlers.now p (Ok result) }
 {
     let terminal = for_at(words, p.block);
-    let continue_block = for_continues_at(terminal.test, terminal.update);
+    let continue_block = terminal.update.unwrap_or(terminal.test);
     let label = unless_scheduled(scheduled, catch_handlers, terminal.fallthrough);
     let blocks = Loop {
         fallthrough: terminal.fallthrough,
-        label: label,
-        continue_block: continue_block,
+        label,
+        continue_block,
         loop_block: terminal.loop_block,
     };
     schedule_loop(scheduled, catch_handlers, p, blocks)

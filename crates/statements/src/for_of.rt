@@ -1,21 +1,29 @@
 // The arm ForOf.
-ghost use Rattle.std.specs.Prelude.{◌≡◌, ◌-◌, ◌<◌};
+ghost use Rattle.std.specs.Prelude.{◌≡◌, ◌-◌, ◌<◌, Ok};
 ghost use Rattle.table.specs.Words.{block_count, code_at};
 ghost use Rattle.statements.specs.Planned.{Entered, PlannedBare};
 ghost use Rattle.statements.specs.Loops.{for_of_values, Makes};
 
 use crate::fallthrough::unless_scheduled;
-use crate::loop_parts::{Loop, Values, flat_value, no_values, schedule_loop};
+use crate::loop_parts::{Loop, flat_value, schedule_loop, tally_of};
 use crate::plan::{Plan, Position};
 use table::terminals::for_of_at;
+use values::refusal::Refused;
+use values::result::Tally;
 
-pub fn for_of_values(words: &[u32], tree: &mut [u32], p: Position, init: u32, test: u32) -> Values
+pub fn for_of_values(
+    words: &[u32],
+    tree: &mut [u32],
+    p: Position,
+    init: u32,
+    test: u32,
+) -> Result<Tally, Refused>
     requires entered { Entered words.now p }
     requires init_bound { init < block_count words.now }
     requires test_bound { test < block_count words.now }
     ensures { Makes p (for_of_values words.now p init test) tree.old result tree.new }
 {
-    let first = flat_value(words, tree, p, no_values(p), init);
+    let first = flat_value(words, tree, p, tally_of(p), init)?;
     flat_value(words, tree, p, first, test)
 }
 
@@ -27,13 +35,13 @@ pub fn visit_for_of<'a>(
 ) -> Plan
     requires entered { Entered words.now p }
     requires block_value { code_at words.now p.block ≡ 11 }
-    ensures { PlannedBare words.now scheduled.now catch_handlers.now p result }
+    ensures { PlannedBare words.now scheduled.now catch_handlers.now p (Ok result) }
 {
     let terminal = for_of_at(words, p.block);
     let label = unless_scheduled(scheduled, catch_handlers, terminal.fallthrough);
     let blocks = Loop {
         fallthrough: terminal.fallthrough,
-        label: label,
+        label,
         continue_block: terminal.init,
         loop_block: terminal.loop_block,
     };

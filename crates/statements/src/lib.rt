@@ -1,6 +1,8 @@
 // The statement walk, a turn at a time: a file for each arm of the Rust's visit_block, in its order; before them what they share, after them the turn.
 #![tactic(auto)]
 
+// What the statement walk refuses.
+pub mod refusal;
 // What a turn of the walk decides: a Plan.
 pub mod plan;
 // Fallthroughs and nested blocks, by the sets: which label a statement has, and whether a block that it would nest is scheduled.

@@ -3,24 +3,17 @@ ghost use Rattle.std.specs.Prelude.{◌≡◌, true, ◌-◌, ◌<◌};
 ghost use Rattle.table.specs.Words.{block_count};
 ghost use Rattle.statements.specs.Planned.{Entered};
 ghost use Rattle.statements.specs.Plans.{unless_taken};
-ghost use Rattle.statements.specs.Loops.{plain_made, flat_made, no_values, values_of, Spent, MakesMore, loop_target, scheduling_loop, loop_taken};
+ghost use Rattle.statements.specs.Loops.{plain_made, flat_made, tally_of, refusing_value, Spent, MakesMore, loop_target, scheduling_loop, loop_taken};
 
 use crate::fallthrough::scheduled_at;
 use crate::plan::{Change, NONE, Plan, Position, frame_of, make_values};
+use crate::refusal;
 use control::{ControlFlowTarget, block_id};
 use table::columns::span_at;
-use values::result::{Tally, ValueResult};
+use values::refusal::Refused;
+use values::result::Tally;
 use values::sequence::value_block_result_to_sequence;
 use values::value_walk::visit_value_block;
-
-// What a loop's values gave: a refusal, or the rows and visits after them.
-#[derive(Clone, Copy)]
-pub struct Values {
-    pub code: u32,
-    pub at: u32,
-    pub rows: u32,
-    pub visits: u32,
-}
 
 // A loop's blocks: its fallthrough, its label, where it continues, and its loop block.
 #[derive(Clone, Copy)]
@@ -31,27 +24,21 @@ pub struct Loop {
     pub loop_block: u32,
 }
 
-fn values_of(res: ValueResult) -> Values
-    ensures { result ≡ values_of res }
+// The rows and visits before a position's values.
+pub fn tally_of(p: Position) -> Tally
+    ensures { result ≡ tally_of p }
 {
-    let tally = res.tally;
-    Values {
-        code: res.code,
-        at: res.at,
-        rows: tally.rows,
-        visits: tally.visits,
-    }
-}
-
-pub fn no_values(p: Position) -> Values
-    ensures { result ≡ no_values p }
-{
-    Values {
-        code: 0,
-        at: 0,
+    Tally {
         rows: p.rows,
         visits: p.visits,
     }
+}
+
+// The walk ends at a value's refusal.
+pub fn refuse_value(refused: Refused) -> Result<Plan, refusal::Refused>
+    ensures { result ≡ refusing_value refused }
+{
+    Err(refusal::Refusal::Value(refused.refusal).after(refused.visits))
 }
 
 // Makes one more value, as it is.
@@ -59,23 +46,17 @@ pub fn plain_value(
     words: &[u32],
     tree: &mut [u32],
     p: Position,
-    before: Values,
+    before: Tally,
     block: u32,
-) -> Values
+) -> Result<Tally, Refused>
     requires entered { Entered words.now p }
     requires block_bound { block < block_count words.now }
-    requires spent { Spent (no_values p) 6 before }
+    requires spent { Spent (tally_of p) 6 before }
     ensures { MakesMore p (plain_made words.now p block) before tree.old result tree.new }
 {
-    if before.code != 0 {
-        return before;
-    }
     let span = span_at(words, p.block);
-    let tally = Tally {
-        rows: before.rows,
-        visits: before.visits,
-    };
-    values_of(visit_value_block(words, tree, tally, 127 - p.depth, block, NONE, span))
+    let value = visit_value_block(words, tree, before, 127 - p.depth, block, None, span)?;
+    Ok(value.tally)
 }
 
 // Makes one more value, flattened: an init, or ForOf's test.
@@ -83,34 +64,21 @@ pub fn flat_value(
     words: &[u32],
     tree: &mut [u32],
     p: Position,
-    before: Values,
+    before: Tally,
     block: u32,
-) -> Values
+) -> Result<Tally, Refused>
     requires entered { Entered words.now p }
     requires block_bound { block < block_count words.now }
-    requires spent { Spent (no_values p) 6 before }
+    requires spent { Spent (tally_of p) 6 before }
     ensures { MakesMore p (flat_made words.now p block) before tree.old result tree.new }
 {
-    if before.code != 0 {
-        return before;
-    }
     let span = span_at(words, p.block);
-    let tally = Tally {
-        rows: before.rows,
-        visits: before.visits,
-    };
-    let result = visit_value_block(words, tree, tally, 127 - p.depth, block, NONE, span);
-    if result.code != 0 {
-        return values_of(result);
-    }
-    let rows = value_block_result_to_sequence(words, tree, result, span);
-    let after = result.tally;
-    Values {
-        code: 0,
-        at: 0,
-        rows: rows,
-        visits: after.visits,
-    }
+    let value = visit_value_block(words, tree, before, 127 - p.depth, block, None, span)?;
+    let rows = value_block_result_to_sequence(words, tree, value, span);
+    Ok(Tally {
+        rows,
+        ..value.tally
+    })
 }
 
 fn loop_target(fallthrough: u32, continue_block: u32, loop_block: u32) -> ControlFlowTarget
@@ -135,10 +103,7 @@ fn loop_is_taken<'a>(
     requires { loop_block < 1024 }
     ensures { result ≡ loop_taken scheduled.now catch_handlers.now loop_block fallthrough }
 {
-    if loop_block == fallthrough {
-        return true;
-    }
-    scheduled_at(scheduled, catch_handlers, loop_block)
+    loop_block == fallthrough || scheduled_at(scheduled, catch_handlers, loop_block)
 }
 
 // The loop's body, NONE where that is taken. The refusal 16 comes only after the values.
@@ -179,6 +144,6 @@ pub fn schedule_loop<'a>(
         p.depth + 1,
         p.rows,
         p.visits,
-        Change::Schedule(target),
+        Some(Change::Schedule(target)),
     )
 }

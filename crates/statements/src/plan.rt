@@ -2,6 +2,7 @@
 ghost use Rattle.std.specs.Prelude.{◌≡◌, eqb};
 ghost use Rattle.statements.specs.Plans.{advanced, going_on, no_frame, open_frame, second, with_counts, refusing, stage_after, leaving, nesting, choosing_next, popping_next, making_next, accepting, with_handler, with_scope, with_line};
 
+use crate::refusal::{Refusal, Refused};
 use control::ControlFlowTarget;
 
 // No block: paper 01's 65,535.
@@ -48,30 +49,27 @@ pub struct Frame {
 // What a turn does to the stack.
 #[derive(Clone, Copy, Drop)]
 pub enum Change {
-    Nothing,
     Schedule(ControlFlowTarget),
     Unschedule,
 }
 
 // A line of the index (M-101): the label and the first row of a statement whose closing row is put out.
 #[derive(Clone, Copy, Drop)]
-pub enum Line {
-    Nothing,
-    Put(u32, u32),
+pub struct Line {
+    pub label: u32,
+    pub first: u32,
 }
 
-// The next position; or a refusal, if `code` is not 0. With `keep` the frame becomes the innermost one. `handler` and `scope` are marked, unless NONE.
+// The next position. With `keep` the frame becomes the innermost one. `handler` and `scope` are marked, unless NONE.
 #[derive(Clone, Copy, Drop)]
 pub struct Plan {
-    pub code: u32,
-    pub at: u32,
     pub position: Position,
     pub frame: Frame,
     pub keep: bool,
     pub handler: u32,
     pub scope: u32,
-    pub change: Change,
-    pub line: Line,
+    pub change: Option<Change>,
+    pub line: Option<Line>,
 }
 
 // Further on in the same block, at the same depth.
@@ -139,51 +137,52 @@ pub fn with_counts(frame: Frame, entries: u32, left: u32, built: u32) -> Frame
 fn go_on(position: Position) -> Plan
     ensures { result ≡ going_on position }
 {
-    let frame = no_frame();
     Plan {
-        code: 0,
-        at: 0,
         position,
-        frame,
+        frame: no_frame(),
         keep: false,
         handler: NONE,
         scope: NONE,
-        change: Change::Nothing,
-        line: Line::Nothing,
+        change: None,
+        line: None,
     }
 }
 
-pub fn refuse(p: Position, code: u32, at: u32) -> Plan
-    ensures { result ≡ refusing p code at }
+// The walk ends here.
+pub fn refuse(p: Position, refusal: Refusal) -> Result<Plan, Refused>
+    ensures { result ≡ refusing p refusal }
 {
-    Plan {
-        code,
-        at,
-        ..go_on(p)
-    }
+    Err(refusal.after(p.visits))
 }
 
 fn stage_after(next: u32) -> Stage
     ensures { result ≡ stage_after (eqb next 65535) }
 {
     if next == NONE {
-        return Stage::Ended;
+        Stage::Ended
+    } else {
+        Stage::Visit
     }
-    Stage::Visit
 }
 
 // On to the block at the same depth, if there is one: else the list has ended.
-pub fn leave(next: u32, depth: u32, count: u32, rows: u32, visits: u32, change: Change) -> Plan
+pub fn leave(
+    next: u32,
+    depth: u32,
+    count: u32,
+    rows: u32,
+    visits: u32,
+    change: Option<Change>,
+) -> Plan
     ensures { result ≡ leaving next depth count rows visits change }
 {
-    let stage = stage_after(next);
     let position = Position {
         block: next,
         depth,
         count,
         rows,
         visits,
-        stage,
+        stage: stage_after(next),
     };
     Plan {
         change,
@@ -198,7 +197,7 @@ pub fn traverse_block(
     depth: u32,
     rows: u32,
     visits: u32,
-    change: Change,
+    change: Option<Change>,
 ) -> Plan
     ensures { result ≡ nesting block frame depth rows visits 65535 65535 change }
 {
@@ -219,7 +218,7 @@ pub fn traverse_block(
 }
 
 // On to the next case of the frame's Switch. The frame becomes the innermost one at that depth.
-pub fn choose(frame: Frame, depth: u32, rows: u32, visits: u32, change: Change) -> Plan
+pub fn choose(frame: Frame, depth: u32, rows: u32, visits: u32, change: Option<Change>) -> Plan
     ensures { result ≡ choosing_next frame depth rows visits change }
 {
     let position = Position {
@@ -253,7 +252,7 @@ pub fn pop(frame: Frame, depth: u32, rows: u32, visits: u32) -> Plan
     Plan {
         frame,
         keep: true,
-        change: Change::Unschedule,
+        change: Some(Change::Unschedule),
         ..go_on(position)
     }
 }
@@ -265,7 +264,7 @@ pub fn make_values(
     depth: u32,
     rows: u32,
     visits: u32,
-    change: Change,
+    change: Option<Change>,
 ) -> Plan
     ensures { result ≡ making_next body frame depth rows visits change }
 {
@@ -312,7 +311,7 @@ pub fn with_scope(plan: Plan, scope: u32) -> Plan
     Plan { scope, ..plan }
 }
 
-pub fn with_line(plan: Plan, line: Line) -> Plan
+pub fn with_line(plan: Plan, line: Option<Line>) -> Plan
     ensures { result ≡ with_line plan line }
 {
     Plan { line, ..plan }

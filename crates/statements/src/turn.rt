@@ -4,30 +4,30 @@ ghost use Rattle.control.specs.AroundAbstraction.{AimBelow};
 ghost use Rattle.statements.specs.Turn.{Ready, Shown, PlannedTurn};
 
 use crate::closing::close_statement;
-use crate::plan::{Frame, Plan, Position, Stage, refuse};
+use crate::plan::{Frame, Plan, Position, Stage};
+use crate::refusal::Refused;
 use crate::resume::resume;
 use crate::second_turn::visit_values;
 use crate::switch::choose_case;
 use crate::visit::visit_block;
-use control::around::Aim;
+use control::around::Goal;
 
-pub fn plan_turn<'a>(
+pub fn plan_turn(
     words: &[u32],
     tree: &mut [u32],
-    emitted: &'a [bool; 1024],
-    scheduled: &'a [bool; 1024],
-    catch_handlers: &'a [bool; 1024],
-    scopes: &'a [bool; 1024],
+    emitted: &[bool; 1024],
+    scheduled: &[bool; 1024],
+    catch_handlers: &[bool; 1024],
+    scopes: &[bool; 1024],
     p: Position,
     frame: Frame,
-    aim: Aim,
-) -> Plan
+    aim: Option<Goal>,
+) -> Result<Plan, Refused>
     requires ready { Ready words.now p frame }
     requires aim_below { AimBelow aim }
     ensures { (around : Around) → PlannedTurn words.now around (Shown words.now emitted.now scheduled.now catch_handlers.now scopes.now p aim around) p frame tree.old result tree.new }
 {
-    let stage = p.stage;
-    match stage {
+    match p.stage {
         Stage::Visit => visit_block(
             words,
             tree,
@@ -40,8 +40,8 @@ pub fn plan_turn<'a>(
         ),
         Stage::Ended => resume(words, tree, scheduled, catch_handlers, p, frame),
         Stage::Choose => choose_case(words, tree, scheduled, catch_handlers, p, frame),
-        Stage::Pop => close_statement(words, tree, p, frame),
+        Stage::Pop => Ok(close_statement(words, tree, p, frame)),
         Stage::Values => visit_values(words, tree, p, frame),
-        Stage::Halt => refuse(p, 99, 0),
+        Stage::Halt => unreachable!(), // the walk has ended
     }
 }

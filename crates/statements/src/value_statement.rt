@@ -1,5 +1,5 @@
 // The arms Optional, Ternary, Logical, Sequence: a value terminal as a statement.
-ghost use Rattle.std.specs.Prelude.{◌≡◌, true, ◌||◌, ◌-◌, ◌<◌};
+ghost use Rattle.std.specs.Prelude.{◌≡◌, true, ◌||◌, ◌-◌, ◌<◌, Ok};
 ghost use Rattle.std.proofs.Math.Option.{some};
 ghost use Rattle.table.specs.Words.{block_count, code_at};
 ghost use Rattle.table.specs.Promise.{Promise};
@@ -9,14 +9,12 @@ ghost use Rattle.statements.specs.Loops.{PlannedValues, Making, value_code, valu
 
 use crate::closing::unschedule_if;
 use crate::fallthrough::{entries_of, schedule_if, unless_scheduled};
-use crate::loop_parts::Values;
-use crate::plan::{
-    Frame, NONE, Plan, Position, Stage, advance, frame_of, leave, make_values, refuse,
-};
+use crate::loop_parts::{refuse_value, tally_of};
+use crate::plan::{Frame, NONE, Plan, Position, frame_of, leave, make_values};
+use crate::refusal::Refused;
 use table::columns::{code_at, span_at};
 use table::terminals::{logical_at, optional_at, sequence_at, ternary_at};
-use values::result::Tally;
-use values::rows::{INSTR, put};
+use values::steps::put_instr;
 use values::value_walk::visit_value_block_terminal;
 
 fn fallthrough_at(words: &[u32], block: u32) -> u32
@@ -30,7 +28,7 @@ fn fallthrough_at(words: &[u32], block: u32) -> u32
         14 => ternary_at(words, block).fallthrough,
         15 => optional_at(words, block).fallthrough,
         17 => sequence_at(words, block).fallthrough,
-        _ => NONE, // no value
+        _ => unreachable!(),
     }
 }
 
@@ -43,7 +41,7 @@ pub fn visit_value<'a>(
 ) -> Plan
     requires entered { Entered words.now p }
     requires block_value { value_code (code_at words.now p.block) ≡ true }
-    ensures { PlannedBare words.now scheduled.now catch_handlers.now p result }
+    ensures { PlannedBare words.now scheduled.now catch_handlers.now p (Ok result) }
 {
     let fallthrough = fallthrough_at(words, p.block);
     let label = unless_scheduled(scheduled, catch_handlers, fallthrough);
@@ -59,57 +57,36 @@ pub fn visit_value<'a>(
 }
 
 // Makes its value, an INSTR with the terminal's own span. Then the statement is complete.
-pub fn make_statement(words: &[u32], tree: &mut [u32], p: Position, frame: Frame) -> Plan
+pub fn make_statement(
+    words: &[u32],
+    tree: &mut [u32],
+    p: Position,
+    frame: Frame,
+) -> Result<Plan, Refused>
     requires making { Making words.now p frame }
     requires block_value { value_code (code_at words.now frame.block) ≡ true }
     ensures { PlannedValues words.now p frame tree.old result tree.new }
 {
     let span = span_at(words, frame.block);
-    let tally = Tally {
-        rows: p.rows,
-        visits: p.visits,
-    };
-    let result = visit_value_block_terminal(words, tree, tally, 128 - p.depth, frame.block);
-    let after = result.tally;
-    if result.code != 0 {
-        let position = advance(p, p.count, after.rows, after.visits, Stage::Values);
-        return refuse(position, result.code, result.at);
+    match visit_value_block_terminal(words, tree, tally_of(p), 128 - p.depth, frame.block) {
+        Ok(value) => {
+            let instr = put_instr(tree, value.tally, value.id, value.place, span);
+            Ok(leave(
+                frame.label,
+                p.depth - 1,
+                frame.count + 1,
+                instr.rows,
+                instr.visits,
+                unschedule_if(frame.entries),
+            ))
+        }
+        Err(refused) => refuse_value(refused),
     }
-    let rows = put(
-        tree,
-        after.rows,
-        INSTR,
-        result.id,
-        result.place,
-        span.from,
-        span.to,
-        0,
-    );
-    leave(
-        frame.label,
-        p.depth - 1,
-        frame.count + 1,
-        rows,
-        after.visits,
-        unschedule_if(frame.entries),
-    )
 }
 
 // Logical, Ternary, Optional or Sequence.
 pub fn is_value(code: u32) -> bool
     ensures { result ≡ value_code code }
 {
-    if code == 13 {
-        return true;
-    }
-    if code == 14 {
-        return true;
-    }
-    if code == 15 {
-        return true;
-    }
-    if code == 17 {
-        return true;
-    }
-    false
+    matches!(code, 13 | 14 | 15 | 17)
 }

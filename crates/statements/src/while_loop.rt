@@ -6,6 +6,7 @@ ghost use Rattle.statements.specs.Planned.{Entered, PlannedBare};
 use crate::fallthrough::unless_unreachable;
 use crate::loop_parts::{Loop, schedule_loop};
 use crate::plan::{Plan, Position, refuse};
+use crate::refusal::{Refusal, Refused};
 use table::columns::code_at;
 use table::terminals::while_at;
 
@@ -14,21 +15,21 @@ pub fn visit_while<'a>(
     scheduled: &'a [bool; 1024],
     catch_handlers: &'a [bool; 1024],
     p: Position,
-) -> Plan
+) -> Result<Plan, Refused>
     requires entered { Entered words.now p }
     requires block_value { code_at words.now p.block ≡ 9 }
     ensures { PlannedBare words.now scheduled.now catch_handlers.now p result }
 {
     let terminal = while_at(words, p.block);
     if code_at(words, terminal.fallthrough) == 0 {
-        return refuse(p, 10, terminal.fallthrough);
+        return refuse(p, Refusal::MissingBlock(terminal.fallthrough));
     }
     let label = unless_unreachable(words, scheduled, catch_handlers, terminal.fallthrough);
     let blocks = Loop {
         fallthrough: terminal.fallthrough,
-        label: label,
+        label,
         continue_block: terminal.test,
         loop_block: terminal.loop_block,
     };
-    schedule_loop(scheduled, catch_handlers, p, blocks)
+    Ok(schedule_loop(scheduled, catch_handlers, p, blocks))
 }

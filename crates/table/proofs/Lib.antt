@@ -8,3 +8,4 @@ pub mod BlockLaws
 pub mod TerminalLaws
 pub mod ColumnLaws
 pub mod NamedLaws
+pub mod RefusalLaws

@@ -2,12 +2,13 @@
 use mathlib.Core.Path.{◌≡◌, refl, sym, subst, ◌∙◌}
 use mathlib.Core.List.{List}
 use mathlib.Core.Bool.{Bool, true, false}
+use mathlib.Core.Option.{Option}
 use Prim.Native.Nat.{ℕ, ◌<◌, ◌≤◌}
 use native.Mathlib.Omega.{arith}
 use lib.Dec.{eqb}
 use borrow.Author.Tests.{eqb-true, eqb-false}
 use Rattle.table.specs.Words.{block_count, place_count, case_count, block_word, code_at}
-use Rattle.table.specs.Table.{Terminal, throw, return, goto, if, branch, switch, do_while, while, for, for_of, for_in, logical, ternary, optional, label}
+use Rattle.table.specs.Table.{Terminal, Variant, throw, return, goto, if, branch, switch, do_while, while, for, for_of, for_in, logical, ternary, optional, label}
 use Rattle.table.specs.Table.{sequence, maybe_throw, try, scope, terminal_of, unless_none, variant_of}
 use Rattle.table.specs.Promise.{Promise, InRange, Ends}
 use Rattle.table.proofs.RangeLaws.{in_range_lem, code_known}
@@ -31,9 +32,9 @@ module _ {ws : List ℕ} {b : ℕ} (p : Promise ws) (inside : b < block_count ws
   unfolding terminal_of
   return_ends code ev = read 3 code (rw ev)
 
-  pub goto_ends : {k w : ℕ} → code_at ws b ≡ 4 → k ≡ column 3 → w ≡ column 4 → Ends ws b (goto k (variant_of w))
+  pub goto_ends : {k w : ℕ} {v : Variant} → code_at ws b ≡ 4 → k ≡ column 3 → w ≡ column 4 → v ≡ variant_of w → Ends ws b (goto k v)
   unfolding terminal_of
-  goto_ends code ek ew = read 4 code (rw (ek, ew))
+  goto_ends code ek ew ev = read 4 code (rw (ev, ek, ew))
 
   pub if_ends : {t c a f : ℕ} → code_at ws b ≡ 5 → t ≡ column 3 → c ≡ column 4 → a ≡ column 5 → f ≡ column 6 → Ends ws b (if t c a f)
   unfolding terminal_of
@@ -55,9 +56,10 @@ module _ {ws : List ℕ} {b : ℕ} (p : Promise ws) (inside : b < block_count ws
   unfolding terminal_of
   while_ends code et el ef = read 9 code (rw (et, el, ef))
 
-  pub for_ends : {i t u l f : ℕ} → code_at ws b ≡ 10 → i ≡ column 3 → t ≡ column 4 → u ≡ column 5 → l ≡ column 6 → f ≡ column 7 → Ends ws b (for i t (unless_none u) l f)
+  pub for_ends : {i t u l f : ℕ} {o : Option ℕ} → code_at ws b ≡ 10 → i ≡ column 3 → t ≡ column 4 → u ≡ column 5 → o ≡ unless_none u → l ≡ column 6 → f ≡ column 7
+      → Ends ws b (for i t o l f)
   unfolding terminal_of
-  for_ends code ei et eu el ef = read 10 code (rw (ei, et, eu, el, ef))
+  for_ends code ei et eu eo el ef = read 10 code (rw (ei, et, eo, eu, el, ef))
 
   pub for_of_ends : {i t l f : ℕ} → code_at ws b ≡ 11 → i ≡ column 3 → t ≡ column 4 → l ≡ column 5 → f ≡ column 6 → Ends ws b (for_of i t l f)
   unfolding terminal_of

@@ -1,31 +1,40 @@
 -- What the check's own answer means, by paper 01's numbers; and the limit that a rule is.
-use Rattle.std.specs.Prelude.{ℕ, suc, ◌-◌, List, [], ◌∷◌, Bool, true, false, cond, leb, eqb, get_or}
+use Rattle.std.specs.Prelude.{ℕ, suc, ◌-◌, List, [], ◌∷◌, Bool, true, false, cond, leb, eqb, get_or, Result, Ok, Err}
 use Rattle.table.specs.Words.{word, largest}
-use Rattle.table.specs.declared.Checked.{Checked}
-use Rattle.table.specs.declared.Checked.TheVariants.{Accepted, WrongLength, CountOverLimit, EntryOutOfRange, BadWord}
+use Rattle.table.specs.declared.Refusal.{Refusal}
+use Rattle.table.specs.declared.Refusal.TheVariants.{WrongLength, CountOverLimit, EntryOutOfRange, BadWord}
 use Rattle.table.specs.Check.{Verdict, accepted, refused, Rule, unused, number, row, row_or_none, rows_from, end_of}
 
 -- "1 under six words, at 0; 2 the first count over its limit, at its word; 1 wrong length, at 0; 3 entry not below the block count, at 0;
 -- 4 first bad word, at it"
-abbrev pub verdict_of : Checked → Verdict
-verdict_of Accepted = accepted
-verdict_of WrongLength = refused 1 0
-verdict_of (CountOverLimit at) = refused 2 at
-verdict_of EntryOutOfRange = refused 3 0
-verdict_of (BadWord at) = refused 4 at
+abbrev pub refusal_code : Refusal → ℕ
+refusal_code WrongLength = 1
+refusal_code (CountOverLimit _) = 2
+refusal_code EntryOutOfRange = 3
+refusal_code (BadWord _) = 4
+
+abbrev pub refusal_place : Refusal → ℕ
+refusal_place WrongLength = 0
+refusal_place (CountOverLimit at) = at
+refusal_place EntryOutOfRange = 0
+refusal_place (BadWord at) = at
+
+abbrev pub verdict_of : Result (Unit {0}) Refusal → Verdict
+verdict_of (Ok _) = accepted
+verdict_of (Err refusal) = refused (refusal_code refusal) (refusal_place refusal)
 
 -- "Code (0 accepted), at": the first two words of the result
 abbrev pub code_of : Verdict → ℕ
 code_of accepted = 0
-code_of (refused code at) = code
+code_of (refused code _) = code
 
 abbrev pub place_of : Verdict → ℕ
 place_of accepted = 0
-place_of (refused code at) = at
+place_of (refused _ at) = at
 
 abbrev pub is_accepted : Verdict → Bool
 is_accepted accepted = true
-is_accepted (refused code at) = false
+is_accepted (refused _ _) = false
 
 -- a word fits its rule where it is below this (proofs/RuleLaws.antt, `fits_limit`)
 abbrev pub limit : Rule → (word : ℕ) → ℕ

@@ -1,5 +1,6 @@
 pub mod Words
 pub mod Table
+pub mod Columns
 pub mod Check
 pub mod Answer
 pub mod Promise

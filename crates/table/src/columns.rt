@@ -121,7 +121,7 @@ pub fn store_local_at(words: &[u32], instruction: u32) -> StoreLocal
     }
 }
 
-// `test` is 65,535 for the default case.
+// `test` is 65,535 for the default case. A number is plainer than an option here: a CASE row only carries it on.
 #[derive(Drop)]
 pub struct Case {
     pub test: u32,

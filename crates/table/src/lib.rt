@@ -7,52 +7,35 @@ pub mod terminals;
 pub mod words;
 
 ghost use Rattle.std.specs.Prelude.{◌≡◌};
-ghost use Rattle.table.specs.Answer.{verdict_of, code_of, place_of, is_accepted};
+ghost use Rattle.table.specs.Answer.{refusal_code, refusal_place};
 
-// What the check finds. Paper 01's code and place of each: `verdict_of` in specs/Answer.antt.
-#[derive(Clone, Copy, Drop)]
-pub enum Checked {
-    Accepted,
+// Why words are no table. Paper 01's code and place of each: specs/Answer.antt.
+#[derive(Clone, Copy, Debug, PartialEq, Eq)]
+pub enum Refusal {
     WrongLength,
     CountOverLimit(u32),
     EntryOutOfRange,
     BadWord(u32),
 }
 
-impl Checked {
-    pub fn is_accepted(self) -> bool
-        ensures { result ≡ is_accepted (verdict_of self) }
-    {
-        match self {
-            Checked::Accepted => true,
-            Checked::WrongLength => false,
-            Checked::CountOverLimit(_) => false,
-            Checked::EntryOutOfRange => false,
-            Checked::BadWord(_) => false,
-        }
-    }
-
+impl Refusal {
     pub fn code(self) -> u32
-        ensures { result ≡ code_of (verdict_of self) }
+        ensures { result ≡ refusal_code self }
     {
         match self {
-            Checked::Accepted => 0,
-            Checked::WrongLength => 1,
-            Checked::CountOverLimit(_) => 2,
-            Checked::EntryOutOfRange => 3,
-            Checked::BadWord(_) => 4,
+            Refusal::WrongLength => 1,
+            Refusal::CountOverLimit(_) => 2,
+            Refusal::EntryOutOfRange => 3,
+            Refusal::BadWord(_) => 4,
         }
     }
 
     pub fn place(self) -> u32
-        ensures { result ≡ place_of (verdict_of self) }
+        ensures { result ≡ refusal_place self }
     {
         match self {
-            Checked::Accepted => 0,
-            Checked::WrongLength => 0,
-            Checked::CountOverLimit(at) => at,
-            Checked::EntryOutOfRange => 0,
-            Checked::BadWord(at) => at,
+            Refusal::CountOverLimit(at) | Refusal::BadWord(at) => at,
+            Refusal::WrongLength | Refusal::EntryOutOfRange => 0,
         }
     }
 }

@@ -1,7 +1,7 @@
 // The blocks that a row names, in the order of M-110's lines, one by one.
 ghost use Rattle.std.specs.Prelude.{◌≡◌, ◌+◌, ◌<◌};
 ghost use Rattle.table.specs.Words.{block_count};
-ghost use Rattle.table.specs.Table.{unless_none};
+ghost use Rattle.table.specs.Columns.{maybe_of};
 ghost use Rattle.table.specs.Promise.{Promise};
 ghost use Rattle.table.specs.Named.{Names, Target, no_case, cases_then, for_names};
 
@@ -45,24 +45,17 @@ fn cases_then(first_case: u32, cases: u32, fallthrough: u32) -> Named
     }
 }
 
-// A For whose update may be none (65,535).
-#[tactic(auto, using(crate::proofs::BlockLaws::no_number))]
+// A For whose update may be none.
 fn for_names(end: For) -> Named
-    ensures { result ≡ for_names end.init end.test (unless_none end.update) end.loop_block end.fallthrough }
+    ensures { result ≡ for_names end.init end.test (maybe_of end.update) end.loop_block end.fallthrough }
 {
-    if end.update == 65535 {
-        return first(4, [end.init, end.test, end.loop_block, end.fallthrough, 0]);
+    match end.update {
+        None => first(4, [end.init, end.test, end.loop_block, end.fallthrough, 0]),
+        Some(update) => first(
+            5,
+            [end.init, end.test, update, end.loop_block, end.fallthrough],
+        ),
     }
-    first(
-        5,
-        [
-            end.init,
-            end.test,
-            end.update,
-            end.loop_block,
-            end.fallthrough,
-        ],
-    )
 }
 
 // An arm for each of the 22 codes, so it is longer than other functions. Each arm reads its terminal and lists the blocks.

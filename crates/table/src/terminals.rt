@@ -3,9 +3,18 @@ ghost use Rattle.std.specs.Prelude.{◌≡◌, ◌<◌, ◌≤◌};
 ghost use Rattle.table.specs.Words.{block_count, code_at};
 ghost use Rattle.table.specs.Table.{throw, return, goto, if, branch, switch, do_while, while, for, for_of, for_in};
 ghost use Rattle.table.specs.Table.{logical, ternary, optional, label, sequence, maybe_throw, try, scope, unless_none, variant_of};
+ghost use Rattle.table.specs.Columns.{goto_variant, maybe_of};
 ghost use Rattle.table.specs.Promise.{Promise, Ends};
 
 use crate::words::block_word;
+
+// A row of a column where 65,535 means none.
+#[tactic(auto, unfolding(crate::specs::Table::unless_none), using(crate::proofs::BlockLaws::some_number))]
+fn unless_none(row: u32) -> Option<u32>
+    ensures { maybe_of result ≡ unless_none row }
+{
+    if row == 65535 { None } else { Some(row) }
+}
 
 #[derive(Drop)]
 pub struct Throw {
@@ -39,22 +48,40 @@ pub fn return_at(words: &[u32], block: u32) -> Return
     }
 }
 
-// `variant` is 0 Break, 1 Continue, 2 Try.
+#[derive(Clone, Copy, Debug, PartialEq, Eq)]
+pub enum GotoVariant {
+    Break,
+    Continue,
+    Try,
+}
+
+// A checked table has no number above 2.
+#[tactic(auto, unfolding(crate::specs::Table::variant_of), using(crate::proofs::BlockLaws::try_variant))]
+fn goto_variant(number: u32) -> GotoVariant
+    ensures { goto_variant result ≡ variant_of number }
+{
+    match number {
+        0 => GotoVariant::Break,
+        1 => GotoVariant::Continue,
+        _ => GotoVariant::Try,
+    }
+}
+
 #[derive(Drop)]
 pub struct Goto {
     pub block: u32,
-    pub variant: u32,
+    pub variant: GotoVariant,
 }
 
 pub fn goto_at(words: &[u32], block: u32) -> Goto
     requires promise { Promise words.now }
     requires block_bound { block < block_count words.now }
     requires block_value { code_at words.now block ≡ 4 }
-    ensures { Ends words.now block (goto result.block (variant_of result.variant)) }
+    ensures { Ends words.now block (goto result.block (goto_variant result.variant)) }
 {
     Goto {
         block: block_word(words, block, 3),
-        variant: block_word(words, block, 4),
+        variant: goto_variant(block_word(words, block, 4)),
     }
 }
 
@@ -163,12 +190,11 @@ pub fn while_at(words: &[u32], block: u32) -> While
     }
 }
 
-// `update` is 65,535 where there is none.
 #[derive(Drop)]
 pub struct For {
     pub init: u32,
     pub test: u32,
-    pub update: u32,
+    pub update: Option<u32>,
     pub loop_block: u32,
     pub fallthrough: u32,
 }
@@ -177,12 +203,12 @@ pub fn for_at(words: &[u32], block: u32) -> For
     requires promise { Promise words.now }
     requires block_bound { block < block_count words.now }
     requires block_value { code_at words.now block ≡ 10 }
-    ensures { Ends words.now block (for result.init result.test (unless_none result.update) result.loop_block result.fallthrough) }
+    ensures { Ends words.now block (for result.init result.test (maybe_of result.update) result.loop_block result.fallthrough) }
 {
     For {
         init: block_word(words, block, 3),
         test: block_word(words, block, 4),
-        update: block_word(words, block, 5),
+        update: unless_none(block_word(words, block, 5)),
         loop_block: block_word(words, block, 6),
         fallthrough: block_word(words, block, 7),
     }
@@ -341,7 +367,7 @@ pub fn maybe_throw_at(words: &[u32], block: u32) -> MaybeThrow
     }
 }
 
-// `binding` is 65,535 where there is none.
+// `binding` is 65,535 where there is none. A number is plainer than an option here: a TRY row only carries it on.
 #[derive(Drop)]
 pub struct Try {
     pub block: u32,

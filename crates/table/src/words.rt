@@ -83,6 +83,7 @@ pub fn words_needed(words: &[u32]) -> u32
     identifiers_begin(words) + identifier_count(words)
 }
 
+// A reader for each table. One for all would be no plainer: it would take the beginning and the width, and ask each caller for a bound on a product.
 pub fn block_word(words: &[u32], row: u32, column: u32) -> u32
     requires sized { Sized words.now }
     requires row_bound { row < block_count words.now }

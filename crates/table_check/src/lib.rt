@@ -4,81 +4,60 @@
 mod blocks;
 pub mod limits;
 mod other_tables;
+mod rows;
 
 ghost use Rattle.std.specs.Prelude.{◌≡◌, ◌≤◌, length};
-ghost use Rattle.table.specs.Check.{checked, limits, words_verdict};
+ghost use Rattle.table.specs.Check.{checked, limits, counts_verdict, words_verdict};
 ghost use Rattle.table.specs.Answer.{verdict_of, code_of, place_of};
 ghost use Rattle.table.specs.Promise.{Sized};
-ghost use Rattle.table_check.specs.Found.{first_over};
 
 use crate::blocks::check_blocks;
-use table::{Checked, words};
+use crate::other_tables::{check_cases, check_identifiers, check_instructions, check_places};
+use table::{Refusal, words};
 
-// The head word of the first count over its limit; 6 where none is.
-#[tactic(auto, using(crate::proofs::CheckLaws::many_blocks))]
-fn count_over_limit(words: &[u32]) -> u32
+// How many rows each table may have, in the order of the head's words.
+const LIMITS: [u32; 5] = [1024, 4096, 1024, 4096, 4096];
+
+// The counts, up to the first over its limit.
+fn check_counts(words: &[u32]) -> Result<(), Refusal>
     requires { 6 ≤ length words.now }
-    ensures { result ≡ first_over words.now 1 limits }
+    ensures { verdict_of result ≡ counts_verdict words.now 1 limits }
 {
-    if words::block_count(words) > 1024 {
-        return 1;
+    for (i, most) in LIMITS.iter().enumerate() {
+        if words[1 + i] > *most {
+            return Err(Refusal::CountOverLimit(1 + i as u32));
+        }
     }
-    if words::instruction_count(words) > 4096 {
-        return 2;
-    }
-    if words::case_count(words) > 1024 {
-        return 3;
-    }
-    if words::place_count(words) > 4096 {
-        return 4;
-    }
-    if words::identifier_count(words) > 4096 {
-        return 5;
-    }
-    6
+    Ok(())
 }
 
 // The tables in their order, up to the first that has a bad word.
-fn check_tables(words: &[u32]) -> Checked
+#[tactic(auto, using(crate::proofs::CheckLaws::goes_on, crate::proofs::CheckLaws::stops), unfolding(table::specs::Check::words_verdict))]
+fn check_tables(words: &[u32]) -> Result<(), Refusal>
     requires { Sized words.now }
     ensures { verdict_of result ≡ words_verdict words.now }
 {
-    let blocks = check_blocks(words);
-    if !blocks.is_accepted() {
-        return blocks;
-    }
-    let instructions = other_tables::check_instructions(words);
-    if !instructions.is_accepted() {
-        return instructions;
-    }
-    let cases = other_tables::check_cases(words);
-    if !cases.is_accepted() {
-        return cases;
-    }
-    let places = other_tables::check_places(words);
-    if !places.is_accepted() {
-        return places;
-    }
-    other_tables::check_identifiers(words)
+    check_blocks(words)?;
+    check_instructions(words)?;
+    check_cases(words)?;
+    check_places(words)?;
+    check_identifiers(words)
 }
 
 // Whether any words are a table that the walk can take: the refusals in paper 01's order.
-pub fn check(words: &[u32]) -> Checked
+pub fn check(words: &[u32]) -> Result<(), Refusal>
     ensures { verdict_of result ≡ checked words.now }
 {
     if words.len() < 6 {
-        return Checked::WrongLength;
+        return Err(Refusal::WrongLength);
     }
-    let over = count_over_limit(words);
-    if over < 6 {
-        return Checked::CountOverLimit(over);
-    }
+    check_counts(words)?;
     let needed = words::words_needed(words) as usize;
     if words.len() != needed {
-        return Checked::WrongLength;
+        return Err(Refusal::WrongLength);
     }
     if words::entry(words) >= words::block_count(words) {
-        return Checked::EntryOutOfRange;
+        return Err(Refusal::EntryOutOfRange);
     }
     check_tables(words)
 }
@@ -87,7 +66,14 @@ pub fn check(words: &[u32]) -> Checked
 pub fn table_check(words: &[u32], at: &mut u32) -> u32
     ensures { (result ≡ code_of (checked words.now)) × (at.new ≡ place_of (checked words.now)) }
 {
-    let checked = check(words);
-    *at = checked.place();
-    checked.code()
+    match check(words) {
+        Ok(()) => {
+            *at = 0;
+            0
+        }
+        Err(refusal) => {
+            *at = refusal.place();
+            refusal.code()
+        }
+    }
 }

@@ -1,8 +1,9 @@
 -- Laws of the answers: from the form to the good files, and that there is one answer.
-use mathlib.Core.Path.{◌≡◌, refl, sym, ap, ap₂, ◌∙◌}
+use mathlib.Core.Path.{◌≡◌, refl, sym, ap, ◌∙◌}
 use mathlib.Core.Bool.{Bool, true, false}
 use mathlib.Core.List.{List, [], ◌∷◌, ◌++◌, append_assoc}
 use mathlib.Core.Logic.{⊎_elim}
+use Rattle.std.specs.Prelude.{Ok, Err}
 use Prim.Native.Nat.{ℕ, ◌+◌, ◌-◌, ◌*◌, ◌≤◌, ◌<◌}
 use native.Mathlib.Omega.{arith}
 use lib.Dec.{ltb}
@@ -15,10 +16,9 @@ use Rattle.text.specs.File.{Good, Viable, Refused}
 use Rattle.text.specs.Lent.{padded}
 use Rattle.text.specs.Form.{whole}
 use Rattle.text.specs.Steps.{Stopped}
-use Rattle.text.specs.Answer.{Refusal, Accepted, Answered}
-use Rattle.text.specs.declared.read.Answer.{Answer}
-use Rattle.text.specs.declared.read.Answer.TheVariants.{Words, NoRoom}
-use Rattle.text.specs.declared.read.Answer.TheVariants as TheVariants
+use Rattle.text.specs.Answer.{Answer, Refusal, Accepted, Fails, Answered, code_of, place_of}
+use Rattle.text.specs.declared.read.ReadError.{ReadError}
+use Rattle.text.specs.declared.read.ReadError.TheVariants.{TooLong, NotInForm, NoRoom}
 use Rattle.text.proofs.DecimalLaws.{decimal_some}
 use Rattle.text.proofs.FormLaws.{good_text, text_good, text_one}
 
@@ -66,25 +66,33 @@ refusal_one f file code code' at at' r s =
     (λ w. ⊎_elim (λ v. absurd (omega (arith, w.1, v.2))) (λ v. (w.0 ∙ sym v.0, refused_one f file at at' w.2 v.2)) s)
     r
 
+module _ (f : Layout) (file : List ℕ) (room : ℕ) where
+  -- a file that is accepted and has so many words does not fail
+  accepted_fails : (error : ReadError) (words : List ℕ) → Accepted f file words → length words ≤ room → Fails f file room error → ⊥
+  accepted_fails TooLong words a p h = refusal_accepted f file words 51 0 h a
+  accepted_fails (NotInForm at) words a p h = refusal_accepted f file words 50 at h a
+  accepted_fails NoRoom words a p h = omega (arith, p, h.2, ap (λ (w : List ℕ). length w) (good_one f file h.0 words h.1.good a.good))
+
+  -- a reading fails for one reason
+  fails_one : (a b : ReadError) → Fails f file room a → Fails f file room b → a ≡ b
+  fails_one TooLong TooLong h g = refl
+  fails_one TooLong (NotInForm at) h g = absurd (omega (arith, (refusal_one f file 51 50 0 at h g).0))
+  fails_one TooLong NoRoom h g = absurd (refusal_accepted f file g.0 51 0 h g.1)
+  fails_one (NotInForm at) TooLong h g = absurd (omega (arith, (refusal_one f file 50 51 at 0 h g).0))
+  fails_one (NotInForm at) (NotInForm at') h g = ap NotInForm (refusal_one f file 50 50 at at' h g).1
+  fails_one (NotInForm at) NoRoom h g = absurd (refusal_accepted f file g.0 50 at h g.1)
+  fails_one NoRoom TooLong h g = absurd (refusal_accepted f file h.0 51 0 g h.1)
+  fails_one NoRoom (NotInForm at) h g = absurd (refusal_accepted f file h.0 50 at g h.1)
+  fails_one NoRoom NoRoom h g = refl
+
 -- a reading has one answer, and leaves one content in the lent words
 pub answered_one : (f : Layout) (file : List ℕ) (room : ℕ) (l m : List ℕ) (a b : Answer) → Answered f file room l a → Answered f file room m b → (a ≡ b) × (l ≡ m)
-answered_one f file room l m (Words n) (Words k) h g =
+answered_one f file room l m (Ok n) (Ok k) h g =
     let e = good_one f file h.0 g.0 h.1.good g.1.good in
-    (ap Words (sym h.2 ∙ ap (λ (w : List ℕ). length w) e ∙ g.2), h.4 ∙ ap (λ (w : List ℕ). padded room w) e ∙ sym g.4)
-answered_one f file room l m (Words n) (TheVariants.Refused code at) h g = absurd (refusal_accepted f file h.0 code at g.0 h.1)
-answered_one f file room l m (Words n) NoRoom h g =
-    let e = ap (λ (w : List ℕ). length w) (good_one f file h.0 g.0 h.1.good g.1.good) in
-    absurd (omega (arith, h.2, h.3, g.2))
-answered_one f file room l m (TheVariants.Refused code at) (Words n) h g = absurd (refusal_accepted f file g.0 code at h.0 g.1)
-answered_one f file room l m (TheVariants.Refused code at) (TheVariants.Refused code' at') h g =
-    let e = refusal_one f file code code' at at' h.0 g.0 in
-    (ap₂ (λ (x y : ℕ). TheVariants.Refused x y) e.0 e.1, h.1 ∙ sym g.1)
-answered_one f file room l m (TheVariants.Refused code at) NoRoom h g = absurd (refusal_accepted f file g.0 code at h.0 g.1)
-answered_one f file room l m NoRoom (Words n) h g =
-    let e = ap (λ (w : List ℕ). length w) (good_one f file h.0 g.0 h.1.good g.1.good) in
-    absurd (omega (arith, g.2, g.3, h.2))
-answered_one f file room l m NoRoom (TheVariants.Refused code at) h g = absurd (refusal_accepted f file h.0 code at g.0 h.1)
-answered_one f file room l m NoRoom NoRoom h g = (refl, h.3 ∙ sym g.3)
+    (ap Ok (sym h.2 ∙ ap (λ (w : List ℕ). length w) e ∙ g.2), h.4 ∙ ap (λ (w : List ℕ). padded room w) e ∙ sym g.4)
+answered_one f file room l m (Ok n) (Err error) h g = absurd (accepted_fails f file room error h.0 h.1 (omega (arith, h.2, h.3)) g.0)
+answered_one f file room l m (Err error) (Ok n) h g = absurd (accepted_fails f file room error g.0 g.1 (omega (arith, g.2, g.3)) h.0)
+answered_one f file room l m (Err error) (Err error') h g = (ap Err (fails_one f file room error error' h.0 g.0), h.1 ∙ sym g.1)
 
 -- ---- room
 
@@ -112,5 +120,9 @@ good_room f file words g =
       lines_room t.identifiers,
     )))
 
-pub room_enough : (f : Layout) (file lent : List ℕ) (room : ℕ) → 16384 ≤ room → Answered f file room lent NoRoom → ⊥
-room_enough f file lent room p h = omega (arith, good_room f file h.0 h.1.good, h.1.short, h.2)
+-- so a reading into so many fails by a refusal alone, which has the error's number and place
+pub room_enough : (f : Layout) (file lent : List ℕ) (room : ℕ) (error : ReadError) → 16384 ≤ room → Answered f file room lent (Err error)
+    → Refusal f file (code_of error) (place_of error)
+room_enough f file lent room TooLong p h = h.0
+room_enough f file lent room (NotInForm at) p h = h.0
+room_enough f file lent room NoRoom p h = absurd (omega (arith, good_room f file h.0.0 h.0.1.good, h.0.1.short, h.0.2))

@@ -1,14 +1,14 @@
 -- Laws of a lent buffer.
 use mathlib.Core.Path.{◌≡◌, refl, sym, ap, ◌∙◌}
-use mathlib.Core.List.{List, [], ◌∷◌, ◌++◌, append-nil, append_assoc}
+use mathlib.Core.List.{List, [], ◌∷◌, ◌++◌}
 use mathlib.Core.Bool.{Bool, true, false}
 use Prim.Native.Nat.{ℕ, suc, ◌+◌, ◌-◌, ◌≤◌, ◌<◌}
 use native.Mathlib.Omega.{arith}
 use native.Mathlib.Nat.{sub-zero}
 use native.Mathlib.Numerals.{add-one}
 use lib.Dec.{ltb}
-use lib.ListN.{length, take, set, replicate, length-append, length-replicate, length-set, replicate-append-replicate}
-use lib.Seq.{length-take-le, take_all, take-length, take-suc-set, take-append-le, take-append_seam, take-take, set_out}
+use lib.ListN.{length, take, set, replicate, length-append, length-replicate, length-set}
+use lib.Seq.{length-take-le, take_all, take-suc-set, take-append-le, take-append_seam, take-take, set_out}
 use borrow.Author.Tests.{ltb-true, ltb-false}
 use Rattle.text.specs.Lent.{Holds, padded}
 
@@ -58,34 +58,6 @@ pub holds_all : (b : List ℕ) (n : ℕ) (items : List ℕ) → Holds b n items 
 holds_all b n items h p = h.held ∙ take_all (length b) items (omega (arith, h.counted))
 
 -- ---- clearing a buffer from an index on
-
--- the places from `from` up to i are cleared
-pub record Cleared (b₀ : List ℕ) (from : ℕ) (b : List ℕ) (i : ℕ) : Type 0 where
-  pub least : from ≤ i
-  pub most : i ≤ length b
-  pub long : length b ≡ length b₀
-  pub front : take i b ≡ take from b₀ ++ replicate (i - from) 0
-
-pub cleared_none : (b : List ℕ) (from : ℕ) → from ≤ length b → Cleared b from b from
-cleared_none b from p =
-    let e : from - from ≡ 0 = omega arith in
-    record { least = omega arith; most = p; long = refl; front = rw e (sym (append-nil (take from b))) }
-
-pub cleared_more : (b₀ b : List ℕ) (from i : ℕ) → Cleared b₀ from b i → i < length b → Cleared b₀ from (set b i 0) (i + 1)
-cleared_more b₀ b from i h p =
-    let e : i + 1 - from ≡ i - from + 1 = omega (arith, h.least) in
-    record {
-      least = omega (arith, h.least);
-      most = simp length-set (omega arith);
-      long = simp length-set h.long;
-      front = rw (e, add-one i) (take-suc-set b i 0 p ∙ rw (h.front, append_assoc, replicate-append-replicate {A = ℕ} (i - from) 1 0));
-    }
-
-pub cleared_all : (b₀ b : List ℕ) (from i : ℕ) → Cleared b₀ from b i → length b ≤ i → b ≡ take from b₀ ++ replicate (length b₀ - from) 0
-cleared_all b₀ b from i h p =
-    let e : i ≡ length b = omega (arith, h.most) in
-    let f = h.long in
-    rw (← f, ← e) (sym (rw e (take-length b)) ∙ h.front)
 
 -- a buffer that is cleared whole
 pub cleared_zeros : (b₀ b : List ℕ) (room : ℕ) → length b₀ ≡ room → b ≡ take 0 b₀ ++ replicate (length b₀ - 0) 0 → b ≡ replicate room 0

@@ -7,6 +7,7 @@ pub mod FormLaws
 pub mod PartLaws
 pub mod AnswerLaws
 pub mod ReadingLaws
+pub mod NumberLaws
 pub mod ReadingSamples
 pub mod WriteLaws
 pub mod PrintsLaws

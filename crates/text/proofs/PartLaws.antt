@@ -1,7 +1,7 @@
 -- Laws of reading a part of the file.
-use mathlib.Core.Path.{◌≡◌, refl, sym, subst, ◌∙◌}
-use mathlib.Core.Bool.{true, false}
-use mathlib.Core.List.{List, [], ◌∷◌, ◌++◌, append-nil, append_assoc}
+use mathlib.Core.Path.{◌≡◌, sym, subst, ◌∙◌}
+use mathlib.Core.List.{List, [], ◌∷◌, ◌++◌, append_assoc}
+use Rattle.std.specs.Prelude.{Result, Ok, Err}
 use Prim.Native.Nat.{ℕ, zero, suc, ◌+◌, ◌-◌, ◌≤◌, ◌<◌}
 use native.Mathlib.Omega.{arith}
 use native.Mathlib.Numerals.{add-one}
@@ -12,12 +12,12 @@ use borrow.Author.Tests.{eq-eqb, ne_eqb}
 use Rattle.text.specs.Lent.{Holds}
 use Rattle.text.specs.Layout.{layout}
 use Rattle.text.specs.Form.{Form, byte, field, literal, row, rows, tables, whole, finished, is_zero}
-use Rattle.text.specs.Steps.{Reached, Stopped, At, NamesRead, PartRead, RowEnd, RowRead, HeadRead, cursor_at, cursor_refused}
+use Rattle.text.specs.Steps.{Reached, Stopped, At, NamesEnd, NamesRead, PartEnd, PartRead, RowRead, HeadRead}
 use Rattle.text.specs.declared.parts.Cursor.{Cursor}
 use Rattle.text.specs.declared.version.Version.{Version}
 use Rattle.text.specs.declared.version.Version.TheVariants.{New}
 use Rattle.text.proofs.LentLaws.{holds_none}
-use Rattle.text.proofs.StepLaws.{reached_none, byte_taken, byte_other, byte_missing, true_false, false_true}
+use Rattle.text.proofs.StepLaws.{reached_none, byte_taken, byte_other, byte_missing}
 
 -- ---- a line of names
 
@@ -69,80 +69,29 @@ pub rows_done : (width count i : ℕ) (next : Form) → count ≤ i → rows wid
 unfolding rows
 rows_done width count i next p = let e : count - i ≡ 0 = omega arith in rw e
 
--- ---- answers
-
-pub names_refused : {file names : List ℕ} {c r : Cursor} {at : ℕ} → r ≡ cursor_refused at → at ≤ length file
-    → ((root : Form) (words : List ℕ) (next : Form) → Reached root file c.at words (literal names next) → Stopped root file at) → NamesRead file names c r
-names_refused e p f = rw e (record {
-  near = record { within = p; few = omega arith };
-  stopped = λ root words next h g. f root words next h;
-  reached = λ root words next h g. absurd (true_false g);
-  count = λ g. absurd (true_false g);
-})
-
-pub names_at : {file names : List ℕ} {c r : Cursor} {at : ℕ} → r ≡ cursor_at at c.count → at ≤ length file → c.count ≤ at
-    → ((root : Form) (words : List ℕ) (next : Form) → Reached root file c.at words (literal names next) → Reached root file at words next) → NamesRead file names c r
-names_at e p q f = rw e (record {
-  near = record { within = p; few = q };
-  stopped = λ root words next h g. absurd (false_true g);
-  reached = λ root words next h g. f root words next h;
-  count = λ g. refl;
-})
+-- ---- one part after another
 
 -- a line of names is a part that has no words
-pub names_part : {file names : List ℕ} {c r : Cursor} (b : List ℕ) → NamesRead file names c r → PartRead file (literal names) c b r b
-names_part b h = record {
-  near = h.near;
-  stopped = λ root words next a g. h.stopped root words next a.reached g;
-  reached = λ root words next a g. ([], rw (append-nil words) (record { reached = h.reached root words next a.reached g; holds = rw (h.count g) a.holds }));
+pub names_then : {file names : List ℕ} {start at : ℕ} (count : ℕ) (second : Form → Form) (s : Result Cursor ℕ) (b b' : List ℕ) → NamesEnd file names start at
+    → PartRead file second (record { at = at; count = count }) b s b' → PartRead file (λ next. literal names (second next)) (record { at = start; count = count }) b s b'
+names_then count second (Ok r) b b' h k = record {
+  near = k.near;
+  reached = λ root words next a. k.reached root words next (record { reached = h.reached root words _ a.reached; holds = a.holds });
 }
+names_then count second (Err stop) b b' h k = λ root words next a. k root words next (record { reached = h.reached root words _ a.reached; holds = a.holds })
 
-module _ {file : List ℕ} {part : Form → Form} {c r : Cursor} {b b' : List ℕ} where
-  pub part_at : {at count : ℕ} → r ≡ cursor_at at count → at ≤ length file → count ≤ at
-      → ((root : Form) (words : List ℕ) (next : Form) → At root file b c.at c.count words (part next)
-      → (new : List ℕ) × At root file b' at count (words ++ new) next) → PartRead file part c b r b'
-  part_at e p q f = rw e (record {
-    near = record { within = p; few = q };
-    stopped = λ root words next h g. absurd (false_true g);
-    reached = λ root words next h g. f root words next h;
-  })
-
-pub row_refused : {file : List ℕ} {c r : Cursor} {b b' : List ℕ} {width at : ℕ} → r ≡ cursor_refused at → at ≤ length file
-    → ((root : Form) (words : List ℕ) (next : List ℕ → Form) → At root file b c.at c.count words (row width [] next) → Stopped root file at) → RowRead file width c b r b'
-row_refused e p f = rw e (record {
-  near = record { within = p; few = omega arith };
-  stopped = λ root words next h g. f root words next h;
-  reached = λ root words next h g. absurd (true_false g);
-})
-
-pub row_at : {file : List ℕ} {c r : Cursor} {b b' : List ℕ} {width at count : ℕ} → r ≡ cursor_at at count → at ≤ length file → count ≤ at
-    → ((root : Form) (words : List ℕ) (next : List ℕ → Form) → At root file b c.at c.count words (row width [] next)
-    → RowEnd root file width words next (cursor_at at count) b') → RowRead file width c b r b'
-row_at e p q f = rw e (record {
-  near = record { within = p; few = q };
-  stopped = λ root words next h g. absurd (false_true g);
-  reached = λ root words next h g. f root words next h;
-})
-
--- two parts, the second where the first ended
-module _ {file : List ℕ} {first second : Form → Form} {c r : Cursor} {b b' b'' : List ℕ} where
-  pub part_then : {s : Cursor} → PartRead file first c b r b' → r.refused ≡ false → PartRead file second r b' s b'' → PartRead file (λ next. first (second next)) c b s b''
-  part_then h g k = record {
+module _ {file : List ℕ} {first : Form → Form} {c : Cursor} {b b' : List ℕ} where
+  -- two parts, the second where the first ended
+  pub part_then : {r : Cursor} (second : Form → Form) (s : Result Cursor ℕ) (b'' : List ℕ) → PartEnd file first c b r b' → PartRead file second r b' s b''
+      → PartRead file (λ next. first (second next)) c b s b''
+  part_then second (Ok end) b'' h k = record {
     near = k.near;
-    stopped = λ root words next a. let (new, a') = h.reached root words (second next) a g in k.stopped root (words ++ new) next a';
-    reached = λ root words next a e.
-        let (new, a') = h.reached root words (second next) a g in
-        let (more, a'') = k.reached root (words ++ new) next a' e in
+    reached = λ root words next a.
+        let (new, a') = h.reached root words (second next) a in
+        let (more, a'') = k.reached root (words ++ new) next a' in
         (new ++ more, rw (append_assoc words new more) at a'');
   }
-
-  -- the first was refused
-  pub part_stops : PartRead file first c b r b' → r.refused ≡ true → PartRead file (λ next. first (second next)) c b r b''
-  part_stops h g = record {
-    near = h.near;
-    stopped = λ root words next a e. h.stopped root words (second next) a e;
-    reached = λ root words next a e. absurd (true_false (sym g ∙ e));
-  }
+  part_then second (Err stop) b'' h k = λ root words next a. let (new, a') = h.reached root words (second next) a in k root (words ++ new) next a'
 
 -- ---- the head
 
@@ -167,25 +116,24 @@ six_words {root} {file} {at} {count} next head numbers p q a =
     sym (take_all (length head) numbers (omega arith)) ∙ sym (rw six at H.held) ∙ take_all 6 head (omega arith) in
     subst (λ (l : List ℕ). At root file head at count l (next l)) same a
 
-module _ {file : List ℕ} {n : Cursor} (h : NamesRead file head_names (cursor_at 0 0) n) where
-  pub head_names_lem : (head : List ℕ) → n.refused ≡ true → HeadRead file n head
-  head_names_lem head g = record {
-    near = h.near;
-    stopped = λ version e. h.stopped _ [] (headed version) (begun version file) e;
-    reached = λ version e. absurd (true_false (sym g ∙ e));
-  }
+pub head_stops : {file : List ℕ} (stop : ℕ) → NamesRead file head_names 0 (Err stop) → (version : Version) → Stopped (whole (layout version)) file stop
+head_stops {file} stop h version = h _ [] (headed version) (begun version file)
 
-  pub head_row : {r : Cursor} {head head' : List ℕ} → n.refused ≡ false → length head' ≡ 6 → RowRead file 6 n head r head' → HeadRead file r head'
-  head_row {r} {head} {head'} g p k =
-      let a : (version : Version) → At (whole (layout version)) file head n.at n.count [] (headed version) = λ version.
-      record { reached = h.reached _ [] (headed version) (begun version file) g; holds = rw (h.count g) (holds_none head) } in
-      record {
-        near = k.near;
-        stopped = λ version e. k.stopped _ [] (λ l. tables (layout version) l finished) (a version) e;
-        reached = λ version e.
-            let w = k.reached _ [] (λ l. tables (layout version) l finished) (a version) e in
-            six_words (λ l. tables (layout version) l finished) head' w.numbers p w.long w.at;
-      }
+pub head_row : {file : List ℕ} {at : ℕ} (r : Result Cursor ℕ) (head head' : List ℕ) → NamesEnd file head_names 0 at → length head' ≡ 6
+    → RowRead file 6 (record { at = at; count = 0 }) head r head' → HeadRead file r head'
+head_row {file} {at} r head head' h p = by r
+  where
+    named : (version : Version) → At (whole (layout version)) file head at 0 [] (headed version)
+    named version = record { reached = h.reached _ [] (headed version) (begun version file); holds = holds_none head }
+
+    by : (r : Result Cursor ℕ) → RowRead file 6 (record { at = at; count = 0 }) head r head' → HeadRead file r head'
+    by (Ok end) k = record {
+      near = k.near;
+      reached = λ version.
+          let w = k.reached _ [] (λ l. tables (layout version) l finished) (named version) in
+          six_words (λ l. tables (layout version) l finished) head' w.numbers p w.long w.at;
+    }
+    by (Err stop) k = λ version. k _ [] (λ l. tables (layout version) l finished) (named version)
 
 -- the same words in another buffer
 pub stored_too : {root : Form} {file buffer : List ℕ} {at count : ℕ} {words : List ℕ} {next : Form} (buffer' : List ℕ) → At root file buffer at count words next → Holds buffer' (length words) words

@@ -1,4 +1,5 @@
 -- From the text in the buffer to the answer of the entry that wrote it.
+use Rattle.std.specs.Prelude.{Ok, Err}
 use Prim.Native.Nat.{ℕ, ◌-◌, ◌≤◌, ◌<◌}
 use native.Mathlib.Omega.{arith}
 use mathlib.Core.Path.{◌≡◌, refl, sym, ap, ◌∙◌}
@@ -10,39 +11,53 @@ use lib.Seq.{take_at}
 use lib.ListN.{length, take, replicate}
 use borrow.Author.Tests.{leb-true, le-leb, lt-leb, eq-eqb, ne_eqb}
 use Rattle.text.specs.Lent.{Holds, padded}
-use Rattle.text.specs.Printed.{printed, written_of, lent_of}
-use Rattle.text.specs.Placed.{Placing, refusal, placed, printed_placing, Holding}
+use Rattle.text.specs.Printed.{printed, Written, written_of, lent_of}
+use Rattle.text.specs.Placed.{Placing, refusal, placed, placing, finished, printed_placing, Holding}
 use Rattle.text.specs.Prints.{WrittenText}
-use Rattle.text.specs.declared.write.Written.{Written}
-use Rattle.text.specs.declared.write.Written.TheVariants.{Bytes}
 use Rattle.text.proofs.LentLaws.{cleared_zeros, cleared_padded}
 
 abbrev made : (code at length : ℕ) → List ℕ → Placing
 made code at length buffer = record { code = code; at = at; length = length; buffer = buffer }
 
--- "A refusal leaves zeros."
-pub refused_placing : (code at : ℕ) (buffer buffer' : List ℕ) → buffer' ≡ take 0 buffer ++ replicate (length buffer - 0) 0
-    → record { code = code; at = at; length = 0; buffer = buffer' } ≡ refusal code at (length buffer)
-unfolding refusal
-refused_placing code at buffer buffer' e = ap (made code at 0) (cleared_zeros buffer buffer' (length buffer) refl e)
+-- the text up to its end, then zeros; or it does not fit
+pub finished_text : {E : Type 0} (code_of place_of : E → ℕ) (short : E) (buffer body : List ℕ) (end : ℕ) → place_of short ≡ 0 → Holds buffer end body
+    → finished code_of place_of short (Ok end) buffer ≡ placed (code_of short) (length buffer) body
+unfolding finished placed
+finished_text code_of place_of short buffer body end none h = by (leb end (length buffer)) refl
+  where
+    over : Placing
+    over = refusal (code_of short) 0 (length buffer)
 
-module _ (short : ℕ) (buffer body : List ℕ) (end : ℕ) (h : Holds buffer end body) where
-  abbrev placed_by : Bool → Placing
-  placed_by fits = elim fits [ true ↦ made 0 0 (length body) (padded (length buffer) body) | false ↦ refusal short 0 (length buffer) ]
+    by : (fits : Bool) → leb end (length buffer) ≡ fits
+        → ◌≡◌ {A = Placing}
+        (elim fits [ true ↦ made 0 0 end (take end buffer ++ replicate (length buffer - end) 0) | false ↦ refusal (code_of short) (place_of short) (length buffer) ])
+        (elim (leb (length body) (length buffer)) [ true ↦ made 0 0 (length body) (padded (length buffer) body) | false ↦ over ])
+    by true e =
+        let p = leb-true end (length buffer) e in
+        let held : made 0 0 end (take end buffer ++ replicate (length buffer - end) 0) ≡ made 0 0 (length body) (padded (length buffer) body) =
+        rw (cleared_padded buffer _ body end (length buffer) refl h p refl) (ap (λ (n : ℕ). made 0 0 n (padded (length buffer) body)) (sym h.counted)) in
+        rw (h.counted, e) held
+    by false e = rw (h.counted, e, none)
 
-  -- the text does not fit
-  pub over_placed : (d : Placing) → length buffer < end → d ≡ refusal short 0 (length buffer) → d ≡ placed short (length buffer) body
-  unfolding placed
-  over_placed d p e = e ∙ ap placed_by (sym (lt-leb (length body) (length buffer) (omega (arith, h.counted))))
+-- the answer that stands in the code, and what it leaves in the bytes
+module _ {E : Type 0} (code_of place_of : E → ℕ) (short : E) (buffer : List ℕ) where
+  abbrev kept : ℕ → List ℕ
+  kept end = take end buffer ++ replicate (length buffer - end) 0
 
-  -- the text, then zeros
-  pub fits_placed : (buffer' : List ℕ) → end ≤ length buffer → buffer' ≡ take end buffer ++ replicate (length buffer - end) 0
-      → record { code = 0; at = 0; length = end; buffer = buffer' } ≡ placed short (length buffer) body
-  unfolding placed
-  fits_placed buffer' p e =
-      let zeros = cleared_padded buffer buffer' body end (length buffer) refl h p e in
-      let same : made 0 0 end buffer' ≡ made 0 0 (length body) (padded (length buffer) body) = rw (zeros, ← h.counted) in
-      same ∙ ap placed_by (sym (le-leb (length body) (length buffer) (omega (arith, h.counted))))
+  zeros : kept 0 ≡ replicate (length buffer) 0
+  zeros = cleared_zeros buffer (kept 0) (length buffer) refl refl
+
+  pub finished_over : {end : ℕ} {buffer' : List ℕ} → length buffer < end → buffer' ≡ kept 0 → placing code_of place_of (Err short) buffer' ≡ finished code_of place_of short (Ok end) buffer
+  unfolding finished refusal
+  finished_over {end} p e = rw (lt-leb end (length buffer) p, finished) (ap (made (code_of short) (place_of short) 0) (e ∙ zeros))
+
+  pub finished_fits : {end : ℕ} {buffer' : List ℕ} → end ≤ length buffer → buffer' ≡ kept end → placing code_of place_of (Ok end) buffer' ≡ finished code_of place_of short (Ok end) buffer
+  unfolding finished
+  finished_fits {end} p e = rw (le-leb end (length buffer) p, finished) (ap (made 0 0 end) e)
+
+  pub finished_error : (error : E) {buffer' : List ℕ} → buffer' ≡ kept 0 → placing code_of place_of (Err error) buffer' ≡ finished code_of place_of short (Err error) buffer
+  unfolding finished refusal
+  finished_error error e = ap (made (code_of error) (place_of error) 0) (e ∙ zeros)
 
 -- where there is room
 pub placed_fits : (short lent : ℕ) (text : List ℕ) → length text ≤ lent
@@ -70,9 +85,9 @@ pub refusal_printing : (d : Placing) {lent : ℕ} {r : Written} {out : List ℕ}
 unfolding printed_placing
 refusal_printing d some h = rw (ne_eqb d.code 0 some) h
 
-pub text_printing : (lent : ℕ) (d : Placing) → d.code ≡ 0 → Holding lent d → WrittenText 77 (printed_placing d) lent (Bytes d.length) d.buffer
+pub text_printing : (lent : ℕ) (d : Placing) → d.code ≡ 0 → Holding lent d → WrittenText 77 (printed_placing d) lent (Ok d.length) d.buffer
 unfolding printed_placing written_of lent_of
 text_printing lent d none h =
     let text : take d.length d.buffer ≡ h.text = rw h.held (take_at h.text _ d.length h.long) in
     let room = le-leb (length h.text) lent h.fits in
-    rw (eq-eqb d.code 0 none, text) (record { answer = rw room (ap Bytes (sym h.long)); bytes = rw room h.held; enough = λ _. ap Bytes (sym h.long) })
+    rw (eq-eqb d.code 0 none, text) (record { answer = rw room (ap Ok (sym h.long)); bytes = rw room h.held; enough = λ _. ap Ok (sym h.long) })

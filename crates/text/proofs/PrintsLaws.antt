@@ -3,19 +3,18 @@
 use mathlib.Core.Path.{◌≡◌, refl, sym, ap, ap₂, ◌∙◌}
 use mathlib.Core.List.{List, []}
 use mathlib.Core.Logic.{⊎_elim, inl, inr}
+use Rattle.std.specs.Prelude.{Ok, Err}
 use Prim.Native.Nat.{ℕ, zero, suc, ◌^◌, ◌≤◌, ◌<◌}
 use native.Mathlib.Omega.{arith}
 use lib.ListN.{length, take, length-append, length-replicate}
 use lib.Seq.{take_at}
 use Rattle.text.specs.Layout.{Layout}
-use Rattle.text.specs.Answer.{Refusal, Answered}
-use Rattle.text.specs.Printed.{printed, tree_lines, written_of, lent_of}
+use Rattle.text.specs.Answer.{Refusal, Answered, code_of, place_of}
+use Rattle.text.specs.Printed.{printed, tree_lines, Written, written_of, lent_of}
 use Rattle.text.specs.Prints.{printing, file_text, PrintsWords, PrintsRefusal, Prints, WrittenText}
 use Rattle.text.specs.Reading.{Reading, reads, refuses, reading}
-use Rattle.text.specs.declared.read.Answer.TheVariants.{Words}
-use Rattle.text.specs.declared.read.Answer.TheVariants as read
-use Rattle.text.specs.declared.write.Written.{Written}
-use Rattle.text.specs.declared.write.Written.TheVariants.{Bytes}
+use Rattle.text.specs.declared.read.ReadError.{ReadError}
+use Rattle.text.specs.declared.read.ReadError.TheVariants.{TooLong, NotInForm, NoRoom}
 use Rattle.text.proofs.AnswerLaws.{good_one, refusal_accepted, refusal_one, room_enough}
 use Rattle.text.proofs.ReadingLaws.{Says, reading_says, accepted_reads, refusal_refuses}
 use Rattle.text.proofs.WriteLaws.{written_fits}
@@ -23,15 +22,21 @@ use Rattle.text.proofs.WriteLaws.{written_fits}
 -- ---- what was read
 
 -- the words that were read stand in the buffer
-pub words_within : (f : Layout) (file lent : List ℕ) (room count : ℕ) → Answered f file room lent (Words count) → count ≤ length lent
+pub words_within : (f : Layout) (file lent : List ℕ) (room count : ℕ) → Answered f file room lent (Ok count) → count ≤ length lent
 words_within f file lent room count h = rw h.4 (simp (length-append, length-replicate) (omega (arith, h.2, h.3)))
 
-pub words_read : (f : Layout) (file lent : List ℕ) (room count : ℕ) (h : Answered f file room lent (Words count)) → take count lent ≡ h.0
+pub words_read : (f : Layout) (file lent : List ℕ) (room count : ℕ) (h : Answered f file room lent (Ok count)) → take count lent ≡ h.0
 words_read f file lent room count h = rw h.4 (take_at h.0 _ count h.2)
 
 -- 50 or 51
 pub refusal_some : {f : Layout} {file : List ℕ} {code at : ℕ} → Refusal f file code at → code ≡ 0 → ⊥
 refusal_some h e = ⊎_elim (λ w. omega (arith, w.0, e)) (λ w. omega (arith, w.0, e)) h
+
+-- 50, 51 or 54
+pub error_some : (error : ReadError) → code_of error ≡ 0 → ⊥
+error_some TooLong e = omega (arith, e)
+error_some (NotInForm at) e = omega (arith, e)
+error_some NoRoom e = omega (arith, e)
 
 -- ---- what is printed
 
@@ -46,20 +51,20 @@ pub written_as : {most most' room : ℕ} {r : Written} {lent text text' : List �
 written_as {room = room} e p h = record {
   answer = h.answer ∙ ap (written_of room) e;
   bytes = h.bytes ∙ ap (lent_of room) e;
-  enough = λ q. h.enough (omega (arith, p, q)) ∙ ap (λ (text : List ℕ). Bytes (length text)) e;
+  enough = λ q. h.enough (omega (arith, p, q)) ∙ ap (λ (text : List ℕ). Ok (length text)) e;
 }
 
 pub refusal_written : (code at : ℕ) (tree : List ℕ) {room : ℕ} {r : Written} {lent : List ℕ} → (code ≡ 0 → ⊥) → code < 2 ^ 32 → at < 2 ^ 32
     → r ≡ written_of room (printed code at 0 0 tree) → lent ≡ lent_of room (printed code at 0 0 tree) → WrittenText 77 (printed code at 0 0 []) room r lent
 refusal_written code at tree {room} some p q answer bytes =
     let same = refusal_lines code at 0 0 tree [] some in
-    let fits : 77 ≤ room → written_of room (printed code at 0 0 []) ≡ Bytes (length (printed code at 0 0 [])) =
+    let fits : 77 ≤ room → written_of room (printed code at 0 0 []) ≡ Ok (length (printed code at 0 0 [])) =
     λ long. written_fits room code at 0 0 [] (p, (q, (omega arith, (omega arith, tt)))) (λ i. omega arith) (omega (arith, long)) in
     record { answer = answer ∙ ap (written_of room) same; bytes = bytes ∙ ap (lent_of room) same; enough = λ long. answer ∙ ap (written_of room) same ∙ fits long }
 
 -- what was written of a text is what `printing` gives, in answer and bytes, and so many bytes are enough
 abbrev pub AsPrinted : (most : ℕ) → (text : List ℕ) → (room : ℕ) → Written → List ℕ → Type 0
-AsPrinted most text room r lent = (record { answer = r; bytes = lent } ≡ printing room text) × (most ≤ room → r ≡ Bytes (length text))
+AsPrinted most text room r lent = (record { answer = r; bytes = lent } ≡ printing room text) × (most ≤ room → r ≡ Ok (length text))
 
 pub as_printed : {most room : ℕ} {r : Written} {lent text text' : List ℕ} → text' ≡ text → WrittenText most text room r lent → AsPrinted most text' room r lent
 as_printed {room = room} e h = (
@@ -68,18 +73,20 @@ as_printed {room = room} e h = (
 )
 
 module _ (f : Layout) (of : List ℕ → List ℕ) (other : (code at : ℕ) → List ℕ) (most : ℕ) (file out : List ℕ) (space : ℕ) (r : Written) where
-  pub words_printed : (lent : List ℕ) (room count : ℕ) → Answered f file room lent (Words count) → WrittenText most (of (take count lent)) space r out
+  pub words_printed : (lent : List ℕ) (room count : ℕ) → Answered f file room lent (Ok count) → WrittenText most (of (take count lent)) space r out
       → AsPrinted most (file_text of other (reading f file)) space r out
   unfolding file_text
   words_printed lent room count h written =
       as_printed (rw (accepted_reads f file h.0 h.1) (ap of (sym (words_read f file lent room count h)))) written
 
-  pub refusal_printed : (code at : ℕ) → Refusal f file code at → WrittenText most (other code at) space r out → AsPrinted most (file_text of other (reading f file)) space r out
+  refusal_printed : (code at : ℕ) → Refusal f file code at → WrittenText most (other code at) space r out → AsPrinted most (file_text of other (reading f file)) space r out
   unfolding file_text
   refusal_printed code at h written = as_printed (rw (refusal_refuses f file code at h) refl) written
 
-  pub never_short : (lent : List ℕ) (room : ℕ) → 16384 ≤ room → Answered f file room lent read.NoRoom → AsPrinted most (file_text of other (reading f file)) space r out
-  never_short lent room p h = absurd (room_enough f file lent room p h)
+  -- into so many words, a reading fails by a refusal alone
+  pub error_printed : (lent : List ℕ) (room : ℕ) (error : ReadError) → 16384 ≤ room → Answered f file room lent (Err error)
+      → WrittenText most (other (code_of error) (place_of error)) space r out → AsPrinted most (file_text of other (reading f file)) space r out
+  error_printed lent room error p h = refusal_printed (code_of error) (place_of error) (room_enough f file lent room error p h)
 
 -- ---- the text with no reader in it
 

@@ -3,24 +3,26 @@ use mathlib.Core.Path.{◌≡◌, refl, sym, ap, ap₂, subst, ◌∙◌}
 use mathlib.Core.Bool.{Bool, true, false, ◌&&◌}
 use mathlib.Core.List.{List, [], ◌∷◌, ◌++◌}
 use mathlib.Core.Logic.{inl, inr, ⊎_elim}
+use Rattle.std.specs.Prelude.{Ok, Err}
+use Rattle.std.specs.Result.{result_unwrap_or}
 use Prim.Native.Nat.{ℕ, suc, ◌+◌, ◌-◌, ◌*◌, ◌^◌, ◌≤◌, ◌<◌}
 use native.Mathlib.Omega.{arith}
 use native.Mathlib.Numerals.{add-one}
 use lib.Dec.{eqb, leb, ltb}
-use lib.ListN.{length, drop, get_or, length-drop, replicate}
+use lib.ListN.{length, take, drop, get_or, length-drop, replicate}
 use lib.Seq.{drop-cons}
-use borrow.Author.Tests.{eqb-true, eqb-false, leb-true, leb-false, ltb-true, ltb-false, le-leb, lt-leb}
+use borrow.Author.Tests.{eqb-true, eqb-false, leb-true, leb-false, ltb-true, ltb-false}
 use Rattle.text.specs.Layout.{Layout}
 use Rattle.text.specs.Form.{Form, finished, byte, field, digits, ending, whole, Text}
-use Rattle.text.specs.Steps.{Reached, Stopped}
-use Rattle.text.specs.Answer.{Accepted, Refusal, Answered}
+use Rattle.text.specs.Steps.{Reached, Stopped, WordsStored}
+use Rattle.text.specs.Answer.{Answer, Accepted, Refusal, Answered, code_of, place_of}
 use Rattle.text.specs.Lent.{padded}
-use Rattle.text.specs.Reading.{Reading, reads, refuses, Next, on, stuck, is_digit, may_follow, next_of, ended, read_from, reading, WordsRead, read_into}
-use Rattle.text.specs.declared.read.Answer.{Answer}
-use Rattle.text.specs.declared.read.Answer.TheVariants as answer
+use Rattle.text.specs.Reading.{Reading, reads, refuses, Next, on, stuck, is_digit, may_follow, next_of, ended, read_from, reading, WordsRead, error_of, read_into}
+use Rattle.text.specs.declared.read.ReadError.TheVariants.{NoRoom}
 use Rattle.text.proofs.StepLaws.{Step, advance, halt, halt_short, reached_none, finished_good, ending_low, true_false}
 use Rattle.text.proofs.FormLaws.{text_good}
-use Rattle.text.proofs.AnswerLaws.{stopped_refused, good_one, refusal_one, refusal_accepted}
+use Rattle.text.proofs.AnswerLaws.{stopped_refused, good_one, refusal_one, refusal_accepted, answered_one}
+use Rattle.text.proofs.LentLaws.{cleared_zeros, cleared_padded}
 
 -- ---- tests
 
@@ -28,11 +30,11 @@ and_true : (a b : Bool) → a && b ≡ true → (a ≡ true) × (b ≡ true)
 and_true true b e = (refl, e)
 and_true false b e = absurd (true_false (sym e))
 
-digit_is : (c : ℕ) → is_digit c ≡ true → (48 ≤ c) × (c ≤ 57)
+pub digit_is : (c : ℕ) → is_digit c ≡ true → (48 ≤ c) × (c ≤ 57)
 unfolding is_digit
 digit_is c e = let (low, high) = and_true (leb 48 c) (leb c 57) e in (leb-true 48 c low, leb-true c 57 high)
 
-no_digit : (c : ℕ) → is_digit c ≡ false → (d : ℕ) → d < 10 → c ≡ 48 + d → ⊥
+pub no_digit : (c : ℕ) → is_digit c ≡ false → (d : ℕ) → d < 10 → c ≡ 48 + d → ⊥
 unfolding is_digit
 no_digit c e d p q = by (leb 48 c) refl (leb c 57) refl e
   where
@@ -41,7 +43,7 @@ no_digit c e d p q = by (leb 48 c) refl (leb c 57) refl e
     by true f false g e = omega (arith, leb-false c 57 g)
     by false f b g e = omega (arith, leb-false 48 c f)
 
-follows_is : (v c : ℕ) → may_follow v c ≡ true → (48 ≤ c) × (c ≤ 57) × (0 < v) × (v * 10 + (c - 48) < 2 ^ 32)
+pub follows_is : (v c : ℕ) → may_follow v c ≡ true → (48 ≤ c) × (c ≤ 57) × (0 < v) × (v * 10 + (c - 48) < 2 ^ 32)
 unfolding may_follow
 follows_is v c e =
     let (digit, more) = and_true (is_digit c) _ e in
@@ -49,7 +51,7 @@ follows_is v c e =
     let shown = digit_is c digit in
     (shown.0, shown.1, ltb-true 0 v led, ltb-true _ 4294967296 fits)
 
-no_follower : (v c : ℕ) → may_follow v c ≡ false → (d : ℕ) → d < 10 → c ≡ 48 + d → 0 < v → v * 10 + d < 2 ^ 32 → ⊥
+pub no_follower : (v c : ℕ) → may_follow v c ≡ false → (d : ℕ) → d < 10 → c ≡ 48 + d → 0 < v → v * 10 + d < 2 ^ 32 → ⊥
 unfolding may_follow
 no_follower v c e d p q r s = by (is_digit c) refl (ltb 0 v) refl (ltb (v * 10 + (c - 48)) 4294967296) refl e
   where
@@ -200,32 +202,11 @@ refusal_refuses f file code at r = says_one f file (reading f file) (refuses cod
 
 -- ---- the answer, and the lent words
 
-fits_into : (room : ℕ) (words : List ℕ) → length words ≤ room → read_into room (reads words) ≡ record { answer = answer.Words (length words); lent = padded room words }
-unfolding read_into
-fits_into room words p = rw (le-leb (length words) room p, read_into)
+-- the error of a refusal has its number and its place
+pub error_numbers : {f : Layout} {file : List ℕ} {code at : ℕ} → Refusal f file code at → (code_of (error_of code at) ≡ code) × (place_of (error_of code at) ≡ at)
+error_numbers {code = code} {at = at} h = ⊎_elim (λ w. rw w.0 (refl, sym w.1)) (λ w. rw w.0 (refl, refl)) h
 
-over_into : (room : ℕ) (words : List ℕ) → room < length words → read_into room (reads words) ≡ record { answer = answer.NoRoom; lent = replicate room 0 }
-unfolding read_into
-over_into room words p = rw (lt-leb (length words) room p, read_into)
-
-module _ (f : Layout) (file : List ℕ) (room : ℕ) (lent : List ℕ) where
-  abbrev Reads : Answer → Type 0
-  Reads a = record { answer = a; lent = lent } ≡ read_into room (reading f file)
-
-  -- each answer that `Answered` allows is what the file reads as
-  pub refused_read : (code at : ℕ) → Refusal f file code at → lent ≡ replicate room 0 → Reads (answer.Refused code at)
-  unfolding read_into
-  refused_read code at h e = rw (refusal_refuses f file code at h, e) refl
-
-  pub short_read : (words : List ℕ) → Accepted f file words → room < length words → lent ≡ replicate room 0 → Reads answer.NoRoom
-  short_read words a p e = rw (accepted_reads f file words a, over_into room words p, e) refl
-
-  pub words_read_into : (words : List ℕ) (count : ℕ) → Accepted f file words → length words ≡ count → count ≤ room → lent ≡ padded room words → Reads (answer.Words count)
-  words_read_into words count a l p e =
-      let fits : length words ≤ room = omega arith in
-      rw (accepted_reads f file words a, fits_into room words fits, e, l) refl
-
--- and what the file reads as is allowed: `Answered` says it with no reader
+-- what the file reads as is allowed: `Answered` says it with no reader
 module _ (f : Layout) (file : List ℕ) (room : ℕ) where
   abbrev Allowed : WordsRead → Type 0
   Allowed w = Answered f file room w.lent w.answer
@@ -236,12 +217,27 @@ module _ (f : Layout) (file : List ℕ) (room : ℕ) where
     where
       by : (fits : Bool) → leb (length words) room ≡ fits
           → Allowed (elim fits [
-            | true ↦ record { answer = answer.Words (length words); lent = padded room words }
-            | false ↦ record { answer = answer.NoRoom; lent = replicate room 0 }
+            | true ↦ record { answer = Ok (length words); lent = padded room words }
+            | false ↦ record { answer = Err NoRoom; lent = replicate room 0 }
           ])
       by true e = (words, s, refl, leb-true (length words) room e, refl)
-      by false e = (words, s, omega (arith, leb-false (length words) room e), refl)
-  allowed (refuses code at) s = (s, refl)
+      by false e = ((words, s, omega (arith, leb-false (length words) room e)), refl)
+  allowed (refuses code at) s = ⊎_elim (λ w. rw w.0 (inl (refl, refl, w.2), refl)) (λ w. rw w.0 (inr (refl, w.1, w.2), refl)) s
 
   pub is_answered : {a : Answer} {lent : List ℕ} → record { answer = a; lent = lent } ≡ read_into room (reading f file) → Answered f file room lent a
   is_answered e = subst Allowed (sym e) (allowed (reading f file) (reading_says f file))
+
+  -- and nothing else is
+  pub answered_read : {a : Answer} {lent : List ℕ} → Answered f file room lent a → record { answer = a; lent = lent } ≡ read_into room (reading f file)
+  answered_read {a} {lent} h =
+      let read = read_into room (reading f file) in
+      let same = answered_one f file room lent read.lent a read.answer h (allowed (reading f file) (reading_says f file)) in
+      ap₂ (λ (answer : Answer) (lent : List ℕ). record { answer = answer; lent = lent }) same.0 same.1
+
+-- ---- the words stored, and the rest cleared
+
+pub stored_answered : (f : Layout) (file : List ℕ) (room from : ℕ) (answer : Answer) (stored lent : List ℕ) → WordsStored f file answer stored → length stored ≡ room
+    → from ≡ result_unwrap_or answer 0 → lent ≡ take from stored ++ replicate (length stored - from) 0 → Answered f file room lent answer
+stored_answered f file room from (Ok count) stored lent (words, good, holds, fits) e k cleared =
+    (words, good, holds.counted, omega (arith, e, fits), cleared_padded stored lent words count room e holds fits (rw k at cleared))
+stored_answered f file room from (Err error) stored lent h e k cleared = (rw e at h, cleared_zeros stored lent room e (rw k at cleared))

@@ -3,14 +3,13 @@ use mathlib.Core.Path.{◌≡◌, refl, sym, ap, subst, ◌∙◌}
 use mathlib.Core.Bool.{Bool, true, false}
 use mathlib.Core.List.{List, [], ◌∷◌, ◌++◌, append-nil, append_assoc}
 use mathlib.Core.Logic.{inl, inr, ⊎_elim}
-use Prim.Native.Nat.{ℕ, suc, ◌+◌, ◌*◌, ◌^◌, ◌≤◌, ◌<◌}
+use Prim.Native.Nat.{ℕ, suc, ◌+◌, ◌*◌, ◌^◌, ◌<◌}
 use native.Mathlib.Omega.{arith}
 use native.Mathlib.Numerals.{add-one}
 use lib.ListN.{length, take, drop, get_or}
 use lib.Seq.{take-suc, take-length, split_at, append_snoc}
 use Rattle.text.specs.Form.{Form, finished, byte, field, digits, ending, Text}
-use Rattle.text.specs.Steps.{Reached, Stopped, NumberRead, number_refused}
-use Rattle.text.specs.declared.number.Number.{Number}
+use Rattle.text.specs.Steps.{Reached, Stopped}
 
 -- at first all of the file is to come
 pub reached_none : {root : Form} (file : List ℕ) → Reached root file 0 [] root
@@ -176,12 +175,3 @@ true_false e = let z : ◌≡◌ {A = ℕ} 0 1 = cc in omega arith
 
 pub false_true : false ≡ true → ⊥
 false_true e = true_false (sym e)
-
-pub number_refused_lem : {file : List ℕ} {start : ℕ} {last : Bool} {r : Number} {at : ℕ} → r ≡ number_refused at → at ≤ length file
-    → ((root : Form) (words : List ℕ) (next : ℕ → Form) → Reached root file start words (field last next) → Stopped root file at) → NumberRead file start last r
-number_refused_lem e p f = rw e (record {
-  within = p;
-  long = λ g. absurd (true_false g);
-  stopped = λ root words next h g. f root words next h;
-  reached = λ root words next h g. absurd (true_false g);
-})

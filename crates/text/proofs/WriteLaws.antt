@@ -2,6 +2,7 @@
 use mathlib.Core.Path.{◌≡◌, refl, sym, ap, ◌∙◌}
 use mathlib.Core.Bool.{Bool, true, false}
 use mathlib.Core.List.{List, [], ◌∷◌, ◌++◌, append-nil, append_assoc}
+use Rattle.std.specs.Prelude.{Ok, Err}
 use Prim.Native.Nat.{ℕ, zero, suc, ◌+◌, ◌-◌, ◌*◌, ◌/◌, ◌^◌, ◌≤◌, ◌<◌}
 use native.Mathlib.Omega.{arith}
 use native.Mathlib.Nat.{add-zero}
@@ -9,16 +10,15 @@ use native.Mathlib.Numerals.{add-one}
 use lib.Dec.{eqb, leb}
 use borrow.Author.Tests.{le-leb, lt-leb, leb-true}
 use lib.ListN.{length, take, drop, get_or, set, replicate, length-append, length-take, length-drop, drop_of_length-le}
-use lib.Seq.{drop-cons, drop-drop, get_or-drop, take-nil}
+use lib.Seq.{drop-cons, get_or-drop, take-nil}
+use Rattle.std.proofs.lemmas.List.{take_at, drop_at}
 use Rattle.text.specs.Decimal.{choose, decimal}
 use Rattle.text.specs.Line.{after, line, lines}
 use Rattle.text.specs.Form.{ending}
 use Rattle.text.specs.Lent.{Holds}
-use Rattle.text.specs.Printed.{result_names, tree_names, rows_of, tree_lines, printed, written_of, lent_of, Wrote, Held, WroteSome}
+use Rattle.text.specs.Printed.{result_names, tree_names, rows_of, tree_lines, printed, Written, no_room, written_of, lent_of, Wrote, Held, WroteSome}
 use Rattle.text.specs.File.{Words}
-use Rattle.text.specs.declared.write.Written.{Written}
-use Rattle.text.specs.declared.write.Written.TheVariants.{Bytes, NoRoom}
-use Rattle.text.proofs.LentLaws.{holds_put, holds_some, cleared_zeros, cleared_padded}
+use Rattle.text.proofs.LentLaws.{holds_put, holds_some, cleared_padded}
 use Rattle.text.proofs.DecimalLaws.{decimal_ten}
 use Rattle.text.proofs.FormLaws.{after_ending}
 use Rattle.text.proofs.PartLaws.{last_number}
@@ -80,19 +80,19 @@ rows_split : (count : ℕ) (words : List ℕ) → lines (rows_of (suc count) wor
 unfolding rows_of lines
 rows_split count words = refl
 
-pub tree_done : (rows i : ℕ) (words : List ℕ) → rows ≤ i → lines (rows_of (rows - i) words) ≡ []
+-- no row is left
+pub tree_done : (words : List ℕ) → length words < 6 → lines (rows_of (length words / 6) words) ≡ []
 unfolding rows_of lines
-tree_done rows i words p = let e : rows - i ≡ 0 = omega arith in rw e
+tree_done words p = let e : length words / 6 ≡ 0 = omega arith in rw e
 
 -- one row more of a tree
-pub tree_more : (tree text all : List ℕ) (rows i : ℕ) → i < rows → text ++ lines (rows_of (rows - i) (drop (i * 6) tree)) ≡ all
-    → (text ++ line (take 6 (drop (i * 6) tree))) ++ lines (rows_of (rows - (i + 1)) (drop ((i + 1) * 6) tree)) ≡ all
-tree_more tree text all rows i p h =
-    let e : rows - i ≡ suc (rows - (i + 1)) = omega arith in
-    let f : (i + 1) * 6 ≡ i * 6 + 6 = omega arith in
-    append_assoc text (line (take 6 (drop (i * 6) tree))) (lines (rows_of (rows - (i + 1)) (drop ((i + 1) * 6) tree)))
-    ∙ ap (λ (l : List ℕ). text ++ l) (rw (f, ← (drop-drop 6 (i * 6) tree)) (sym (rows_split (rows - (i + 1)) (drop (i * 6) tree))))
-    ∙ rw e at h
+pub tree_more : (text row rest all : List ℕ) → length row ≡ 6 → text ++ lines (rows_of (length (row ++ rest) / 6) (row ++ rest)) ≡ all
+    → (text ++ line row) ++ lines (rows_of (length rest / 6) rest) ≡ all
+tree_more text row rest all p h =
+    let e : length (row ++ rest) / 6 ≡ suc (length rest / 6) = omega (arith, length-append row rest) in
+    let opened : lines (rows_of (length (row ++ rest) / 6) (row ++ rest)) ≡ line row ++ lines (rows_of (length rest / 6) rest) =
+    rw e (rows_split (length rest / 6) (row ++ rest) ∙ rw (take_at row rest 6 p, drop_at row rest 6 p)) in
+    append_assoc text (line row) (lines (rows_of (length rest / 6) rest)) ∙ rw opened at h
 
 -- so much was written
 pub wrote_part : {b b' : List ℕ} {start end : ℕ} (text rest all : List ℕ) → Wrote b start text b' end → text ++ rest ≡ all → (end ≤ length b' → rest ≡ []) → WroteSome b start all b' end
@@ -133,13 +133,13 @@ module _ {text b : List ℕ} {end : ℕ} (h : Held text b end) where
   over : length b < end → length b < length text
   over p = omega (arith, h.holds.counted, ap (λ (l : List ℕ). length l) h.split ∙ length-append h.held h.rest)
 
-  pub over_answer : length b < end → NoRoom ≡ written_of (length b) text
+  pub over_answer : length b < end → no_room ≡ written_of (length b) text
   unfolding written_of
   over_answer p = rw (lt-leb (length text) (length b) (over p))
 
-  pub over_lent : {b' : List ℕ} → length b < end → b' ≡ take 0 b ++ replicate (length b - 0) 0 → b' ≡ lent_of (length b) text
+  pub over_lent : {b' : List ℕ} → length b < end → b' ≡ replicate (length b) 0 → b' ≡ lent_of (length b) text
   unfolding lent_of
-  over_lent {b'} p e = rw (lt-leb (length text) (length b) (over p)) (cleared_zeros b b' (length b) refl e)
+  over_lent {b'} p e = rw (lt-leb (length text) (length b) (over p)) e
 
   module _ (p : end ≤ length b) where
     -- all of it is there
@@ -151,9 +151,9 @@ module _ {text b : List ℕ} {end : ℕ} (h : Held text b end) where
     within : leb (length text) (length b) ≡ true
     within = le-leb (length text) (length b) (omega (arith, all_held.counted))
 
-    pub fits_answer : Bytes end ≡ written_of (length b) text
+    pub fits_answer : Ok end ≡ written_of (length b) text
     unfolding written_of
-    fits_answer = rw within (ap Bytes (sym all_held.counted))
+    fits_answer = rw within (ap Ok (sym all_held.counted))
 
     pub fits_lent : {b' : List ℕ} → b' ≡ take end b ++ replicate (length b - end) 0 → b' ≡ lent_of (length b) text
     unfolding lent_of
@@ -195,23 +195,23 @@ printed_most (suc code) at rows visits tree p q =
     simp length-append (omega (arith, line_most (suc code ∷ at ∷ rows ∷ visits ∷ []) p))
 
 -- so much room is never too little
-pub text_fits : (room : ℕ) (text : List ℕ) → length text ≤ room → written_of room text ≡ Bytes (length text)
+pub text_fits : (room : ℕ) (text : List ℕ) → length text ≤ room → written_of room text ≡ Ok (length text)
 unfolding written_of
 text_fits room text p = rw (le-leb (length text) room p)
 
 pub written_fits : (room code at rows visits : ℕ) (tree : List ℕ) → Words (code ∷ at ∷ rows ∷ visits ∷ []) → Narrow tree → 77 + length tree / 6 * 66 ≤ room
-    → written_of room (printed code at rows visits tree) ≡ Bytes (length (printed code at rows visits tree))
+    → written_of room (printed code at rows visits tree) ≡ Ok (length (printed code at rows visits tree))
 written_fits room code at rows visits tree p q r = text_fits room (printed code at rows visits tree) (omega (arith, printed_most code at rows visits tree p q))
 
 -- what was written lies within the lent bytes
-pub bytes_within : (room end : ℕ) (text : List ℕ) (r : Written) → r ≡ written_of room text → r ≡ Bytes end → end ≤ room
+pub bytes_within : (room end : ℕ) (text : List ℕ) (r : Written) → r ≡ written_of room text → r ≡ Ok end → end ≤ room
 unfolding written_of
 bytes_within room end text r e f = by_room (leb (length text) room) refl (sym e ∙ f)
   where
     count : Written → ℕ
-    count (Bytes n) = n
-    count NoRoom = 0
+    count (Ok n) = n
+    count (Err none) = 0
 
-    by_room : (b : Bool) → leb (length text) room ≡ b → choose b (λ _. Bytes (length text)) (λ _. NoRoom) ≡ Bytes end → end ≤ room
+    by_room : (b : Bool) → leb (length text) room ≡ b → choose b (λ _. Ok (length text)) (λ _. no_room) ≡ Ok end → end ≤ room
     by_room true p g = omega (arith, leb-true (length text) room p, ap count g)
     by_room false p g = omega (arith, ap count g)

@@ -1,9 +1,8 @@
 -- A text in a lent buffer, as paper 02's requests give it (M-110, M-112): "its text first in the lent buffer, then zeros", and its length.
-use Rattle.std.specs.Prelude.{ℕ, ◌≤◌, ◌≡◌, List, [], true, false, leb, eqb, length, take, replicate}
+use Rattle.std.specs.Prelude.{ℕ, ◌-◌, ◌≤◌, ◌≡◌, List, [], ◌++◌, true, false, leb, eqb, length, take, replicate, Result, Ok, Err}
 use Rattle.text.specs.Decimal.{choose}
 use Rattle.text.specs.Lent.{padded}
 use Rattle.text.specs.Printed.{printed}
-use Rattle.text.specs.declared.placed.Placed.{Placed}
 
 -- code (0 accepted), at, the length of the text, and what the lent buffer holds
 pub record Placing : Type 0 where
@@ -24,9 +23,20 @@ placed short lent text =
       | false ↦ refusal short 0 lent
     ]
 
--- an entry's answer and the lent buffer
-abbrev pub placing : Placed → List ℕ → Placing
-placing answer buffer = record { code = answer.code; at = answer.at; length = answer.length; buffer = buffer }
+module _ {E : Type 0} (code_of place_of : E → ℕ) where
+  -- an entry's answer, by the numbers of its errors, and the lent buffer
+  abbrev pub placing : Result ℕ E → List ℕ → Placing
+  placing (Ok length) buffer = record { code = 0; at = 0; length = length; buffer = buffer }
+  placing (Err error) buffer = record { code = code_of error; at = place_of error; length = 0; buffer = buffer }
+
+  -- what an entry answers that wrote a text up to `end`, or met an error: "its text first in the lent buffer, then zeros", or `short`
+  unfoldable pub finished : (short : E) → (written : Result ℕ E) → (buffer : List ℕ) → Placing
+  finished short (Ok end) buffer =
+      elim (leb end (length buffer)) [
+        | true ↦ record { code = 0; at = 0; length = end; buffer = take end buffer ++ replicate (length buffer - end) 0 }
+        | false ↦ refusal (code_of short) (place_of short) (length buffer)
+      ]
+  finished short (Err error) buffer = refusal (code_of error) (place_of error) (length buffer)
 
 -- ---- what a program prints of such an answer
 

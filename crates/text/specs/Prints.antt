@@ -1,12 +1,10 @@
 -- What a program prints of a file, and what the bytes lent for it hold then. The text (`file_text`) depends on what the file reads as; `printing` puts it there.
 -- `Prints` says of the text the same with no reader in it; `proofs/PrintsLaws` shows that it allows this text alone.
-use Rattle.std.specs.Prelude.{◌≡◌, List, [], ◌⊎◌, ℕ, ◌≤◌, length}
+use Rattle.std.specs.Prelude.{◌≡◌, List, [], ◌⊎◌, ℕ, ◌≤◌, length, Ok}
 use Rattle.text.specs.Layout.{Layout}
 use Rattle.text.specs.Answer.{Accepted, Refusal}
 use Rattle.text.specs.Reading.{Reading, reads, refuses}
-use Rattle.text.specs.Printed.{printed, written_of, lent_of}
-use Rattle.text.specs.declared.write.Written.{Written}
-use Rattle.text.specs.declared.write.Written.TheVariants.{Bytes}
+use Rattle.text.specs.Printed.{printed, Written, written_of, lent_of}
 
 -- the answer of a program as a function, and what the lent bytes hold then
 pub record Printing : Type 0 where
@@ -48,4 +46,4 @@ Prints f of other file text = PrintsWords f of file text ⊎ PrintsRefusal f oth
 pub record WrittenText (most : ℕ) (text : List ℕ) (room : ℕ) (r : Written) (lent : List ℕ) : Type 0 where
   pub answer : r ≡ written_of room text
   pub bytes : lent ≡ lent_of room text
-  pub enough : most ≤ room → r ≡ Bytes (length text)
+  pub enough : most ≤ room → r ≡ Ok (length text)

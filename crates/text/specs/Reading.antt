@@ -1,11 +1,12 @@
 -- What a file reads as, a function: its words, or the refusal with its place, byte by byte along the form; and what is then handed back and lent.
 -- `proofs/ReadingLaws` shows that this is what `Answer` says of the file, where no reader is in the definition.
-use Rattle.std.specs.Prelude.{Bool, true, false, ◌&&◌, List, [], ◌∷◌, ◌++◌, ℕ, ◌+◌, ◌-◌, ◌*◌, eqb, leb, ltb, length, replicate}
+use Rattle.std.specs.Prelude.{Bool, true, false, ◌&&◌, List, [], ◌∷◌, ◌++◌, ℕ, ◌+◌, ◌-◌, ◌*◌, eqb, leb, ltb, length, replicate, Ok, Err}
 use Rattle.text.specs.Layout.{Layout}
 use Rattle.text.specs.Lent.{padded}
+use Rattle.text.specs.Answer.{Answer}
 use Rattle.text.specs.Form.{Form, finished, byte, field, digits, ending, whole}
-use Rattle.text.specs.declared.read.Answer.{Answer}
-use Rattle.text.specs.declared.read.Answer.TheVariants as answer
+use Rattle.text.specs.declared.read.ReadError.{ReadError}
+use Rattle.text.specs.declared.read.ReadError.TheVariants.{TooLong, NotInForm, NoRoom}
 
 pub data Reading : Type 0 where
   reads : (words : List ℕ) → Reading
@@ -54,11 +55,15 @@ pub record WordsRead : Type 0 where
   pub answer : Answer
   pub lent : List ℕ
 
+-- the error with a refusal's number and place (`Answer.code_of`, `place_of`), which is 51 at 0, or 50
+abbrev pub error_of : (code at : ℕ) → ReadError
+error_of code at = elim (eqb code 51) [ true ↦ TooLong | false ↦ NotInForm at ]
+
 -- the words and then zeros in `room` lent words; zeros alone where they are refused or too many
 unfoldable pub read_into : (room : ℕ) → Reading → WordsRead
 read_into room (reads words) =
     elim (leb (length words) room) [
-      | true ↦ record { answer = answer.Words (length words); lent = padded room words }
-      | false ↦ record { answer = answer.NoRoom; lent = replicate room 0 }
+      | true ↦ record { answer = Ok (length words); lent = padded room words }
+      | false ↦ record { answer = Err NoRoom; lent = replicate room 0 }
     ]
-read_into room (refuses code at) = record { answer = answer.Refused code at; lent = replicate room 0 }
+read_into room (refuses code at) = record { answer = Err (error_of code at); lent = replicate room 0 }

@@ -1,10 +1,13 @@
 -- How far a reading has come: the contracts of the functions below `read`.
-use Rattle.std.specs.Prelude.{◌≡◌, Bool, true, false, List, [], ◌∷◌, ◌++◌, ℕ, ◌+◌, ◌*◌, ◌^◌, ◌≤◌, ◌<◌, length, take}
+use Rattle.std.specs.Prelude.{◌≡◌, Bool, cond, List, [], ◌∷◌, ◌++◌, ℕ, ◌+◌, ◌-◌, ◌*◌, ◌≤◌, ◌<◌, length, take, Option, Some, None, Result, Ok, Err}
 use Rattle.text.specs.Lent.{Holds}
-use Rattle.text.specs.Layout.{Layout, layout}
+use Rattle.text.specs.Layout.{Columns, Layout, layout}
 use Rattle.text.specs.Form.{Form, field, finished, literal, row, tables, whole, Text}
+use Rattle.text.specs.Answer.{Answer, Accepted, Fails}
+use Rattle.text.specs.Reading.{is_digit, may_follow}
 use Rattle.text.specs.declared.parts.Cursor.{Cursor}
 use Rattle.text.specs.declared.version.Version.{Version}
+use Rattle.text.specs.declared.version.Columns as code
 use Rattle.text.specs.declared.number.Number.{Number}
 
 -- after the first `at` bytes, which have these words, what is left of a file of the form `root` is of the form `next`, and of no other
@@ -21,36 +24,30 @@ pub record Stopped (root : Form) (file : List ℕ) (at : ℕ) : Type 0 where
   pub no_further : at < length file → (bytes all : List ℕ) → Text root (take (at + 1) file ++ bytes) all → ⊥
   pub not_good : (all : List ℕ) → Text root file all → ⊥
 
--- a digit's value, and 10 for any other byte
-pub record Digit (byte value : ℕ) : Type 0 where
-  pub most : value ≤ 10
-  pub digit : value < 10 → byte ≡ 48 + value
-  pub only : (d : ℕ) → d < 10 → byte ≡ 48 + d → value ≡ d
+-- a digit's value
+abbrev pub digit_of : ℕ → Option ℕ
+digit_of byte = cond (is_digit byte) (Some (byte - 48)) None
 
--- a byte may follow digits of a value as a digit: there is no leading zero, and the number stays within 32 bits
-pub record Follows (value byte digit : ℕ) : Type 0 where
-  pub small : digit < 10
-  pub shown : byte ≡ 48 + digit
-  pub led : 0 < value
-  pub fits : value * 10 + digit < 2 ^ 32
+-- the value with a digit more, where the byte may follow: there is no leading zero, and the number stays within 32 bits
+abbrev pub extended_by : ℕ → ℕ → Option ℕ
+extended_by value byte = cond (may_follow value byte) (Some (value * 10 + (byte - 48))) None
 
--- the value with the digit that the byte is, or 2 ^ 32 if the byte may not follow
-pub record Extended (value byte r : ℕ) : Type 0 where
-  pub most : r ≤ 2 ^ 32
-  pub more : r < 2 ^ 32 → (digit : ℕ) × (r ≡ value * 10 + digit) × Follows value byte digit
-  pub none : r ≡ 2 ^ 32 → (digit : ℕ) → Follows value byte digit → ⊥
+-- a number was read, from `at` on, and what ends it
+pub record NumberEnd (file : List ℕ) (at : ℕ) (last : Bool) (r : Number) : Type 0 where
+  pub within : r.end ≤ length file
+  pub long : at + 2 ≤ r.end
+  pub reached : (root : Form) (words : List ℕ) (next : ℕ → Form) → Reached root file at words (field last next) → Reached root file r.end (words ++ (r.value ∷ [])) (next r.value)
 
-abbrev pub number_refused : ℕ → Number
-number_refused at = record { refused = true; at = at; value = 0 }
-
--- what reading a number with its end gives, from `at` on
-pub record NumberRead (file : List ℕ) (at : ℕ) (last : Bool) (r : Number) : Type 0 where
-  pub within : r.at ≤ length file
-  pub long : r.refused ≡ false → at + 2 ≤ r.at
-  pub stopped : (root : Form) (words : List ℕ) (next : ℕ → Form) → Reached root file at words (field last next) → r.refused ≡ true → Stopped root file r.at
-  pub reached : (root : Form) (words : List ℕ) (next : ℕ → Form) → Reached root file at words (field last next) → r.refused ≡ false → Reached root file r.at (words ++ (r.value ∷ [])) (next r.value)
+-- what reading it gives, or the byte that the reading stops at
+abbrev pub NumberRead : (file : List ℕ) → (at : ℕ) → (last : Bool) → Result Number ℕ → Type 0
+NumberRead file at last (Ok r) = NumberEnd file at last r
+NumberRead file at last (Err stop) = (root : Form) (words : List ℕ) (next : ℕ → Form) → Reached root file at words (field last next) → Stopped root file stop
 
 -- ---- parts of the file
+
+-- what the code holds of a table's columns
+abbrev pub columns_of : code.Columns → Columns
+columns_of columns = record { names = columns.names.now; width = columns.width }
 
 -- within the file, with no more words than bytes
 pub record Near (file : List ℕ) (c : Cursor) : Type 0 where
@@ -62,47 +59,57 @@ pub record At (root : Form) (file buffer : List ℕ) (at count : ℕ) (words : L
   pub reached : Reached root file at words next
   pub holds : Holds buffer count words
 
--- what reading a part of the file gives, from the cursor c on, whatever comes after the part
-pub record PartRead (file : List ℕ) (part : Form → Form) (c : Cursor) (buffer : List ℕ) (r : Cursor) (buffer' : List ℕ) : Type 0 where
+-- a part of the file was read, from the cursor c on, whatever comes after the part
+pub record PartEnd (file : List ℕ) (part : Form → Form) (c : Cursor) (buffer : List ℕ) (r : Cursor) (buffer' : List ℕ) : Type 0 where
   pub near : Near file r
-  pub stopped : (root : Form) (words : List ℕ) (next : Form) → At root file buffer c.at c.count words (part next) → r.refused ≡ true → Stopped root file r.at
-  pub reached : (root : Form) (words : List ℕ) (next : Form) → At root file buffer c.at c.count words (part next) → r.refused ≡ false
+  pub reached : (root : Form) (words : List ℕ) (next : Form) → At root file buffer c.at c.count words (part next)
       → (new : List ℕ) × At root file buffer' r.at r.count (words ++ new) next
 
--- what reading a line of names gives
-pub record NamesRead (file names : List ℕ) (c r : Cursor) : Type 0 where
-  pub near : Near file r
-  pub stopped : (root : Form) (words : List ℕ) (next : Form) → Reached root file c.at words (literal names next) → r.refused ≡ true → Stopped root file r.at
-  pub reached : (root : Form) (words : List ℕ) (next : Form) → Reached root file c.at words (literal names next) → r.refused ≡ false → Reached root file r.at words next
-  pub count : r.refused ≡ false → r.count ≡ c.count
+abbrev pub PartRead : (file : List ℕ) → (part : Form → Form) → (c : Cursor) → (buffer : List ℕ) → Result Cursor ℕ → (buffer' : List ℕ) → Type 0
+PartRead file part c buffer (Ok r) buffer' = PartEnd file part c buffer r buffer'
+PartRead file part c buffer (Err stop) buffer' = (root : Form) (words : List ℕ) (next : Form) → At root file buffer c.at c.count words (part next) → Stopped root file stop
+
+-- a line of names was read
+pub record NamesEnd (file names : List ℕ) (at end : ℕ) : Type 0 where
+  pub within : end ≤ length file
+  pub onward : at ≤ end
+  pub reached : (root : Form) (words : List ℕ) (next : Form) → Reached root file at words (literal names next) → Reached root file end words next
+
+abbrev pub NamesRead : (file names : List ℕ) → (at : ℕ) → Result ℕ ℕ → Type 0
+NamesRead file names at (Ok end) = NamesEnd file names at end
+NamesRead file names at (Err stop) = (root : Form) (words : List ℕ) (next : Form) → Reached root file at words (literal names next) → Stopped root file stop
 
 -- the numbers of a row that was read
-pub record RowEnd (root : Form) (file : List ℕ) (width : ℕ) (words : List ℕ) (next : List ℕ → Form) (r : Cursor) (buffer : List ℕ) : Type 0 where
+pub record RowNumbers (root : Form) (file : List ℕ) (width : ℕ) (words : List ℕ) (next : List ℕ → Form) (r : Cursor) (buffer : List ℕ) : Type 0 where
   pub numbers : List ℕ
   pub long : length numbers ≡ width
   pub at : At root file buffer r.at r.count (words ++ numbers) (next numbers)
 
--- what reading a row gives: its numbers decide what comes next
-pub record RowRead (file : List ℕ) (width : ℕ) (c : Cursor) (buffer : List ℕ) (r : Cursor) (buffer' : List ℕ) : Type 0 where
+-- a row was read: its numbers decide what comes next
+pub record RowEnd (file : List ℕ) (width : ℕ) (c : Cursor) (buffer : List ℕ) (r : Cursor) (buffer' : List ℕ) : Type 0 where
   pub near : Near file r
-  pub stopped : (root : Form) (words : List ℕ) (next : List ℕ → Form) → At root file buffer c.at c.count words (row width [] next) → r.refused ≡ true → Stopped root file r.at
-  pub reached : (root : Form) (words : List ℕ) (next : List ℕ → Form) → At root file buffer c.at c.count words (row width [] next) → r.refused ≡ false
-      → RowEnd root file width words next r buffer'
+  pub reached : (root : Form) (words : List ℕ) (next : List ℕ → Form) → At root file buffer c.at c.count words (row width [] next)
+      → RowNumbers root file width words next r buffer'
 
--- what reading the head into six words gives, the same in either form: they are its numbers
-pub record HeadRead (file : List ℕ) (r : Cursor) (head : List ℕ) : Type 0 where
+abbrev pub RowRead : (file : List ℕ) → (width : ℕ) → (c : Cursor) → (buffer : List ℕ) → Result Cursor ℕ → (buffer' : List ℕ) → Type 0
+RowRead file width c buffer (Ok r) buffer' = RowEnd file width c buffer r buffer'
+RowRead file width c buffer (Err stop) buffer' = (root : Form) (words : List ℕ) (next : List ℕ → Form) → At root file buffer c.at c.count words (row width [] next) → Stopped root file stop
+
+-- the head was read into six words, the same in either form: they are its numbers
+pub record HeadEnd (file : List ℕ) (r : Cursor) (head : List ℕ) : Type 0 where
   pub near : Near file r
-  pub stopped : (version : Version) → r.refused ≡ true → Stopped (whole (layout version)) file r.at
-  pub reached : (version : Version) → r.refused ≡ false → At (whole (layout version)) file head r.at r.count head (tables (layout version) head finished)
+  pub reached : (version : Version) → At (whole (layout version)) file head r.at r.count head (tables (layout version) head finished)
+
+abbrev pub HeadRead : (file : List ℕ) → Result Cursor ℕ → (head : List ℕ) → Type 0
+HeadRead file (Ok r) head = HeadEnd file r head
+HeadRead file (Err stop) head = (version : Version) → Stopped (whole (layout version)) file stop
 
 -- what reading the whole file gives
-pub record FileRead (f : Layout) (file : List ℕ) (r : Cursor) (buffer : List ℕ) : Type 0 where
-  pub near : Near file r
-  pub stopped : r.refused ≡ true → Stopped (whole f) file r.at
-  pub reached : r.refused ≡ false → (words : List ℕ) × Text (whole f) file words × Holds buffer r.count words
+abbrev pub FileRead : Layout → (file : List ℕ) → Result ℕ ℕ → (buffer : List ℕ) → Type 0
+FileRead f file (Ok count) buffer = (words : List ℕ) × Text (whole f) file words × Holds buffer count words
+FileRead f file (Err stop) buffer = Stopped (whole f) file stop
 
-abbrev pub cursor_refused : ℕ → Cursor
-cursor_refused at = record { refused = true; at = at; count = 0 }
-
-abbrev pub cursor_at : ℕ → ℕ → Cursor
-cursor_at at count = record { refused = false; at = at; count = count }
+-- the file's words stand in the buffer, whatever stands after them
+abbrev pub WordsStored : Layout → (file : List ℕ) → Answer → (buffer : List ℕ) → Type 0
+WordsStored f file (Ok count) buffer = (words : List ℕ) × Accepted f file words × Holds buffer count words × (count ≤ length buffer)
+WordsStored f file (Err error) buffer = Fails f file (length buffer) error

@@ -1,41 +1,67 @@
 // A text in a lent buffer: the answer of an entry that writes one.
 ghost use Rattle.std.specs.Prelude.{◌≡◌, List, ℕ, length};
-ghost use Rattle.text.specs.Lent.{Holds};
-ghost use Rattle.text.specs.Placed.{refusal, placed, placing};
+ghost use Rattle.text.specs.Placed.{placing, finished, printed_placing, Holding};
+ghost use Rattle.text.specs.Prints.{WrittenText};
 
-use crate::lent::clear_bytes;
+use crate::write::{NoRoom, write};
 
-// Code (0 accepted), at, and the number of the text's bytes.
-#[derive(Drop)]
-pub struct Placed {
-    pub code: u32,
-    pub at: u32,
-    pub length: usize,
+// An error with a code and a place of the papers.
+pub trait Coded {
+    ghost code_of: { Self → ℕ };
+
+    ghost place_of: { Self → ℕ };
+
+    fn code(self) -> u32
+        ensures { result ≡ code_of self };
+
+    fn place(self) -> u32
+        ensures { result ≡ place_of self };
 }
 
-// "A refusal leaves zeros."
-pub fn refuse(text: &mut [u8], code: u32, at: u32) -> Placed
-    ensures { placing result text.new ≡ refusal code at (length text.old) }
+// The answer of an entry that wrote a text up to an end, which may lie past the lent bytes: the text stands in them, then zeros.
+// "A refusal leaves zeros", and a text that does not fit is refused.
+pub fn finish<E: Coded + Copy>(
+    written: Result<usize, E>,
+    text: &mut [u8],
+    no_room: E,
+) -> Result<usize, E>
+    ensures { placing E.code_of E.place_of result text.new ≡ finished E.code_of E.place_of no_room written text.old }
 {
-    clear_bytes(text, 0);
-    Placed {
-        code: code,
-        at: at,
-        length: 0,
+    let answer = match written {
+        Ok(end) if text.len() < end => Err(no_room),
+        _ => written,
+    };
+    text[answer.unwrap_or(0)..].fill(0);
+    answer
+}
+
+// Tells an answer to callers in C: the code (0 accepted), and by reference the place and the text's length.
+pub fn tell<E: Coded + Copy>(answer: Result<usize, E>, at: &mut u32, size: &mut usize) -> u32
+    ensures { (buffer : List ℕ) → record { code = result; at = at.new; length = size.new; buffer = buffer } ≡ placing E.code_of E.place_of answer buffer }
+{
+    match answer {
+        Ok(length) => {
+            *at = 0;
+            *size = length;
+            0
+        }
+        Err(error) => {
+            *at = error.place();
+            *size = 0;
+            error.code()
+        }
     }
 }
 
-// The text up to `end`, then zeros; or the code `short`, if it does not fit.
-pub fn finish(text: &mut [u8], end: usize, short: u32) -> Placed
-    ensures { (body : List ℕ) → Holds text.old end body → placing result text.new ≡ placed short (length text.old) body }
+// What is printed of an answer: the text, which stands in the bytes already, or the two lines of a refusal.
+// Code 0 says accepted, so no error may have it.
+pub fn print<E: Coded + Copy>(answer: Result<usize, E>, out: &mut [u8]) -> Result<usize, NoRoom>
+    requires nonzero { (error : E) → E.code_of error ≡ 0 → ⊥ }
+    requires holding { Holding (length out.old) (placing E.code_of E.place_of answer out.old) }
+    ensures { WrittenText 77 (printed_placing (placing E.code_of E.place_of answer out.old)) (length out.old) result out.new }
 {
-    if text.len() < end {
-        return refuse(text, short, 0);
-    }
-    clear_bytes(text, end);
-    Placed {
-        code: 0,
-        at: 0,
-        length: end,
+    match answer {
+        Ok(length) => Ok(length),
+        Err(error) => write(out, error.code(), error.place(), 0, 0, &[]),
     }
 }

@@ -1,8 +1,51 @@
-// The two forms of a file.
+// The two forms of a file, and the columns of their tables.
+ghost use Rattle.std.specs.Prelude.{◌≡◌};
+ghost use Rattle.text.specs.Layout.{block_columns, instruction_columns};
+ghost use Rattle.text.specs.Steps.{columns_of};
+
 #[derive(Clone, Copy, Drop)]
 pub enum Version {
     // Paper 01's: a span is one word.
     Old,
     // Paper 02's, M-108: a span is two words, from and to.
     New,
+}
+
+// A table's line of names, and how many numbers its other lines have.
+#[derive(Clone, Copy)]
+pub struct Columns<'a> {
+    pub names: &'a [u8],
+    pub width: usize,
+}
+
+impl Version {
+    pub fn block_columns(self) -> Columns<'static>
+        ensures { columns_of result ≡ block_columns self }
+    {
+        match self {
+            Version::Old => Columns {
+                names: b"first count code a b c d e id span\n",
+                width: 10,
+            },
+            Version::New => Columns {
+                names: b"first count code a b c d e id from to\n",
+                width: 11,
+            },
+        }
+    }
+
+    pub fn instruction_columns(self) -> Columns<'static>
+        ensures { columns_of result ≡ instruction_columns self }
+    {
+        match self {
+            Version::Old => Columns {
+                names: b"id lvalue code p q span\n",
+                width: 6,
+            },
+            Version::New => Columns {
+                names: b"id lvalue code p q from to\n",
+                width: 7,
+            },
+        }
+    }
 }

@@ -3,29 +3,24 @@ ghost use Rattle.text.specs.Decimal.{decimal};
 ghost use Rattle.text.specs.Line.{line, lines};
 ghost use Rattle.text.specs.Printed.{printed, rows_of, written_of, lent_of, Wrote, Held, WroteSome};
 
-use crate::lent::{clear_bytes, put_byte};
+use crate::lent::put;
 use crate::number::ending_byte;
 
-// What writing a result gives.
-#[derive(Drop)]
-pub enum Written {
-    // The number of bytes.
-    Bytes(usize),
-    // There are more bytes than were lent.
-    NoRoom,
-}
+// A text has more bytes than were lent.
+#[derive(Clone, Copy, Debug, PartialEq, Eq)]
+pub struct NoRoom;
 
 // Writes a number in decimal.
-fn write_number(out: &mut [u8], start: usize, n: u32) -> usize
+pub fn write_number(out: &mut [u8], start: usize, n: u32) -> usize
     requires { start + 10 < 2 ^ 64 }
     ensures { Wrote out.old start (decimal n) out.new result }
 {
     if n < 10 {
-        put_byte(out, start, 48 + n as u8);
+        put(out, start, 48 + n as u8);
         return start + 1;
     }
     let at = write_number(out, start, n / 10);
-    put_byte(out, at, 48 + (n % 10) as u8);
+    put(out, at, 48 + (n % 10) as u8);
     at + 1
 }
 
@@ -35,12 +30,10 @@ pub fn write_line(out: &mut [u8], start: usize, numbers: &[u32]) -> usize
     ensures { Wrote out.old start (line numbers.now) out.new result }
 {
     let mut at = start;
-    let mut i = 0;
-    while i < numbers.len() {
-        let end = write_number(out, at, numbers[i]);
-        put_byte(out, end, ending_byte(i + 1 == numbers.len()));
+    for (i, number) in numbers.iter().enumerate() {
+        let end = write_number(out, at, *number);
+        put(out, end, ending_byte(i + 1 == numbers.len()));
         at = end + 1;
-        i += 1;
     }
     at
 }
@@ -50,29 +43,22 @@ pub fn write_names(out: &mut [u8], start: usize, names: &[u8]) -> usize
     requires { start + length names.now < 2 ^ 64 }
     ensures { Wrote out.old start names.now out.new result }
 {
-    let mut i = 0;
-    while i < names.len() {
-        put_byte(out, start + i, names[i]);
-        i += 1;
+    for (i, byte) in names.iter().enumerate() {
+        put(out, start + i, *byte);
     }
-    start + i
+    start + names.len()
 }
 
 // Writes a line for each whole row of six words, until the buffer is full.
 fn write_rows(out: &mut [u8], start: usize, tree: &[u32]) -> usize
     ensures { WroteSome out.old start (lines (rows_of (length tree.now / 6) tree.now)) out.new result }
 {
-    let rows = tree.len() / 6;
     let mut at = start;
-    let mut i = 0;
-    while i < rows {
+    for row in tree.chunks_exact(6) {
         if out.len() < at {
-            return at;
+            break;
         }
-        let first = i * 6;
-        let end = first + 6;
-        at = write_line(out, at, &tree[first..end]);
-        i += 1;
+        at = write_line(out, at, row);
     }
     at
 }
@@ -92,21 +78,28 @@ fn write_result(out: &mut [u8], code: u32, at: u32, rows: u32, visits: u32, tree
 }
 
 // The text up to `end`, then zeros; zeros alone, if it does not fit.
-pub fn finish_text(out: &mut [u8], end: usize) -> Written
+pub fn finish_text(out: &mut [u8], end: usize) -> Result<usize, NoRoom>
     ensures by_index { (text : List ℕ) → Held text out.old end → result ≡ written_of (length out.old) text }
     ensures by_index_2 { (text : List ℕ) → Held text out.old end → out.new ≡ lent_of (length out.old) text }
 {
     if out.len() < end {
-        clear_bytes(out, 0);
-        return Written::NoRoom;
+        out.fill(0);
+        return Err(NoRoom);
     }
-    clear_bytes(out, end);
-    Written::Bytes(end)
+    out[end..].fill(0);
+    Ok(end)
 }
 
 // Writes a result: its numbers, and if the code says accepted a line for each whole row of six words of the tree. The lent bytes hold the
 // lines and then zeros; zeros alone, if the lines do not fit.
-pub fn write(out: &mut [u8], code: u32, at: u32, rows: u32, visits: u32, tree: &[u32]) -> Written
+pub fn write(
+    out: &mut [u8],
+    code: u32,
+    at: u32,
+    rows: u32,
+    visits: u32,
+    tree: &[u32],
+) -> Result<usize, NoRoom>
     ensures value { result ≡ written_of (length out.old) (printed code at rows visits tree.now) }
     ensures out_after { out.new ≡ lent_of (length out.old) (printed code at rows visits tree.now) }
 {

@@ -2,53 +2,21 @@
 // its words, 1 if a word after them is not zero, and its first words as rows of six. Code 99: more words than were lent.
 #![tactic(auto)]
 
-ghost use Rattle.std.specs.Prelude.{◌≡◌, length};
-
-use program::read_input;
+use program::read_part;
 use std::fs::File;
 use std::io;
 use std::rt::Files;
-use text::read::Answer;
-use text::write::Written;
+use text::lent::zeros;
+use text::read::ReadError;
 
-// Fills the words with a number that is not zero.
-fn soil(words: &mut [u32]) {
-    let mut i = 0;
-    while i < words.len() {
-        words[i] = 7;
-        i += 1;
-    }
-}
-
-// 1 if a word from an index on is not zero.
-fn soiled(words: &[u32], from: usize) -> u32 {
-    let mut i = from;
-    while i < words.len() {
-        if words[i] != 0 {
-            return 1;
-        }
-        i += 1;
-    }
-    0
+// 1 if a word is not zero.
+fn soiled(words: &[u32]) -> u32 {
+    words.iter().any(|word| *word != 0) as u32
 }
 
 // A number of words, as far as it has 16 bits.
 fn narrow(n: usize) -> u32 {
-    if n < 65536 { n as u32 } else { 65535 }
-}
-
-// The first words, at most 24.
-fn first_words(words: &[u32], n: usize) -> &[u32] {
-    if 24 <= n {
-        if 24 <= words.len() {
-            return &words[..24];
-        }
-        return words;
-    }
-    if n <= words.len() {
-        return &words[..n];
-    }
-    words
+    n.min(65535) as u32
 }
 
 // The names of the files of data/.
@@ -57,10 +25,7 @@ const NAMES: &str =
 
 // Sends the first bytes to standard output.
 fn send(rt: &impl Print, out: &[u8], n: usize) -> io::Result<()> {
-    if n <= out.len() {
-        rt.write_all(&out[..n])?;
-    }
-    Ok(())
+    rt.write_all(&out[..n.min(out.len())])
 }
 
 fn print(
@@ -72,40 +37,42 @@ fn print(
     words: &[u32],
 ) -> io::Result<()> {
     let mut out = [0u8; 512];
-    let written = text::write::write(&mut out, code, at, count, stale, words);
-    match written {
-        Written::Bytes(n) => send(rt, &out, n),
-        Written::NoRoom => send(rt, b"no room\n", 8),
+    match text::write::write(&mut out, code, at, count, stale, words) {
+        Ok(n) => send(rt, &out, n),
+        Err(_) => send(rt, b"no room\n", 8),
     }
 }
 
-fn show(rt: &impl Print, answer: Answer, words: &[u32]) -> io::Result<()> {
+fn show(rt: &impl Print, answer: Result<usize, ReadError>, words: &[u32]) -> io::Result<()> {
     match answer {
-        Answer::Words(n) => print(rt, 0, 0, narrow(n), soiled(words, n), first_words(words, n)),
-        Answer::Refused { code, at } => print(rt, code, at, 0, soiled(words, 0), words),
-        Answer::NoRoom => print(rt, 99, 0, 0, soiled(words, 0), words),
+        Ok(n) => {
+            let (read, rest) = words.split_at(n.min(words.len()));
+            print(
+                rt,
+                0,
+                0,
+                narrow(n),
+                soiled(rest),
+                &read[..read.len().min(24)],
+            )
+        }
+        Err(ReadError::NoRoom) => print(rt, 99, 0, 0, soiled(words), words),
+        Err(error) => print(rt, error.code(), error.place(), 0, soiled(words), words),
     }
 }
 
-// Reads a file into so many words, and prints the answer.
+// Reads a file into so many words, none of them zero before, and prints the answer.
 fn run(rt: &impl Print, file: &[u8], words: &mut [u32]) -> io::Result<()> {
-    soil(words);
+    words.fill(7);
     let answer = text::read::read(file, words);
     show(rt, answer, words)
 }
 
-// Room for a file. The contract tells the length alone: a proof that sees the zeros would count them.
-fn file_bytes() -> [u8; 65536]
-    ensures { 65536 ≡ length result }
-{
-    [0; 65536]
-}
-
 fn run_named(rt: &(impl Files + Print), name: &str, words: &mut [u32]) -> io::Result<()> {
     let mut opened = File::open(rt, name)?;
-    let mut file = file_bytes();
-    let input = read_input(&mut opened, &mut file);
-    run(rt, &file[..input.count], words)
+    let mut file = zeros::<u8, 65536>();
+    let count = read_part(&mut opened, &mut file);
+    run(rt, &file[..count], words)
 }
 
 fn run_all(rt: &(impl Files + Print), words: &mut [u32]) -> io::Result<()> {

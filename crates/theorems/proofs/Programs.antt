@@ -1,6 +1,7 @@
 -- The reader, the writer of results and the programs as functions: each contract is met for any input and demands nothing (`asks_nothing`), and what a caller learns from
 -- it is what the definition gives, in the answer and in every lent word or byte (`gives_the_definition`).
 -- Statements only, each by the lemma that proves it.
+use Rattle.std.specs.Prelude.{Ok}
 use Prim.Native.Nat.{ℕ, ◌≤◌, ◌<◌}
 use mathlib.Core.Path.{◌≡◌, refl}
 use mathlib.Core.List.{List}
@@ -8,15 +9,12 @@ use lib.ListN.{length}
 use contract.Lifetimes.{Lfts}
 use denote.Ref.{Bor, MutBor}
 use Rattle.text.specs.Layout.{Layout, layout}
-use Rattle.text.specs.Answer.{Answered}
+use Rattle.text.specs.Answer.{Answer, Answered}
 use Rattle.text.specs.Reading.{reading, read_into}
-use Rattle.text.specs.Printed.{printed, written_of, lent_of}
+use Rattle.text.specs.Printed.{printed, Written, written_of, lent_of}
 use Rattle.text.specs.Prints.{printing}
 use Rattle.text.specs.declared.version.Version.{Version}
 use Rattle.text.specs.declared.version.Version.TheVariants.{New}
-use Rattle.text.specs.declared.read.Answer.{Answer}
-use Rattle.text.specs.declared.write.Written.{Written}
-use Rattle.text.specs.declared.write.Written.TheVariants.{Bytes}
 use Rattle.text.proofs.AnswerLaws.{answered_one}
 use Rattle.text.proofs.ReadingLaws.{is_answered}
 use Rattle.text.proofs.PrintsLaws.{file_prints, prints_one}
@@ -144,7 +142,7 @@ build_file_asks_nothing κs before = tt
 -- a file in the form prints the definition's outcome of its words, any other its refusal; 135,245 bytes are enough
 pub build_file_gives_the_definition : (κs : Lfts 2) (before after : Ruled) (answer : Written) → build_entry.Learnt κs before answer after
     → (record { answer = answer; bytes = after.1.1.0.now } ≡ printing (length before.1.1.0.now) (built_text (rule_of before.0) before.1.0.now))
-    × (135245 ≤ length before.1.1.0.now → answer ≡ Bytes (length (built_text (rule_of before.0) before.1.0.now)))
+    × (135245 ≤ length before.1.1.0.now → answer ≡ Ok (length (built_text (rule_of before.0) before.1.0.now)))
 build_file_gives_the_definition κs before after answer learnt = learnt
 
 -- the same text with no reader in the definition, and no other
@@ -164,7 +162,7 @@ size_file_asks_nothing κs before = tt
 
 pub size_file_gives_the_definition : (κs : Lfts 2) (before after : Lent) (answer : Written) → size_entry.Learnt κs before answer after
     → (record { answer = answer; bytes = after.1.0.now } ≡ printing (length before.1.0.now) (sized_text before.0.now))
-    × (81 ≤ length before.1.0.now → answer ≡ Bytes (length (sized_text before.0.now)))
+    × (81 ≤ length before.1.0.now → answer ≡ Ok (length (sized_text before.0.now)))
 size_file_gives_the_definition κs before after answer learnt = learnt
 
 pub a_file_prints_its_size : (file : List ℕ) → size.Prints file (sized_text file)
@@ -183,7 +181,7 @@ draw_file_asks_nothing κs before = tt
 
 pub draw_file_gives_the_definition : (κs : Lfts 2) (before after : Lent) (answer : Written) → draw_entry.Learnt κs before answer after
     → (record { answer = answer; bytes = after.1.0.now } ≡ printing (length before.1.0.now) (drawn_text (length before.1.0.now) before.0.now))
-    × (77 ≤ length before.1.0.now → answer ≡ Bytes (length (drawn_text (length before.1.0.now) before.0.now)))
+    × (77 ≤ length before.1.0.now → answer ≡ Ok (length (drawn_text (length before.1.0.now) before.0.now)))
 draw_file_gives_the_definition κs before after answer learnt = learnt
 
 pub a_file_prints_its_drawing : (file : List ℕ) (room : ℕ) → drawing.Prints file room (drawn_text room file)
@@ -202,7 +200,7 @@ check_file_asks_nothing κs before = tt
 
 pub check_file_gives_the_definition : (κs : Lfts 2) (before after : Lent) (answer : Written) → check_entry.Learnt κs before answer after
     → (record { answer = answer; bytes = after.1.0.now } ≡ printing (length before.1.0.now) (check_text before.0.now))
-    × (30 ≤ length before.1.0.now → answer ≡ Bytes (length (check_text before.0.now)))
+    × (30 ≤ length before.1.0.now → answer ≡ Ok (length (check_text before.0.now)))
 check_file_gives_the_definition κs before after answer learnt = learnt
 
 -- ---- treerun: run_file
@@ -215,7 +213,7 @@ run_file_asks_nothing κs before = tt
 
 pub run_file_gives_the_definition : (κs : Lfts 2) (before after : Lent) (answer : Written) → run_entry.Learnt κs before answer after
     → (record { answer = answer; bytes = after.1.0.now } ≡ printing (length before.1.0.now) (run_text before.0.now))
-    × (most_printed ≤ length before.1.0.now → answer ≡ Bytes (length (run_text before.0.now)))
+    × (most_printed ≤ length before.1.0.now → answer ≡ Ok (length (run_text before.0.now)))
 run_file_gives_the_definition κs before after answer learnt = learnt
 
 -- the run of a file with no reader of trees in the definition, and no other
@@ -235,7 +233,7 @@ order_file_asks_nothing κs before = tt
 
 pub order_file_gives_the_definition : (κs : Lfts 2) (before after : Lent) (answer : Written) → order_entry.Learnt κs before answer after
     → (record { answer = answer; bytes = after.1.0.now } ≡ printing (length before.1.0.now) (order_text before.0.now))
-    × (180368 ≤ length before.1.0.now → answer ≡ Bytes (length (order_text before.0.now)))
+    × (180368 ≤ length before.1.0.now → answer ≡ Ok (length (order_text before.0.now)))
 order_file_gives_the_definition κs before after answer learnt = learnt
 
 pub a_file_prints_its_rearrangement : (file : List ℕ) → order.Prints file (order_text file)
@@ -254,7 +252,7 @@ print_new_asks_nothing κs before = tt
 
 pub print_new_gives_the_definition : (κs : Lfts 2) (before after : Lent) (answer : Written) → new_entry.Learnt κs before answer after
     → (record { answer = answer; bytes = after.1.0.now } ≡ printing (length before.1.0.now) (new_text (length before.1.0.now) before.0.now))
-    × (77 ≤ length before.1.0.now → answer ≡ Bytes (length (new_text (length before.1.0.now) before.0.now)))
+    × (77 ≤ length before.1.0.now → answer ≡ Ok (length (new_text (length before.1.0.now) before.0.now)))
 print_new_gives_the_definition κs before after answer learnt = learnt
 
 pub print_old_meets_its_contract : {M : Type 1} → old_stated.statement M
@@ -265,7 +263,7 @@ print_old_asks_nothing κs before = tt
 
 pub print_old_gives_the_definition : (κs : Lfts 2) (before after : Lent) (answer : Written) → old_entry.Learnt κs before answer after
     → (record { answer = answer; bytes = after.1.0.now } ≡ printing (length before.1.0.now) (old_text (length before.1.0.now) before.0.now))
-    × (77 ≤ length before.1.0.now → answer ≡ Bytes (length (old_text (length before.1.0.now) before.0.now)))
+    × (77 ≤ length before.1.0.now → answer ≡ Ok (length (old_text (length before.1.0.now) before.0.now)))
 print_old_gives_the_definition κs before after answer learnt = learnt
 
 -- with what the programs lend the text always fits: 53 is not printed

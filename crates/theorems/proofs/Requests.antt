@@ -6,8 +6,11 @@ use mathlib.Core.Path.{◌≡◌, refl, ap, sym, ◌∙◌, subst}
 use mathlib.Core.List.{List}
 use mathlib.Core.Logic.{◌⊎◌}
 use mathlib.Core.Option.{none, some}
+use Rattle.std.specs.Prelude.{Result}
 use lib.ListN.{length, take, get_or}
 use contract.Lifetimes.{Lfts}
+use Rattle.std.specs.Prelude.{Result}
+use Rattle.std.specs.declared.ops.Range.{Range}
 use denote.Ref.{Bor, MutBor}
 use Rattle.table.specs.Table.{table_of}
 use Rattle.table.specs.Check.{accepted, checked}
@@ -16,8 +19,13 @@ use Rattle.text.specs.File.{Good}
 use Rattle.text.specs.Layout.{Layout, layout}
 use Rattle.text.specs.declared.version.Version.TheVariants.{Old, New}
 use Rattle.text.specs.Answer.{Accepted}
-use Rattle.text.specs.Placed.{Placing, placing}
-use Rattle.text.specs.declared.placed.Placed.{Placed}
+use Rattle.text.specs.Placed.{Placing}
+use Rattle.dot.specs.Answer as drawing
+use Rattle.dot.specs.declared.DrawError.{DrawError}
+use Rattle.convert.specs.WriteAnswer as writing
+use Rattle.convert.specs.declared.writing.WriteError.{WriteError}
+use Rattle.convert.specs.ConvertAnswer as converting
+use Rattle.convert.specs.declared.ConvertError.{ConvertError}
 use Rattle.control.specs.Abstraction.{target_of, context_of, result_of}
 use Rattle.definition.specs.Result.{ok}
 use Rattle.control.specs.Contract.{Named, Room, Last, Scheduled, Unscheduled}
@@ -40,10 +48,13 @@ use Rattle.tree_runs.specs.Numbered.{numbered}
 use Rattle.tree_runs.proofs.OneOutcome.{one_outcome, is_given}
 use Rattle.tree_runs.proofs.SwitchRuns.{the_law, runner_gives, runner_does, never_63_64}
 use Rattle.tree_runs.proofs.LoopRuns as loops
-use Rattle.tree_run.specs.declared.Ran.{Ran}
+use Rattle.tree_run.specs.declared.Run as runner
+use Rattle.tree_run.specs.declared.Reason.{Reason}
+use Rattle.tree_run.specs.declared.RunError.{RunError}
+use Rattle.tree_run.specs.Answer as runner_answer
 use Rattle.tree_run.specs.Holds.{outcome_of}
-use Rattle.lookup.specs.Lookup.{found, looked}
-use Rattle.lookup.specs.declared.Found.{Found}
+use Rattle.lookup.specs.Lookup.{found_of, found, looked_of, looked}
+use Rattle.lookup.specs.declared.LookupError.{LookupError}
 use Rattle.dot.specs.Dot.{drawn}
 use Rattle.convert.specs.Write.{table_text, table_written}
 use Rattle.convert.proofs.GoodLaws.{text_good, good_is_text}
@@ -98,6 +109,15 @@ use Rattle.control.proofs.Context.unschedule.Reads as unschedule_entry
 use Rattle.tree_run.proofs.run_tree.Statement as run_stated
 use Rattle.tree_run.proofs.run_tree.Met as run_proved
 use Rattle.tree_run.proofs.run_tree.Reads as run_entry
+use Rattle.tree_run.proofs.RunError.code.Statement as run_code_stated
+use Rattle.tree_run.proofs.RunError.code.Met as run_code_proved
+use Rattle.tree_run.proofs.RunError.code.Reads as run_code
+use Rattle.tree_run.proofs.RunError.place.Statement as run_place_stated
+use Rattle.tree_run.proofs.RunError.place.Met as run_place_proved
+use Rattle.tree_run.proofs.RunError.place.Reads as run_place
+use Rattle.tree_run.proofs.Reason.number.Statement as reason_stated
+use Rattle.tree_run.proofs.Reason.number.Met as reason_proved
+use Rattle.tree_run.proofs.Reason.number.Reads as reason_entry
 use Rattle.tree_run.proofs.tree_run.Statement as run_export_stated
 use Rattle.tree_run.proofs.tree_run.Met as run_export_proved
 use Rattle.tree_run.proofs.tree_run.Reads as run_export
@@ -150,8 +170,8 @@ dot_meets_its_contract = dot_proved.met
 pub dot_asks_nothing : (κs : Lfts 2) (before : Lent) → dot_entry.Asked κs before
 dot_asks_nothing κs before = tt
 
-pub dot_gives_the_definition : (κs : Lfts 2) (before after : Lent) (answer : Placed) → dot_entry.Learnt κs before answer after
-    → placing answer after.1.0.now ≡ drawn before.0.now (length before.1.0.now)
+pub dot_gives_the_definition : (κs : Lfts 2) (before after : Lent) (answer : Result ℕ DrawError) → dot_entry.Learnt κs before answer after
+    → drawing.placing answer after.1.0.now ≡ drawn before.0.now (length before.1.0.now)
 dot_gives_the_definition κs before after answer learnt = learnt
 
 pub blocks_to_dot_meets_its_contract : {M : Type 1} → dot_export_stated.statement M
@@ -172,8 +192,8 @@ write_table_meets_its_contract = write_proved.met
 pub write_table_asks_nothing : (κs : Lfts 2) (before : Lent) → write_entry.Asked κs before
 write_table_asks_nothing κs before = tt
 
-pub write_table_gives_the_definition : (κs : Lfts 2) (before after : Lent) (answer : Placed) → write_entry.Learnt κs before answer after
-    → placing answer after.1.0.now ≡ table_written before.0.now (length before.1.0.now)
+pub write_table_gives_the_definition : (κs : Lfts 2) (before after : Lent) (answer : Result ℕ WriteError) → write_entry.Learnt κs before answer after
+    → writing.placing answer after.1.0.now ≡ table_written before.0.now (length before.1.0.now)
 write_table_gives_the_definition κs before after answer learnt = learnt
 
 pub table_write_meets_its_contract : {M : Type 1} → write_export_stated.statement M
@@ -192,8 +212,8 @@ old_to_new_meets_its_contract = old_to_new_proved.met
 pub old_to_new_asks_nothing : (κs : Lfts 2) (before : Lent) → old_to_new_entry.Asked κs before
 old_to_new_asks_nothing κs before = tt
 
-pub old_to_new_gives_the_definition : (κs : Lfts 2) (before after : Lent) (answer : Placed) → old_to_new_entry.Learnt κs before answer after
-    → placing answer after.1.0.now ≡ old_to_new before.0.now (length before.1.0.now)
+pub old_to_new_gives_the_definition : (κs : Lfts 2) (before after : Lent) (answer : Result ℕ ConvertError) → old_to_new_entry.Learnt κs before answer after
+    → converting.placing answer after.1.0.now ≡ old_to_new before.0.now (length before.1.0.now)
 old_to_new_gives_the_definition κs before after answer learnt = learnt
 
 pub table_old_to_new_meets_its_contract : {M : Type 1} → old_to_new_export_stated.statement M
@@ -212,8 +232,8 @@ new_to_old_meets_its_contract = new_to_old_proved.met
 pub new_to_old_asks_nothing : (κs : Lfts 2) (before : Lent) → new_to_old_entry.Asked κs before
 new_to_old_asks_nothing κs before = tt
 
-pub new_to_old_gives_the_definition : (κs : Lfts 2) (before after : Lent) (answer : Placed) → new_to_old_entry.Learnt κs before answer after
-    → placing answer after.1.0.now ≡ new_to_old before.0.now (length before.1.0.now)
+pub new_to_old_gives_the_definition : (κs : Lfts 2) (before after : Lent) (answer : Result ℕ ConvertError) → new_to_old_entry.Learnt κs before answer after
+    → converting.placing answer after.1.0.now ≡ new_to_old before.0.now (length before.1.0.now)
 new_to_old_gives_the_definition κs before after answer learnt = learnt
 
 pub table_new_to_old_meets_its_contract : {M : Type 1} → new_to_old_export_stated.statement M
@@ -275,23 +295,19 @@ Searched = Bor (List ℕ) × (ℕ × (ℕ × (Bor (List ℕ) × Unit {0})))
 pub find_asks_nothing : (κs : Lfts 2) (before : Searched) → find_entry.Asked κs before
 find_asks_nothing κs before = tt
 
-pub find_gives_the_definition : (κs : Lfts 2) (before after : Searched) (answer : Found) → find_entry.Learnt κs before answer after
-    → answer ≡ found before.0.now before.1.0 before.1.1.0 (length before.1.1.1.0.now)
+pub find_gives_the_definition : (κs : Lfts 2) (before after : Searched) (answer : Result (Range ℕ) LookupError) → find_entry.Learnt κs before answer after
+    → found_of answer ≡ found before.0.now before.1.0 before.1.1.0 (length before.1.1.1.0.now)
 find_gives_the_definition κs before after answer learnt = learnt
 
 pub lookup_meets_its_contract : {M : Type 1} → lookup_stated.statement M
 lookup_meets_its_contract = lookup_proved.met
 
--- and the code and at, which are lent
-abbrev pub SearchedWithCode : Type 0
-SearchedWithCode = Bor (List ℕ) × (ℕ × (ℕ × (Bor (List ℕ) × (MutBor ℕ × (MutBor ℕ × Unit {0})))))
-
-pub lookup_asks_nothing : (κs : Lfts 4) (before : SearchedWithCode) → lookup_entry.Asked κs before
+pub lookup_asks_nothing : (κs : Lfts 2) (before : Searched) → lookup_entry.Asked κs before
 lookup_asks_nothing κs before = tt
 
 -- the code, at, and the words of the part given back
-pub lookup_gives_the_definition : (κs : Lfts 4) (before after : SearchedWithCode) (answer : Bor (List ℕ)) → lookup_entry.Learnt κs before answer after
-    → record { code = after.1.1.1.1.0.now; at = after.1.1.1.1.1.0.now; words = answer.now } ≡ looked before.0.now before.1.0 before.1.1.0 before.1.1.1.0.now
+pub lookup_gives_the_definition : (κs : Lfts 2) (before after : Searched) (answer : Result (Bor (List ℕ)) LookupError) → lookup_entry.Learnt κs before answer after
+    → looked_of answer ≡ looked before.0.now before.1.0 before.1.1.0 before.1.1.1.0.now
 lookup_gives_the_definition κs before after answer learnt = learnt
 
 pub tree_lookup_meets_its_contract : {M : Type 1} → lookup_export_stated.statement M
@@ -321,9 +337,27 @@ Run = Bor (List ℕ) × (Bor (List ℕ) × (MutBor (List ℕ) × Unit {0}))
 pub run_tree_asks_nothing : (κs : Lfts 3) (before : Run) → run_entry.Asked κs before
 run_tree_asks_nothing κs before = tt
 
-pub run_tree_gives_the_definition : (κs : Lfts 3) (before after : Run) (answer : Ran) → run_entry.Learnt κs before answer after
+pub run_tree_gives_the_definition : (κs : Lfts 3) (before after : Run) (answer : Result runner.Run RunError) → run_entry.Learnt κs before answer after
     → outcome_of answer after.1.1.0.now ≡ run_of before.0.now before.1.0.now (length before.1.1.0.now)
 run_tree_gives_the_definition κs before after answer learnt = learnt
+
+-- the methods of a run's error and of its reason give the papers' numbers
+pub the_methods_of_a_run_meet_their_contracts : {M : Type 1} → run_code_stated.statement M × run_place_stated.statement M × reason_stated.statement M
+the_methods_of_a_run_meet_their_contracts = (run_code_proved.met, run_place_proved.met, reason_proved.met)
+
+pub the_methods_of_a_run_ask_nothing : (κs : Lfts 0) (before : RunError × Unit {0}) (reason : Reason × Unit {0})
+    → run_code.Asked κs before × run_place.Asked κs before × reason_entry.Asked κs reason
+the_methods_of_a_run_ask_nothing κs before reason = (tt, tt, tt)
+
+pub run_code_gives_the_definition : (κs : Lfts 0) (before after : RunError × Unit {0}) (code : ℕ) → run_code.Learnt κs before code after → code ≡ runner_answer.code_of before.0
+run_code_gives_the_definition κs before after code learnt = learnt
+
+pub run_place_gives_the_definition : (κs : Lfts 0) (before after : RunError × Unit {0}) (place : ℕ) → run_place.Learnt κs before place after → place ≡ runner_answer.at_of before.0
+run_place_gives_the_definition κs before after place learnt = learnt
+
+pub reason_number_gives_the_definition : (κs : Lfts 0) (before after : Reason × Unit {0}) (number : ℕ) → reason_entry.Learnt κs before number after
+    → number ≡ runner_answer.reason_number before.0
+reason_number_gives_the_definition κs before after number learnt = learnt
 
 pub tree_run_meets_its_contract : {M : Type 1} → run_export_stated.statement M
 tree_run_meets_its_contract = run_export_proved.met

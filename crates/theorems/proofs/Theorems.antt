@@ -9,21 +9,20 @@ use mathlib.Core.Bool.{Bool}
 use lib.ListN.{length, take}
 use lib.Dec.{T, eqb}
 use contract.Lifetimes.{Lfts}
+use Rattle.std.specs.Prelude.{Result}
 use denote.Ref.{Bor, MutBor}
+use Rattle.std.specs.Prelude.{Result, Ok, Err, is_ok}
 use Rattle.table.specs.Check.{accepted, checked}
 use Rattle.table.specs.Table.{Table, table_of}
 use Rattle.table.specs.Answer as table
-use Rattle.table.specs.declared.Checked.{Checked}
+use Rattle.table.specs.declared.Refusal.{Refusal}
 use Rattle.table.proofs.PromiseLaws.{promised}
-use Rattle.table.proofs.Checked.code.Statement as code_stated
-use Rattle.table.proofs.Checked.code.Met as code_proved
-use Rattle.table.proofs.Checked.code.Reads as code_method
-use Rattle.table.proofs.Checked.place.Statement as place_stated
-use Rattle.table.proofs.Checked.place.Met as place_proved
-use Rattle.table.proofs.Checked.place.Reads as place_method
-use Rattle.table.proofs.Checked.is_accepted.Statement as accepted_stated
-use Rattle.table.proofs.Checked.is_accepted.Met as accepted_proved
-use Rattle.table.proofs.Checked.is_accepted.Reads as accepted_method
+use Rattle.table.proofs.Refusal.code.Statement as code_stated
+use Rattle.table.proofs.Refusal.code.Met as code_proved
+use Rattle.table.proofs.Refusal.code.Reads as code_method
+use Rattle.table.proofs.Refusal.place.Statement as place_stated
+use Rattle.table.proofs.Refusal.place.Met as place_proved
+use Rattle.table.proofs.Refusal.place.Reads as place_method
 use Rattle.table_check.proofs.check.Statement as check_stated
 use Rattle.table_check.proofs.check.Met as check_proved
 use Rattle.table_check.proofs.check.Reads as check_entry
@@ -76,8 +75,8 @@ use Rattle.tree_grammar.specs.Grammar.{Answer}
 use Rattle.tree_grammar.specs.Needs.{tree_verdict, code_of, at_of}
 use Rattle.tree_grammar.proofs.Words.{words_answered, words_answer_is}
 use Rattle.tree_grammar.proofs.BuiltReads.{built_answered}
-use Rattle.tree_check.specs.Found.{tree_checked}
-use Rattle.tree_check.specs.declared.TreeChecked.{TreeChecked}
+use Rattle.tree_check.specs.declared.TreeError.{TreeError}
+use Rattle.tree_check.specs.Found.{TreeChecked, checked_of, tree_checked}
 use Rattle.tree_check.proofs.check_tree.Statement as tree_stated
 use Rattle.tree_check.proofs.check_tree.Met as tree_proved
 use Rattle.tree_check.proofs.check_tree.Reads as check_tree
@@ -187,29 +186,28 @@ check_meets_its_contract = check_proved.met
 pub check_asks_nothing : (κs : Lfts 1) (before : Bor (List ℕ) × Unit {0}) → check_entry.Asked κs before
 check_asks_nothing κs before = tt
 
-pub check_gives_the_definition : (κs : Lfts 1) (before after : Bor (List ℕ) × Unit {0}) (answer : Checked) → check_entry.Learnt κs before answer after
+pub check_gives_the_definition : (κs : Lfts 1) (before after : Bor (List ℕ) × Unit {0}) (answer : Result (Unit {0}) Refusal) → check_entry.Learnt κs before answer after
     → table.verdict_of answer ≡ checked before.0.now
 check_gives_the_definition κs before after answer learnt = learnt
 
--- the three methods of its answer
-pub the_methods_of_checked_meet_their_contracts : {M : Type 1} → (code_stated.statement M × place_stated.statement M) × accepted_stated.statement M
-the_methods_of_checked_meet_their_contracts = ((code_proved.met, place_proved.met), accepted_proved.met)
+-- an answer is Ok where it is accepted, and the two methods of a refusal give its code and place
+pub ok_is_accepted : (answer : Result (Unit {0}) Refusal) → is_ok answer ≡ table.is_accepted (table.verdict_of answer)
+ok_is_accepted (Ok _) = refl
+ok_is_accepted (Err _) = refl
 
-pub checked_code_gives_the_definition : (κs : Lfts 0) (before after : Checked × Unit {0}) (code : ℕ) → code_method.Learnt κs before code after
-    → code ≡ table.code_of (table.verdict_of before.0)
-checked_code_gives_the_definition κs before after code learnt = learnt
+pub the_methods_of_a_refusal_meet_their_contracts : {M : Type 1} → code_stated.statement M × place_stated.statement M
+the_methods_of_a_refusal_meet_their_contracts = (code_proved.met, place_proved.met)
 
-pub checked_place_gives_the_definition : (κs : Lfts 0) (before after : Checked × Unit {0}) (place : ℕ) → place_method.Learnt κs before place after
-    → place ≡ table.place_of (table.verdict_of before.0)
-checked_place_gives_the_definition κs before after place learnt = learnt
+pub refusal_code_gives_the_definition : (κs : Lfts 0) (before after : Refusal × Unit {0}) (code : ℕ) → code_method.Learnt κs before code after
+    → code ≡ table.code_of (table.verdict_of (Err before.0))
+refusal_code_gives_the_definition κs before after code learnt = learnt
 
-pub checked_is_accepted_gives_the_definition : (κs : Lfts 0) (before after : Checked × Unit {0}) (answer : Bool) → accepted_method.Learnt κs before answer after
-    → answer ≡ table.is_accepted (table.verdict_of before.0)
-checked_is_accepted_gives_the_definition κs before after answer learnt = learnt
+pub refusal_place_gives_the_definition : (κs : Lfts 0) (before after : Refusal × Unit {0}) (place : ℕ) → place_method.Learnt κs before place after
+    → place ≡ table.place_of (table.verdict_of (Err before.0))
+refusal_place_gives_the_definition κs before after place learnt = learnt
 
-pub the_methods_of_checked_ask_nothing : (κs : Lfts 0) (before : Checked × Unit {0})
-    → (code_method.Asked κs before × place_method.Asked κs before) × accepted_method.Asked κs before
-the_methods_of_checked_ask_nothing κs before = ((tt, tt), tt)
+pub the_methods_of_a_refusal_ask_nothing : (κs : Lfts 0) (before : Refusal × Unit {0}) → code_method.Asked κs before × place_method.Asked κs before
+the_methods_of_a_refusal_ask_nothing κs before = (tt, tt)
 
 -- and its export the verdict's code, with its place by reference
 pub table_check_meets_its_contract : {M : Type 1} → check_export_stated.statement M
@@ -378,14 +376,16 @@ check_tree_meets_its_contract = tree_proved.met
 pub check_tree_asks_nothing : (κs : Lfts 1) (before : Bor (List ℕ) × Unit {0}) → check_tree.Asked κs before
 check_tree_asks_nothing κs before = tt
 
-pub check_tree_gives_the_definition : (κs : Lfts 1) (before after : Bor (List ℕ) × Unit {0}) (answer : TreeChecked) → check_tree.Learnt κs before answer after
-    → answer ≡ tree_checked before.0.now
+pub check_tree_gives_the_definition : (κs : Lfts 1) (before after : Bor (List ℕ) × Unit {0}) (answer : Result (Unit {0}) TreeError) → check_tree.Learnt κs before answer after
+    → checked_of answer ≡ tree_checked before.0.now
 check_tree_gives_the_definition κs before after answer learnt = learnt
 
 -- it gives the grammar's answer: "accepts a list .. exactly when it reads as one tree", 60 and 61 at the first row, 62
-pub check_tree_gives_the_grammars_answer : (κs : Lfts 1) (before after : Bor (List ℕ) × Unit {0}) (answer : TreeChecked) → check_tree.Learnt κs before answer after
-    → Answer before.0.now answer.code answer.at
-check_tree_gives_the_grammars_answer κs before after answer learnt = subst (λ (c : TreeChecked). Answer before.0.now c.code c.at) (sym learnt) (words_answered before.0.now)
+pub check_tree_gives_the_grammars_answer : (κs : Lfts 1) (before after : Bor (List ℕ) × Unit {0}) (answer : Result (Unit {0}) TreeError) → check_tree.Learnt κs before answer after
+    → Answer before.0.now (checked_of answer).code (checked_of answer).at
+check_tree_gives_the_grammars_answer κs before after answer learnt =
+    let given : checked_of answer ≡ tree_checked before.0.now = learnt in
+    subst (λ (c : TreeChecked). Answer before.0.now c.code c.at) (sym given) (words_answered before.0.now)
 
 -- its export, the place by reference
 pub tree_check_meets_its_contract : {M : Type 1} → tree_export_stated.statement M

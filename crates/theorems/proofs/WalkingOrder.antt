@@ -4,6 +4,7 @@ use mathlib.Core.Path.{◌≡◌}
 use mathlib.Core.List.{List}
 use mathlib.Core.Bool.{true}
 use lib.ListN.{length}
+use Rattle.std.proofs.Common.{Result}
 use contract.Lifetimes.{Lfts}
 use denote.Ref.{Bor, MutBor}
 use Rattle.table.specs.Words.{entry_word, block_count}
@@ -18,7 +19,7 @@ use Rattle.renaming.proofs.Theorem.{built_renamed}
 use Rattle.renaming.proofs.OrderLaws.{walking_order_lem, rearranged_checked, rearranged_entry, rearranged_built, round_trip}
 use Rattle.renaming.proofs.Canonical.{one_rearrangement}
 use Rattle.order.specs.Entry.{rearranging, restoring}
-use Rattle.order.specs.declared.Moved.{Moved}
+use Rattle.order.specs.declared.OrderError.{OrderError}
 use Rattle.order.proofs.rearrange.Statement as rearrange_stated
 use Rattle.order.proofs.rearrange.Met as rearrange_proved
 use Rattle.order.proofs.rearrange.Reads as rearrange_entry
@@ -62,14 +63,14 @@ RestoredWithAnswer = Bor (List ℕ) × (Bor (List ℕ) × (MutBor (List ℕ) × 
 pub rearrange_asks_nothing : (κs : Lfts 3) (before : Lent) → rearrange_entry.Asked κs before
 rearrange_asks_nothing κs before = tt
 
-pub rearrange_gives_the_definition : (κs : Lfts 3) (before after : Lent) (answer : Moved) → rearrange_entry.Learnt κs before answer after
+pub rearrange_gives_the_definition : (κs : Lfts 3) (before after : Lent) (answer : Result (Unit {0}) OrderError) → rearrange_entry.Learnt κs before answer after
     → rearranging answer after.1.0.now after.1.1.0.now ≡ rearrangement before.0.now (length before.1.0.now) (length before.1.1.0.now)
 rearrange_gives_the_definition κs before after answer learnt = learnt
 
 pub restore_asks_nothing : (κs : Lfts 3) (before : Restored) → restore_entry.Asked κs before
 restore_asks_nothing κs before = tt
 
-pub restore_gives_the_definition : (κs : Lfts 3) (before after : Restored) (answer : Moved) → restore_entry.Learnt κs before answer after
+pub restore_gives_the_definition : (κs : Lfts 3) (before after : Restored) (answer : Result (Unit {0}) OrderError) → restore_entry.Learnt κs before answer after
     → restoring answer after.1.1.0.now ≡ restoration before.0.now before.1.0.now (length before.1.1.0.now)
 restore_gives_the_definition κs before after answer learnt = learnt
 

@@ -1,5 +1,6 @@
 -- The whole file: its line of names, its bytes one by one, and the check of its words.
 use mathlib.Core.Path.{◌≡◌, refl, sym, ap, ◌∙◌, subst}
+use mathlib.Core.Logic.{◌⊎◌, inl, inr}
 use Prim.Native.Nat.{ℕ, suc, ◌+◌, ◌-◌, ◌*◌, ◌/◌, ◌^◌, ◌<◌, ◌≤◌}
 use native.Mathlib.Omega.{arith}
 use native.Mathlib.Numerals.{add-one}
@@ -9,69 +10,58 @@ use lib.ListN.{length, get_or, set, length-set, take, drop, drop_of_length-le, l
 use lib.Seq.{drop-cons}
 use lib.Dec.{eqb}
 use borrow.Author.Tests.{eq-eqb, ne_eqb, eqb-true, eqb-false, le-leb, lt-leb}
+use Rattle.std.specs.Prelude.{Option, None, Some, is_some, ok_or, Ok, Err, nat_eq}
+use Rattle.std.specs.List.{take_while, zip}
+use Rattle.std.proofs.lemmas.List.Sums.{take_while-cons}
 use Rattle.text.specs.Form.{ending}
+use Rattle.text.specs.Reading.{is_digit, may_follow}
 use Rattle.text.specs.Lent.{Holds}
 use Rattle.text.specs.Line.{line}
-use Rattle.text.specs.Printed.{tree_names, written_of, lent_of}
+use Rattle.text.specs.Printed.{tree_names, Written, written_of, lent_of}
 use Rattle.text.specs.Prints.{WrittenText}
-use Rattle.text.specs.declared.write.Written.{Written}
 use Rattle.text.proofs.LentLaws.{holds_none, holds_put, holds_all}
 use Rattle.text.proofs.WriteLaws.{line_most, text_fits}
-use Rattle.definition.proofs.Steps.{true_false}
-use Rattle.tree_grammar.specs.Needs.{tree_verdict, code_of, at_of}
-use Rattle.tree_check.specs.Found.{tree_read, no_list, tree_checked}
-use Rattle.tree_check.proofs.ReadLaws.{part_of_row, too_many}
-use Rattle.tree_check.proofs.Simulation.{read_answers}
-use Rattle.tree_check.specs.declared.TreeChecked.{TreeChecked}
-use Rattle.tree_check.specs.declared.TreeRead.{TreeRead}
-use Rattle.tree_check.specs.declared.file.Rows.{Rows}
+use Rattle.tree_check.specs.Found.{TreeChecked, tree_checked}
+use Rattle.tree_check.proofs.ReadLaws.{not_sized}
+use Rattle.tree_check.proofs.Simulation.{refused_so}
+use Rattle.tree_check.specs.declared.file.BadByte.{BadByte}
 use Rattle.tree_check.specs.declared.scan.Scan.{Scan}
-use Rattle.tree_check.specs.Scan.{Scanned, stopped, words, follows, digit_of, next_column, refused_scan, first_digit, in_number, stepped, with_words, ended_word, scanned, start_scan, alike, table_words, file_words}
+use Rattle.tree_check.specs.declared.scan.Step.{Step}
+use Rattle.tree_check.specs.Scan.{Scanned, stopped, words, next_column, going_on, gone_by, first_digit, in_number, stepped, with_words, ended_word, scanned, start_scan, alike, table_words, file_words}
 use Rattle.tree_check.specs.Prints.{scan_checked, file_checked, check_names, printed_check}
-use Rattle.tree_check.specs.Read.{NamesEnd, Kept, rows_refused, scan_end, RowsRead, checked_as}
+use Rattle.tree_check.specs.Read.{WordsRead, Refused, checked_as}
 
 -- ---- the line of names
 
-module _ (names file : List ℕ) where
-  -- so many bytes are alike, and the rest says how many more
-  pub record Matching (i : ℕ) : Type 0 where
-    pub rest : alike names file ≡ i + alike (drop i names) (drop i file)
-    pub near : i ≤ length file
+pub alike_most : (names file : List ℕ) → (alike names file ≤ length names) × (alike names file ≤ length file)
+unfolding alike
+alike_most [] file = (omega arith, omega arith)
+alike_most (name ∷ names) [] = (omega arith, omega arith)
+alike_most (name ∷ names) (byte ∷ file) = by (alike_most names file) (eqb byte name)
+  where
+    by : (alike names file ≤ length names) × (alike names file ≤ length file) → (y : Bool) → (cond y (suc (alike names file)) 0 ≤ suc (length names)) × (cond y (suc (alike names file)) 0 ≤ suc (length file))
+    by m true = (omega (arith, m.0), omega (arith, m.1))
+    by m false = (omega arith, omega arith)
 
-  pub matching_start : Matching 0
-  matching_start = record { rest = let z : alike names file ≡ 0 + alike names file = omega arith in z; near = omega arith }
+-- how many bytes of some names the file begins with
+pub record NamesEnd (names file : List ℕ) (r : ℕ) : Type 0 where
+  pub is : r ≡ alike names file
+  pub within : r ≤ length file
 
-  no_more : (some : List ℕ) → alike some [] ≡ 0
-  unfolding alike
-  no_more [] = refl
-  no_more (n ∷ ns) = refl
+-- as the code counts them
+alike_counted : (names file : List ℕ) → length (take_while (λ p. nat_eq p.1 p.0) (zip names file)) ≡ alike names file
+unfolding alike
+alike_counted [] file = refl
+alike_counted (name ∷ names) [] = refl
+alike_counted (name ∷ names) (byte ∷ file) = rw take_while-cons (by (alike_counted names file) (eqb byte name))
+  where
+    by : length (take_while (λ p. nat_eq p.1 p.0) (zip names file)) ≡ alike names file
+        → (y : Bool) → length (cond y ((name, byte) ∷ take_while (λ p. nat_eq p.1 p.0) (zip names file)) []) ≡ cond y (suc (alike names file)) 0
+    by e true = ap suc e
+    by e false = refl
 
-  module _ (i : ℕ) (m : Matching i) where
-    ended : i ≡ alike names file → NamesEnd names file i
-    ended e = record { is = e; within = m.near }
-
-    pub file_short : length file ≤ i → NamesEnd names file i
-    file_short h = ended (let z : alike (drop i names) (drop i file) ≡ 0 = rw (drop_of_length-le file h) (no_more (drop i names)) in omega (arith, m.rest))
-
-    module _ (inside : i < length names) (within : i < length file) where
-      opened : alike (drop i names) (drop i file) ≡ cond (eqb (get_or file i 0) (get_or names i 0)) (suc (alike (drop (suc i) names) (drop (suc i) file))) 0
-      unfolding alike
-      opened = rw (drop-cons names i 0 inside, drop-cons file i 0 within)
-
-      pub names_differ : (get_or file i 0 ≡ get_or names i 0 → ⊥) → NamesEnd names file i
-      names_differ f = ended (let z : alike (drop i names) (drop i file) ≡ 0 = opened ∙ rw (ne_eqb (get_or file i 0) (get_or names i 0) f) in omega (arith, m.rest))
-
-      pub names_agree : get_or file i 0 ≡ get_or names i 0 → Matching (i + 1)
-      names_agree e =
-          let z : alike (drop i names) (drop i file) ≡ suc (alike (drop (i + 1) names) (drop (i + 1) file)) =
-          opened ∙ rw (eq-eqb (get_or file i 0) (get_or names i 0) e, add-one i) in
-          record { rest = omega (arith, m.rest); near = omega arith }
-
-    pub names_end : length names ≤ i → NamesEnd names file i
-    names_end h = ended (let z : alike (drop i names) (drop i file) ≡ 0 = rw (drop_of_length-le names h) nothing in omega (arith, m.rest))
-      where
-        nothing : alike [] (drop i file) ≡ 0
-        nothing = unfold alike in refl
+pub names_end : (names file : List ℕ) {r : ℕ} → r ≡ length (take_while (λ p. nat_eq p.1 p.0) (zip names file)) → NamesEnd names file r
+names_end names file e = record { is = e ∙ alike_counted names file; within = omega (arith, e, alike_counted names file, (alike_most names file).1) }
 
 -- ---- the bytes
 
@@ -90,50 +80,38 @@ next_low last column h = by (eqb column last) refl
     by true e = omega arith
     by false e = omega (arith, eqb-false column last e)
 
+-- the column after a step
+abbrev Low : (last : ℕ) → Option Step → Type 0
+Low last None = Unit {0}
+Low last (Some step) = step.scan.column ≤ last
+
 -- whichever side a test chooses
-either : (last : ℕ) (y : Bool) (a b : Scan) → a.column ≤ last → b.column ≤ last → (cond y a b).column ≤ last
-either last true a b p q = p
-either last false a b p q = q
+low_cond : (last : ℕ) (y : Bool) (a b : Option Step) → Low last a → Low last b → Low last (cond y a b)
+low_cond last true a b p q = p
+low_cond last false a b p q = q
 
-module _ (last column value byte : ℕ) (h : column ≤ last) where
-  first_low : (first_digit column byte).column ≤ last
-  unfolding first_digit
-  first_low = either last (eqb (digit_of byte) 10) refused_scan (record { refused = false; ended = false; begun = true; column = column; value = digit_of byte }) (omega arith) h
+step_low : (last : ℕ) (scan : Scan) (byte : ℕ) → scan.column ≤ last → Low last (stepped last scan byte)
+unfolding stepped first_digit in_number
+step_low last scan byte h = by scan.number
+  where
+    by : (o : Option ℕ) → Low last (elim o as (λ x. Option Step) [ None ↦ first_digit scan.column byte | Some value ↦ in_number last scan.column value byte ])
+    by None = low_cond last (is_digit byte) (Some (going_on scan.column (byte - 48))) None h tt
+    by (Some value) =
+        low_cond last (eqb byte (ending (eqb scan.column last))) (Some (gone_by last scan.column value))
+        (cond (may_follow value byte) (Some (going_on scan.column (value * 10 + (byte - 48)))) None) (next_low last scan.column h)
+        (low_cond last (may_follow value byte) (Some (going_on scan.column (value * 10 + (byte - 48)))) None h tt)
 
-  number_low : (in_number last column value byte).column ≤ last
-  unfolding in_number
-  number_low =
-      either last (eqb byte (ending (eqb column last))) (record { refused = false; ended = true; begun = false; column = next_column last column; value = value })
-      (cond (follows value byte) (record { refused = false; ended = false; begun = true; column = column; value = value * 10 + (byte - 48) }) refused_scan) (next_low last column h)
-      (either last (follows value byte) (record { refused = false; ended = false; begun = true; column = column; value = value * 10 + (byte - 48) }) refused_scan h (omega arith))
-
-pub column_low : (last : ℕ) (scan : Scan) (byte : ℕ) → scan.column ≤ last → (stepped last scan byte).column ≤ last
-unfolding stepped
-column_low last scan byte h =
-    either last scan.begun (in_number last scan.column scan.value byte) (first_digit scan.column byte)
-    (number_low last scan.column scan.value byte h) (first_low last scan.column scan.value byte h)
-
--- ---- a word that has ended
-
-pub kept_word : {lent lent' : List ℕ} (count value : ℕ) {ended : Bool} → ended ≡ true → lent' ≡ set lent count value → Kept lent count ended value lent' (count + 1)
-kept_word {lent} count value e q = rw (e, q) (record { holds = λ items h. holds_put lent count value items h; most = omega arith; long = length-set lent count value })
-
-pub kept_none : (lent : List ℕ) (count value : ℕ) {ended : Bool} → ended ≡ false → Kept lent count ended value lent count
-kept_none lent count value e = rw e (record { holds = λ items h. rw (append-nil items) h; most = omega arith; long = refl })
+pub column_low : (last : ℕ) (scan : Scan) (byte : ℕ) → scan.column ≤ last → {step : Step} → stepped last scan byte ≡ Some step → step.scan.column ≤ last
+column_low last scan byte h e = subst (Low last) e (step_low last scan byte h)
 
 -- ---- the file
 
-module _ {names : List ℕ} {last : ℕ} where
-  -- a file refused at a byte
-  pub refused_read : {file lent : List ℕ} {at : ℕ} {r : Rows} → r ≡ rows_refused at → at ≤ length file → table_words names last file ≡ stopped at → RowsRead names last file lent r
-  refused_read {file} {lent} {at} e h q = subst (RowsRead names last file lent) (sym e) (record { within = h; few = omega arith; stop = λ _. q; read = λ z. absurd (true_false z) })
-
-  -- no line of names
-  pub names_refused : {file lent : List ℕ} {start : ℕ} {r : Rows} → NamesEnd names file start → (start ≡ length names → ⊥) → r ≡ rows_refused start → RowsRead names last file lent r
-  names_refused {file} {lent} {start} n f e = refused_read e n.within told
-    where
-      told : table_words names last file ≡ stopped start
-      told = unfold table_words in rw (ne_eqb (alike names file) (length names) (λ z. f (n.is ∙ z)), table_words, ← n.is)
+-- no line of names
+pub names_refused : (names : List ℕ) (last : ℕ) {file : List ℕ} {start : ℕ} → NamesEnd names file start → (start ≡ length names → ⊥) → Refused names last file start
+names_refused names last {file} {start} n f = record { is = told; within = n.within }
+  where
+    told : table_words names last file ≡ stopped start
+    told = unfold table_words in rw (ne_eqb (alike names file) (length names) (λ z. f (n.is ∙ z)), table_words, ← n.is)
 
 module _ (names : List ℕ) (last : ℕ) (file : List ℕ) where
   -- what is left of the bytes gives what the whole gives
@@ -146,11 +124,11 @@ module _ (names : List ℕ) (last : ℕ) (file : List ℕ) where
     pub few : count ≤ at
     pub columns : scan.column ≤ last
 
-  pub scanning_start : {lent : List ℕ} {scan : Scan} {start : ℕ} → NamesEnd names file start → start ≡ length names → scan ≡ start_scan → Scanning (length lent) lent scan 0 start
-  scanning_start {lent} {scan} {start} n e s =
+  pub scanning_start : {lent : List ℕ} {start : ℕ} → NamesEnd names file start → start ≡ length names → Scanning (length lent) lent start_scan 0 start
+  scanning_start {lent} {start} n e =
       let told : table_words names last file ≡ scanned last start_scan (length names) (drop (length names) file) =
       unfold table_words in rw (eq-eqb (alike names file) (length names) (sym n.is ∙ e), table_words) in
-      rw (s, e) (record {
+      rw e (record {
         long = refl;
         items = [];
         rest = told ∙ sym (with_none (scanned last start_scan (length names) (drop (length names) file)));
@@ -161,53 +139,76 @@ module _ (names : List ℕ) (last : ℕ) (file : List ℕ) where
       })
 
   module _ {room : ℕ} {lent : List ℕ} {scan : Scan} {count at : ℕ} (s : Scanning room lent scan count at) where
-    module _ (more : at < length file) {next : Scan} (is : next ≡ stepped last scan (get_or file at 0)) where
+    module _ (more : at < length file) {next : Option Step} (is : next ≡ stepped last scan (get_or file at 0)) where
       opened_scan : scanned last scan at (drop at file)
-          ≡ elim (stepped last scan (get_or file at 0)).refused [
-            | true ↦ stopped at
-            | false ↦ with_words (ended_word (stepped last scan (get_or file at 0))) (scanned last (stepped last scan (get_or file at 0)) (suc at) (drop (suc at) file))
-          ]
-      opened_scan = unfold scanned in rw (drop-cons file at 0 more)
+          ≡ elim next [ None ↦ stopped at | Some step ↦ with_words (ended_word step) (scanned last step.scan (suc at) (drop (suc at) file)) ]
+      unfolding scanned
+      opened_scan = rw (drop-cons file at 0 more, is)
 
-      pub scan_refused : {lent' : List ℕ} {r : Rows} → next.refused ≡ true → r ≡ rows_refused at → RowsRead names last file lent' r
-      scan_refused e q =
-          let z : (stepped last scan (get_or file at 0)).refused ≡ true = ap (λ (n : Scan). n.refused) (sym is) ∙ e in
-          let told : scanned last scan at (drop at file) ≡ stopped at = opened_scan ∙ rw z in
-          refused_read q s.within (s.rest ∙ ap (with_words s.items) told)
+      pub scan_refused : {bad : BadByte} → Err bad ≡ ok_or next (record { at = at }) → Refused names last file bad.at
+      scan_refused {bad} e = by next refl e
+        where
+          by : (o : Option Step) → next ≡ o → Err bad ≡ ok_or o (record { at = at }) → Refused names last file bad.at
+          by None q e =
+              let z : bad ≡ record { at = at } = cc in
+              let told : scanned last scan at (drop at file) ≡ stopped at = opened_scan ∙ rw q in
+              rw z (record { is = s.rest ∙ ap (with_words s.items) told; within = s.within })
+          by (Some step) q e = cc
 
-      pub scan_on : {lent' : List ℕ} {count' : ℕ} → next.refused ≡ false → Kept lent count next.ended next.value lent' count' → Scanning room lent' next count' (at + 1)
-      scan_on {lent'} {count'} e k =
-          let z : (stepped last scan (get_or file at 0)).refused ≡ false = ap (λ (n : Scan). n.refused) (sym is) ∙ e in
-          let on : scanned last scan at (drop at file) ≡ with_words (ended_word next) (scanned last next (at + 1) (drop (at + 1) file)) = opened_scan ∙ rw (z, is, add-one at) in
-          record {
-            long = k.long ∙ s.long;
-            items = s.items ++ ended_word next;
-            rest = s.rest ∙ (ap (with_words s.items) on ∙ with_more s.items (ended_word next) (scanned last next (at + 1) (drop (at + 1) file)));
-            holds = k.holds s.items s.holds;
-            within = omega arith;
-            few = omega (arith, s.few, k.most);
-            columns = rw is (column_low last scan (get_or file at 0) s.columns);
-          }
+      module _ {step : Step} (bad : BadByte) (ok : Ok step ≡ ok_or next bad) where
+        e : next ≡ Some step
+        e = by next refl ok
+          where
+            by : (o : Option Step) → next ≡ o → Ok step ≡ ok_or o bad → next ≡ Some step
+            by None q ok = cc
+            by (Some other) q ok = let z : other ≡ step = cc in q ∙ ap Some z
 
-    pub scan_ends : length file ≤ at → {r : Rows} → r ≡ scan_end scan at count → RowsRead names last file lent r
-    scan_ends h {r} e = by scan.begun refl (eqb scan.column 0) refl e
-      where
-        end : scanned last scan at (drop at file) ≡ elim (scan.begun || not (eqb scan.column 0)) [ true ↦ stopped at | false ↦ words [] ]
-        end = unfold scanned in rw (drop_of_length-le file h)
+        on : table_words names last file ≡ with_words (s.items ++ ended_word step) (scanned last step.scan (at + 1) (drop (at + 1) file))
+        on =
+            let here : scanned last scan at (drop at file) ≡ with_words (ended_word step) (scanned last step.scan (at + 1) (drop (at + 1) file)) = opened_scan ∙ rw (e, add-one at) in
+            s.rest ∙ (ap (with_words s.items) here ∙ with_more s.items (ended_word step) (scanned last step.scan (at + 1) (drop (at + 1) file)))
 
-        all : table_words names last file ≡ with_words s.items (elim (scan.begun || not (eqb scan.column 0)) [ true ↦ stopped at | false ↦ words [] ])
-        all = s.rest ∙ ap (with_words s.items) end
+        columns : step.scan.column ≤ last
+        columns = column_low last scan (get_or file at 0) s.columns (sym is ∙ e)
 
-        by : (b : Bool) → scan.begun ≡ b → (y : Bool) → eqb scan.column 0 ≡ y
-            → r ≡ cond b (rows_refused at) (cond y (record { refused = false; at = at; count = count }) (rows_refused at)) → RowsRead names last file lent r
-        by true p y q e = refused_read e s.within (all ∙ rw p)
-        by false p false q e = refused_read e s.within (all ∙ rw (p, q))
-        by false p true q e = subst (RowsRead names last file lent) (sym e) (record {
-          within = s.within;
-          few = omega (arith, s.few, s.within);
-          stop = λ z. absurd (true_false (sym z));
-          read = λ _. (s.items, all ∙ rw (p, q, append-nil s.items), s.holds);
+        -- no word has ended
+        pub scan_on : step.ended ≡ None → Scanning room lent step.scan count (at + 1)
+        scan_on n = record {
+          long = s.long;
+          items = s.items;
+          rest = on ∙ rw (n, append-nil s.items);
+          holds = s.holds;
+          within = omega arith;
+          few = omega (arith, s.few);
+          columns = columns;
+        }
+
+        -- one word has, and is stored if there is a place for it
+        pub scan_keeps : {word : ℕ} → step.ended ≡ Some word → {lent' : List ℕ} → lent' ≡ set lent count word → Scanning room lent' step.scan (count + 1) (at + 1)
+        scan_keeps {word} w q = rw q (record {
+          long = length-set lent count word ∙ s.long;
+          items = s.items ++ word ∷ [];
+          rest = on ∙ rw w;
+          holds = holds_put lent count word s.items s.holds;
+          within = omega arith;
+          few = omega (arith, s.few);
+          columns = columns;
         })
+
+    -- the file's end, which must be that of a line
+    module _ (h : length file ≤ at) where
+      all : table_words names last file ≡ with_words s.items (elim (is_some scan.number || not (eqb scan.column 0)) [ true ↦ stopped (length file) | false ↦ words [] ])
+      unfolding scanned
+      all =
+          let z : at ≡ length file = omega (arith, s.within) in
+          s.rest ∙ ap (with_words s.items) (rw (drop_of_length-le file h, z))
+
+      pub cut_short : {some : Bool} → some ≡ is_some scan.number → (some ≡ true) ⊎ ((some ≡ false) × (scan.column ≡ 0 → ⊥)) → Refused names last file (length file)
+      cut_short q (inl e) = record { is = all ∙ rw (sym q ∙ e); within = omega arith }
+      cut_short q (inr (e, f)) = record { is = all ∙ rw (sym q ∙ e, ne_eqb scan.column 0 f); within = omega arith }
+
+      pub scan_ends : {some : Bool} → some ≡ is_some scan.number → some ≡ false → scan.column ≡ 0 → WordsRead names last file lent count
+      scan_ends q e z = record { list = s.items; is = all ∙ rw (sym q ∙ e, z, append-nil s.items); held = s.holds; few = omega (arith, s.few, s.within) }
 
 -- ---- the check of the words
 
@@ -215,14 +216,13 @@ module _ {lent : List ℕ} (room : length lent ≡ 12288) {count : ℕ} {list : 
   pub too_many_words : length lent < count → checked_as list (record { code = 62; at = 0 })
   too_many_words l =
       let long : 12288 < length list = omega (arith, h.counted) in
-      let read : no_list ≡ tree_read list = by (eqb (length list) (length list / 6 * 6)) refl long in
-      let code : 62 ≡ code_of (tree_verdict list) = ap (λ (r : TreeRead). r.code) read ∙ (read_answers list).0 in
-      let at : 0 ≡ at_of (tree_verdict list) = ap (λ (r : TreeRead). r.at) read ∙ (read_answers list).1 in
-      rw (← code, ← at)
+      refused_so list (not_sized list (by (eqb (length list) (length list / 6 * 6)) refl long))
     where
-      by : (y : Bool) → eqb (length list) (length list / 6 * 6) ≡ y → 12288 < length list → no_list ≡ tree_read list
-      by true e l = let w : length list ≡ length list / 6 * 6 = eqb-true (length list) (length list / 6 * 6) e in too_many list w (λ z. omega arith) (omega arith)
-      by false e l = part_of_row list (eqb-false (length list) (length list / 6 * 6) e)
+      by : (y : Bool) → eqb (length list) (length list / 6 * 6) ≡ y → 12288 < length list
+          → (length list ≡ length list / 6 * 6 → ⊥)
+          ⊎ (((length list ≡ length list / 6 * 6) × (length list / 6 ≡ 0)) ⊎ ((length list ≡ length list / 6 * 6) × (length list / 6 ≡ 0 → ⊥) × (2048 < length list / 6)))
+      by true e l = let w : length list ≡ length list / 6 * 6 = eqb-true (length list) (length list / 6 * 6) e in inr (inr (w, (λ z. omega arith), omega arith))
+      by false e l = inl (eqb-false (length list) (length list / 6 * 6) e)
 
   pub words_checked : count ≤ length lent → {r : TreeChecked} → r ≡ tree_checked (take count lent) → checked_as list r
   words_checked l e = e ∙ ap tree_checked (holds_all lent count list h l)
@@ -232,19 +232,16 @@ module _ (file : List ℕ) where
   unfolding file_checked
   file_long h = rw (lt-leb (length file) 262144 h, file_checked)
 
-  module _ (short : length file ≤ 262144) {lent : List ℕ} {rows : Rows} (read : RowsRead tree_names 5 file lent rows) where
+  module _ (short : length file ≤ 262144) where
     within_limit : file_checked file ≡ scan_checked (file_words file)
     unfolding file_checked
     within_limit = rw (le-leb (length file) 262144 short, file_checked)
 
-    pub file_refused : rows.refused ≡ true → record { code = 50; at = rows.at } ≡ file_checked file
-    file_refused e = sym (within_limit ∙ rw (read.stop e))
+    pub file_refused : {at : ℕ} → Refused tree_names 5 file at → record { code = 50; at = at } ≡ file_checked file
+    file_refused r = sym (within_limit ∙ rw r.is)
 
-    pub file_read : rows.refused ≡ false → {r : TreeChecked} → ((list : List ℕ) → Holds lent rows.count list → checked_as list r) → r ≡ file_checked file
-    file_read e {r} h =
-        let list : List ℕ = (read.read e).0 in
-        let is : file_words file ≡ words list = (read.read e).1 in
-        h list (read.read e).2 ∙ sym (within_limit ∙ rw is)
+    pub file_read : {lent : List ℕ} {count : ℕ} → WordsRead tree_names 5 file lent count → {r : TreeChecked} → ((list : List ℕ) → Holds lent count list → checked_as list r) → r ≡ file_checked file
+    file_read w h = h w.list w.held ∙ sym (within_limit ∙ rw w.is)
 
 -- ---- what is printed
 

@@ -3,26 +3,28 @@ use mathlib.Core.Path.{◌≡◌, refl, sym, ap, ◌∙◌, subst}
 use Prim.Native.Nat.{ℕ, zero, suc, ◌+◌, ◌-◌, ◌*◌, ◌^◌, ◌<◌, ◌≤◌}
 use native.Mathlib.Omega.{arith}
 use mathlib.Core.List.{List, [], ◌∷◌, ◌++◌, append-nil, append_assoc}
-use mathlib.Core.Bool.{Bool, true, false, not, ◌||◌, cond}
+use mathlib.Core.Bool.{Bool, true, false, not, ◌||◌, ◌&&◌, cond}
 use lib.ListN.{length, take, drop, replicate, length-append, length-replicate}
 use lib.Seq.{take-add, take_at, drop_at}
-use lib.Dec.{eqb, leb}
-use borrow.Author.Tests.{eq-eqb, ne_eqb, eqb-true, eqb-false, leb-true}
+use lib.Dec.{eqb, leb, ltb}
+use borrow.Author.Tests.{eq-eqb, ne_eqb, eqb-true, eqb-false, leb-true, ltb-true}
+use Rattle.std.specs.Prelude.{Option, None, Some, is_some}
 use Rattle.text.specs.Form.{ending}
-use Rattle.text.specs.Steps.{Follows}
+use Rattle.text.specs.Reading.{is_digit, may_follow}
 use Rattle.text.specs.Decimal.{decimal}
 use Rattle.text.specs.Line.{line, lines, flat}
 use Rattle.text.specs.File.{Words, Rows}
 use Rattle.text.proofs.DecimalLaws.{decimal_small, decimal_next}
+use Rattle.tree_grammar.proofs.Upto.{and_both}
 use Rattle.tree_check.specs.declared.scan.Scan.{Scan}
-use Rattle.tree_check.specs.Scan.{Scanned, stopped, words, digit_of, follows, next_column, refused_scan, first_digit, in_number, stepped, with_words, ended_word, scanned, start_scan, alike, table_words}
+use Rattle.tree_check.specs.declared.scan.Step.{Step}
+use Rattle.tree_check.specs.Scan.{Scanned, stopped, words, next_column, going_on, gone_by, first_digit, in_number, stepped, with_words, ended_word, scanned, start_scan, alike, table_words}
 use Rattle.tree_check.specs.Good.{TableFile, RefusedAt}
-use Rattle.tree_check.proofs.ScanLaws.{follows_true}
-use Rattle.tree_check.proofs.FileLaws.{with_none, column_low, next_low}
+use Rattle.tree_check.proofs.FileLaws.{alike_most, with_none, column_low, next_low}
 use Rattle.tree_check.proofs.ReadBack.{opened, closed, goes_on, LineRead, line_one, line_more, last_ending, other_ending, first_column, later_column, line_read, names_there, table_back}
 
-true_false : true ≡ false → ⊥
-true_false e = let z : ◌≡◌ {A = ℕ} 0 1 = cc in omega arith
+none_some : {n : ℕ} → None ≡ Some n → ⊥
+none_some e = cc
 
 stopped_words : {at : ℕ} {list : List ℕ} → stopped at ≡ words list → ⊥
 stopped_words e = let z : ◌≡◌ {A = ℕ} 0 1 = cc in omega arith
@@ -35,61 +37,60 @@ words_are e = cc
 
 -- ---- what a byte does
 
-digit_small : (byte : ℕ) → (digit_of byte ≡ 10 → ⊥) → (digit_of byte < 10) × (byte ≡ 48 + digit_of byte)
-digit_small byte f = by (leb 48 byte) refl (leb byte 57) refl
-  where
-    by : (x : Bool) → leb 48 byte ≡ x → (y : Bool) → leb byte 57 ≡ y → (digit_of byte < 10) × (byte ≡ 48 + digit_of byte)
-    by true p true q =
-        let low : 48 ≤ byte = leb-true 48 byte p in
-        let high : byte ≤ 57 = leb-true byte 57 q in
-        let d : digit_of byte ≡ byte - 48 = rw (p, q) in
-        (omega (arith, d), omega (arith, d))
-    by true p false q = absurd (f (rw (p, q)))
-    by false p y q = absurd (f (rw p))
+digit_small : (byte : ℕ) → is_digit byte ≡ true → (byte - 48 < 10) × (byte ≡ 48 + (byte - 48))
+unfolding is_digit
+digit_small byte e =
+    let a : (leb 48 byte ≡ true) × (leb byte 57 ≡ true) = and_both (leb 48 byte) (leb byte 57) e in
+    let low : 48 ≤ byte = leb-true 48 byte a.0 in
+    let high : byte ≤ 57 = leb-true byte 57 a.1 in
+    (omega arith, omega arith)
+
+record Follows (value byte : ℕ) : Type 0 where
+  digit : is_digit byte ≡ true
+  led : 0 < value
+  fits : value * 10 + (byte - 48) < 2 ^ 32
+
+follows : (value byte : ℕ) → may_follow value byte ≡ true → Follows value byte
+unfolding may_follow
+follows value byte e =
+    let a : (is_digit byte ≡ true) × (ltb 0 value && ltb (value * 10 + (byte - 48)) 4294967296 ≡ true) = and_both (is_digit byte) _ e in
+    let b : (ltb 0 value ≡ true) × (ltb (value * 10 + (byte - 48)) 4294967296 ≡ true) = and_both (ltb 0 value) _ a.1 in
+    record { digit = a.0; led = ltb-true 0 value b.0; fits = ltb-true (value * 10 + (byte - 48)) 4294967296 b.1 }
 
 module _ (last : ℕ) where
   -- it is refused, or it begins, ends or lengthens a number
-  data Step (scan : Scan) (byte : ℕ) : Type 0 where
-    refuses : (stepped last scan byte).refused ≡ true → Step scan byte
-    begins : (d : ℕ) → d < 10 → byte ≡ 48 + d → scan.begun ≡ false → stepped last scan byte ≡ opened last scan.column d → Step scan byte
-    ends : scan.begun ≡ true → byte ≡ ending (eqb scan.column last) → stepped last scan byte ≡ closed last scan.column scan.value → Step scan byte
-    lengthens : (d : ℕ) → d < 10 → byte ≡ 48 + d → scan.begun ≡ true → 0 < scan.value → scan.value * 10 + d < 2 ^ 32
-        → stepped last scan byte ≡ opened last scan.column (scan.value * 10 + d) → Step scan byte
+  data Does (scan : Scan) (byte : ℕ) : Type 0 where
+    refuses : stepped last scan byte ≡ None → Does scan byte
+    begins : (d : ℕ) → d < 10 → byte ≡ 48 + d → scan.number ≡ None → stepped last scan byte ≡ Some (going_on scan.column d) → Does scan byte
+    ends : (v : ℕ) → scan.number ≡ Some v → byte ≡ ending (eqb scan.column last) → stepped last scan byte ≡ Some (gone_by last scan.column v) → Does scan byte
+    lengthens : (v d : ℕ) → d < 10 → byte ≡ 48 + d → scan.number ≡ Some v → 0 < v → v * 10 + d < 2 ^ 32
+        → stepped last scan byte ≡ Some (going_on scan.column (v * 10 + d)) → Does scan byte
 
-  step_is : (scan : Scan) (byte : ℕ) → Step scan byte
-  step_is scan byte = by scan.begun refl
+  step_does : (scan : Scan) (byte : ℕ) → Does scan byte
+  step_does scan byte = by scan.number refl
     where
-      first : scan.begun ≡ false → (y : Bool) → eqb (digit_of byte) 10 ≡ y → Step scan byte
+      first : scan.number ≡ None → (y : Bool) → is_digit byte ≡ y → Does scan byte
       first o true e =
-          let is : stepped last scan byte ≡ refused_scan = unfold stepped first_digit in rw (o, e) in
-          refuses (ap (λ (s : Scan). s.refused) is)
-      first o false e =
-          let is : stepped last scan byte ≡ opened last scan.column (digit_of byte) = unfold stepped first_digit in rw (o, e) in
-          let d : (digit_of byte < 10) × (byte ≡ 48 + digit_of byte) = digit_small byte (eqb-false (digit_of byte) 10 e) in
-          begins (digit_of byte) d.0 d.1 o is
+          let d : (byte - 48 < 10) × (byte ≡ 48 + (byte - 48)) = digit_small byte e in
+          begins (byte - 48) d.0 d.1 o (unfold stepped first_digit in rw (o, e))
+      first o false e = refuses (unfold stepped first_digit in rw (o, e))
 
-      inside : scan.begun ≡ true → (y : Bool) → eqb byte (ending (eqb scan.column last)) ≡ y → (z : Bool) → follows scan.value byte ≡ z → Step scan byte
-      inside o true e z q = ends o (eqb-true byte (ending (eqb scan.column last)) e) (unfold stepped in_number in rw (o, e))
-      inside o false e true q =
-          let f : Follows scan.value byte (byte - 48) = follows_true scan.value byte q in
-          lengthens (byte - 48) f.small f.shown o f.led f.fits (unfold stepped in_number in rw (o, e, q))
-      inside o false e false q =
-          let is : stepped last scan byte ≡ refused_scan = unfold stepped in_number in rw (o, e, q) in
-          refuses (ap (λ (s : Scan). s.refused) is)
+      inside : (v : ℕ) → scan.number ≡ Some v → (y : Bool) → eqb byte (ending (eqb scan.column last)) ≡ y → (z : Bool) → may_follow v byte ≡ z → Does scan byte
+      inside v o true e z q = ends v o (eqb-true byte (ending (eqb scan.column last)) e) (unfold stepped in_number in rw (o, e))
+      inside v o false e true q =
+          let f : Follows v byte = follows v byte q in
+          let d : (byte - 48 < 10) × (byte ≡ 48 + (byte - 48)) = digit_small byte f.digit in
+          lengthens v (byte - 48) d.0 d.1 o f.led f.fits (unfold stepped in_number in rw (o, e, q))
+      inside v o false e false q = refuses (unfold stepped in_number in rw (o, e, q))
 
-      by : (y : Bool) → scan.begun ≡ y → Step scan byte
-      by true o = inside o (eqb byte (ending (eqb scan.column last))) refl (follows scan.value byte) refl
-      by false o = first o (eqb (digit_of byte) 10) refl
+      by : (o : Option ℕ) → scan.number ≡ o → Does scan byte
+      by None o = first o (is_digit byte) refl
+      by (Some v) o = inside v o (eqb byte (ending (eqb scan.column last))) refl (may_follow v byte) refl
 
   -- a byte that is refused stops the scan
-  stops_here : (scan : Scan) (at byte : ℕ) (rest : List ℕ) → (stepped last scan byte).refused ≡ true → scanned last scan at (byte ∷ rest) ≡ stopped at
+  stops_here : (scan : Scan) (at byte : ℕ) (rest : List ℕ) → stepped last scan byte ≡ None → scanned last scan at (byte ∷ rest) ≡ stopped at
   unfolding scanned
-  stops_here scan at byte rest e =
-      ap (λ (y : Bool). elim y [ true ↦ stopped at | false ↦ with_words (ended_word (stepped last scan byte)) (scanned last (stepped last scan byte) (suc at) rest) ]) e
-
-  onward_is : (scan : Scan) (at byte : ℕ) (rest : List ℕ) → (stepped last scan byte).refused ≡ false
-      → scanned last scan at (byte ∷ rest) ≡ with_words (ended_word (stepped last scan byte)) (scanned last (stepped last scan byte) (suc at) rest)
-  onward_is scan at byte rest e = goes_on last scan (stepped last scan byte) at byte rest refl e
+  stops_here scan at byte rest e = ap (λ (o : Option Step). elim o [ None ↦ stopped at | Some step ↦ with_words (ended_word step) (scanned last step.scan (suc at) rest) ]) e
 
   -- ---- what is read is a good file's
 
@@ -110,9 +111,9 @@ module _ (last : ℕ) where
     all : list ≡ flat rows
 
   record Said (scan : Scan) (text list : List ℕ) : Type 0 where
-    inside : scan.begun ≡ true → Left scan.column (decimal scan.value ++ text) list
-    first : scan.begun ≡ false → scan.column ≡ 0 → Whole text list
-    later : scan.begun ≡ false → (scan.column ≡ 0 → ⊥) → Left scan.column text list
+    inside : (v : ℕ) → scan.number ≡ Some v → Left scan.column (decimal v ++ text) list
+    first : scan.number ≡ None → scan.column ≡ 0 → Whole text list
+    later : scan.number ≡ None → (scan.column ≡ 0 → ⊥) → Left scan.column text list
 
   whole_line : {column : ℕ} {text list : List ℕ} → column ≡ 0 → Left column text list → Whole text list
   unfolding lines flat
@@ -153,77 +154,91 @@ module _ (last : ℕ) where
       }
 
   -- a number has ended
-  number_ended : (scan : Scan) {text list : List ℕ} → scan.column ≤ last → scan.value < 2 ^ 32 → Said (closed last scan.column scan.value) text list
-      → Left scan.column (decimal scan.value ++ (ending (eqb scan.column last) ∷ text)) (scan.value ∷ list)
-  number_ended scan {text} {list} c v s = by (eqb scan.column last) refl
+  number_ended : (column value : ℕ) {text list : List ℕ} → column ≤ last → value < 2 ^ 32 → Said (closed last column) text list
+      → Left column (decimal value ++ (ending (eqb column last) ∷ text)) (value ∷ list)
+  number_ended column value {text} {list} c v s = by (eqb column last) refl
     where
-      by : (y : Bool) → eqb scan.column last ≡ y → Left scan.column (decimal scan.value ++ (ending (eqb scan.column last) ∷ text)) (scan.value ∷ list)
+      by : (y : Bool) → eqb column last ≡ y → Left column (decimal value ++ (ending (eqb column last) ∷ text)) (value ∷ list)
       by true e =
-          let at_last : scan.column ≡ last = eqb-true scan.column last e in
-          rw (← (last_ending last scan.column at_last)) (last_number at_last v (s.first refl (first_column last scan.column at_last)))
+          let at_last : column ≡ last = eqb-true column last e in
+          rw (← (last_ending last column at_last)) (last_number at_last v (s.first refl (first_column last column at_last)))
       by false e =
-          let before : scan.column ≡ last → ⊥ = eqb-false scan.column last e in
-          let column : next_column last scan.column ≡ scan.column + 1 = later_column last scan.column before in
-          let rest : Left (next_column last scan.column) text list = s.later refl (λ z. omega (arith, z, column)) in
-          rw (← (other_ending last scan.column before)) (one_number before c v (subst (λ (k : ℕ). Left k text list) column rest))
+          let before : column ≡ last → ⊥ = eqb-false column last e in
+          let next : next_column last column ≡ column + 1 = later_column last column before in
+          let rest : Left (next_column last column) text list = s.later refl (λ z. omega (arith, z, next)) in
+          rw (← (other_ending last column before)) (one_number before c v (subst (λ (k : ℕ). Left k text list) next rest))
 
   -- the words after some
   words_after : (before : List ℕ) (s : Scanned) (list : List ℕ) → with_words before s ≡ words list → (rest : List ℕ) × (s ≡ words rest) × (list ≡ before ++ rest)
   words_after before (stopped at) list e = absurd (stopped_words e)
   words_after before (words rest) list e = (rest, refl, sym (words_are e))
 
+  -- what is said of a scan in a number
+  open_said : {scan : Scan} {text list : List ℕ} (n : ℕ) → scan.number ≡ Some n → Left scan.column (decimal n ++ text) list → Said scan text list
+  open_said {scan} {text} {list} n o l = record {
+    inside = λ v p. let z : n ≡ v = cc in rw (← z) l;
+    first = λ p _. absurd (none_some (sym p ∙ o));
+    later = λ p _. absurd (none_some (sym p ∙ o));
+  }
+
+  abbrev Fits : Scan → Type 0
+  Fits scan = (v : ℕ) → scan.number ≡ Some v → v < 2 ^ 32
+
+  open_fits : (column n : ℕ) → n < 2 ^ 32 → Fits (opened last column n)
+  open_fits column n h v e = let z : n ≡ v = cc in rw (← z) h
+
+  closed_fits : (column : ℕ) → Fits (closed last column)
+  closed_fits column v e = cc
+
   abbrev Sound : List ℕ → Type 0
-  Sound bytes = (scan : Scan) (at : ℕ) (list : List ℕ) → scan.column ≤ last → scan.value < 2 ^ 32 → scanned last scan at bytes ≡ words list → Said scan bytes list
+  Sound bytes = (scan : Scan) (at : ℕ) (list : List ℕ) → scan.column ≤ last → Fits scan → scanned last scan at bytes ≡ words list → Said scan bytes list
 
   sound_none : Sound []
-  sound_none scan at list c v e = by scan.begun refl (eqb scan.column 0) refl
+  sound_none scan at list c v e = by scan.number refl (eqb scan.column 0) refl
     where
-      end : scanned last scan at [] ≡ elim (scan.begun || not (eqb scan.column 0)) [ true ↦ stopped at | false ↦ words [] ]
+      end : scanned last scan at [] ≡ elim (is_some scan.number || not (eqb scan.column 0)) [ true ↦ stopped at | false ↦ words [] ]
       end = unfold scanned in refl
 
-      by : (b : Bool) → scan.begun ≡ b → (y : Bool) → eqb scan.column 0 ≡ y → Said scan [] list
-      by true p y q = let s : scanned last scan at [] ≡ stopped at = end ∙ rw p in absurd (stopped_words (sym s ∙ e))
-      by false p false q = let s : scanned last scan at [] ≡ stopped at = end ∙ rw (p, q) in absurd (stopped_words (sym s ∙ e))
-      by false p true q =
+      by : (o : Option ℕ) → scan.number ≡ o → (y : Bool) → eqb scan.column 0 ≡ y → Said scan [] list
+      by (Some v) p y q = let s : scanned last scan at [] ≡ stopped at = end ∙ rw p in absurd (stopped_words (sym s ∙ e))
+      by None p false q = let s : scanned last scan at [] ≡ stopped at = end ∙ rw (p, q) in absurd (stopped_words (sym s ∙ e))
+      by None p true q =
           let s : scanned last scan at [] ≡ words [] = end ∙ rw (p, q) in
           let none : [] ≡ list = words_are (sym s ∙ e) in
           record {
-            inside = λ o. absurd (true_false (sym o ∙ p));
+            inside = λ v o. absurd (none_some (sym p ∙ o));
             first = λ _ z. record { rows = []; formed = tt; same = unfold lines in refl; all = sym none ∙ (unfold flat in refl) };
             later = λ _ f. absurd (f (eqb-true scan.column 0 q));
           }
 
   sound_more : (byte : ℕ) (bytes : List ℕ) → Sound bytes → Sound (byte ∷ bytes)
-  sound_more byte bytes on scan at list c v e = by (step_is scan byte)
+  sound_more byte bytes on scan at list c v e = by (step_does scan byte)
     where
-      by : Step scan byte → Said scan (byte ∷ bytes) list
+      by : Does scan byte → Said scan (byte ∷ bytes) list
       by (refuses r) = absurd (stopped_words (sym (stops_here scan at byte bytes r) ∙ e))
       by (begins d h s o q) =
           let rest : scanned last (opened last scan.column d) (suc at) bytes ≡ words list =
-          sym (goes_on last scan (opened last scan.column d) at byte bytes q refl ∙ with_none (scanned last (opened last scan.column d) (suc at) bytes)) ∙ e in
-          let l : Left scan.column (decimal d ++ bytes) list = (on (opened last scan.column d) (suc at) list c (omega (arith, h)) rest).inside refl in
+          sym (goes_on last scan (going_on scan.column d) at byte bytes q ∙ with_none (scanned last (opened last scan.column d) (suc at) bytes)) ∙ e in
+          let l : Left scan.column (decimal d ++ bytes) list =
+          (on (opened last scan.column d) (suc at) list c (open_fits scan.column d (omega (arith, h))) rest).inside d refl in
           let text : decimal d ++ bytes ≡ byte ∷ bytes = rw (decimal_small d h, s) in
           let here : Left scan.column (byte ∷ bytes) list = subst (λ (z : List ℕ). Left scan.column z list) text l in
-          record { inside = λ p. absurd (true_false (sym p ∙ o)); first = λ _ z. whole_line z here; later = λ _ _. here }
-      by (ends o b q) =
-          let rest : with_words (scan.value ∷ []) (scanned last (closed last scan.column scan.value) (suc at) bytes) ≡ words list =
-          sym (goes_on last scan (closed last scan.column scan.value) at byte bytes q refl) ∙ e in
-          let w = words_after (scan.value ∷ []) (scanned last (closed last scan.column scan.value) (suc at) bytes) list rest in
-          let s : Said (closed last scan.column scan.value) bytes w.0 = on (closed last scan.column scan.value) (suc at) w.0 (next_low last scan.column c) v w.1 in
-          let here : Left scan.column (decimal scan.value ++ (byte ∷ bytes)) list = rw (b, w.2) (number_ended scan c v s) in
-          record { inside = λ _. here; first = λ p _. absurd (true_false (sym o ∙ p)); later = λ p _. absurd (true_false (sym o ∙ p)) }
-      by (lengthens d h s o p f q) =
-          let more : ℕ = scan.value * 10 + d in
+          record { inside = λ v p. absurd (none_some (sym o ∙ p)); first = λ _ z. whole_line z here; later = λ _ _. here }
+      by (ends n o b q) =
+          let rest : with_words (n ∷ []) (scanned last (closed last scan.column) (suc at) bytes) ≡ words list =
+          sym (goes_on last scan (gone_by last scan.column n) at byte bytes q) ∙ e in
+          let w = words_after (n ∷ []) (scanned last (closed last scan.column) (suc at) bytes) list rest in
+          let s : Said (closed last scan.column) bytes w.0 = on (closed last scan.column) (suc at) w.0 (next_low last scan.column c) (closed_fits scan.column) w.1 in
+          let here : Left scan.column (decimal n ++ (byte ∷ bytes)) list = rw (b, w.2) (number_ended scan.column n c (v n o) s) in
+          open_said n o here
+      by (lengthens n d h s o p f q) =
+          let more : ℕ = n * 10 + d in
           let rest : scanned last (opened last scan.column more) (suc at) bytes ≡ words list =
-          sym (goes_on last scan (opened last scan.column more) at byte bytes q refl ∙ with_none (scanned last (opened last scan.column more) (suc at) bytes)) ∙ e in
-          let l : Left scan.column (decimal more ++ bytes) list = (on (opened last scan.column more) (suc at) list c f rest).inside refl in
-          let text : decimal more ++ bytes ≡ decimal scan.value ++ (byte ∷ bytes) =
-          ap (λ (z : List ℕ). z ++ bytes) (decimal_next scan.value d p h) ∙ (append_assoc (decimal scan.value) ((48 + d) ∷ []) bytes ∙ ap (λ (z : ℕ). decimal scan.value ++ (z ∷ bytes)) (sym s)) in
-          record {
-            inside = λ _. subst (λ (z : List ℕ). Left scan.column z list) text l;
-            first = λ z _. absurd (true_false (sym o ∙ z));
-            later = λ z _. absurd (true_false (sym o ∙ z));
-          }
+          sym (goes_on last scan (going_on scan.column more) at byte bytes q ∙ with_none (scanned last (opened last scan.column more) (suc at) bytes)) ∙ e in
+          let l : Left scan.column (decimal more ++ bytes) list = (on (opened last scan.column more) (suc at) list c (open_fits scan.column more f) rest).inside more refl in
+          let text : decimal more ++ bytes ≡ decimal n ++ (byte ∷ bytes) =
+          ap (λ (z : List ℕ). z ++ bytes) (decimal_next n d p h) ∙ (append_assoc (decimal n) ((48 + d) ∷ []) bytes ∙ ap (λ (z : ℕ). decimal n ++ (z ∷ bytes)) (sym s)) in
+          open_said n o (subst (λ (z : List ℕ). Left scan.column z list) text l)
 
   sound : (bytes : List ℕ) → Sound bytes
   sound [] = sound_none
@@ -241,11 +256,11 @@ module _ (last : ℕ) where
     list : List ℕ
     reads : scanned last scan at rest ≡ words list
 
-  ended_scan : (scan : Scan) (at : ℕ) → scan.begun ≡ false → scan.column ≡ 0 → scanned last scan at [] ≡ words []
+  ended_scan : (scan : Scan) (at : ℕ) → scan.number ≡ None → scan.column ≡ 0 → scanned last scan at [] ≡ words []
   unfolding scanned
   ended_scan scan at o f = rw (o, f)
 
-  fill_line : (scan : Scan) (at : ℕ) → scan.column ≤ last → scan.begun ≡ false → Filled scan at
+  fill_line : (scan : Scan) (at : ℕ) → scan.column ≤ last → scan.number ≡ None → Filled scan at
   fill_line scan at c o =
       let zeros : List ℕ = replicate (last - scan.column) 0 in
       let many : length zeros ≡ last - scan.column = length-replicate (last - scan.column) 0 in
@@ -254,18 +269,18 @@ module _ (last : ℕ) where
       record { rest = line (0 ∷ zeros) ++ []; list = (0 ∷ zeros) ++ []; reads = l.same ∙ ap (with_words (0 ∷ zeros)) end }
 
   fill : (scan : Scan) (at : ℕ) → scan.column ≤ last → Filled scan at
-  fill scan at c = by scan.begun refl
+  fill scan at c = by scan.number refl
     where
-      by : (y : Bool) → scan.begun ≡ y → Filled scan at
-      by false o = fill_line scan at c o
-      by true o =
+      by : (o : Option ℕ) → scan.number ≡ o → Filled scan at
+      by None o = fill_line scan at c o
+      by (Some n) o =
           let byte : ℕ = ending (eqb scan.column last) in
-          let is : stepped last scan byte ≡ closed last scan.column scan.value = unfold stepped in_number in rw (o, eq-eqb byte byte refl) in
-          let f : Filled (closed last scan.column scan.value) (suc at) = fill_line (closed last scan.column scan.value) (suc at) (next_low last scan.column c) refl in
+          let is : stepped last scan byte ≡ Some (gone_by last scan.column n) = unfold stepped in_number in rw (o, eq-eqb byte byte refl) in
+          let f : Filled (closed last scan.column) (suc at) = fill_line (closed last scan.column) (suc at) (next_low last scan.column c) refl in
           record {
             rest = byte ∷ f.rest;
-            list = (scan.value ∷ []) ++ f.list;
-            reads = goes_on last scan (closed last scan.column scan.value) at byte f.rest is refl ∙ ap (with_words (scan.value ∷ [])) f.reads;
+            list = (n ∷ []) ++ f.list;
+            reads = goes_on last scan (gone_by last scan.column n) at byte f.rest is ∙ ap (with_words (n ∷ [])) f.reads;
           }
 
   record Stops (bytes : List ℕ) (scan : Scan) (at n : ℕ) : Type 0 where
@@ -294,7 +309,7 @@ module _ (last : ℕ) where
   stopping_none : Stopping []
   stopping_none scan at n c e = stops_now [] scan at n c place (λ l. absurd (omega (arith, l, place)))
     where
-      end : scanned last scan at [] ≡ elim (scan.begun || not (eqb scan.column 0)) [ true ↦ stopped at | false ↦ words [] ]
+      end : scanned last scan at [] ≡ elim (is_some scan.number || not (eqb scan.column 0)) [ true ↦ stopped at | false ↦ words [] ]
       end = unfold scanned in refl
 
       by : (y : Bool) → elim y [ true ↦ stopped at | false ↦ words [] ] ≡ stopped n → at ≡ n
@@ -302,7 +317,7 @@ module _ (last : ℕ) where
       by false q = absurd (stopped_words (sym q))
 
       place : at ≡ n
-      place = by (scan.begun || not (eqb scan.column 0)) (sym end ∙ e)
+      place = by (is_some scan.number || not (eqb scan.column 0)) (sym end ∙ e)
 
   -- a scan behind some words stops where it stops
   stops_after : (before : List ℕ) (s : Scanned) (n : ℕ) → with_words before s ≡ stopped n → s ≡ stopped n
@@ -310,17 +325,17 @@ module _ (last : ℕ) where
   stops_after before (words rest) n e = absurd (stopped_words (sym e))
 
   stopping_more : (byte : ℕ) (bytes : List ℕ) → Stopping bytes → Stopping (byte ∷ bytes)
-  stopping_more byte bytes on scan at n c e = by (stepped last scan byte).refused refl
+  stopping_more byte bytes on scan at n c e = by (stepped last scan byte) refl
     where
-      by : (y : Bool) → (stepped last scan byte).refused ≡ y → Stops (byte ∷ bytes) scan at n
-      by true r =
+      by : (o : Option Step) → stepped last scan byte ≡ o → Stops (byte ∷ bytes) scan at n
+      by None r =
           let here : at ≡ n = stopped_at (sym (stops_here scan at byte bytes r) ∙ e) in
           stops_now (byte ∷ bytes) scan at n c here (λ l rest. stops_here scan at byte rest r)
-      by false r =
-          let next : Scan = stepped last scan byte in
+      by (Some step) r =
+          let next : Scan = step.scan in
           let after : scanned last next (suc at) bytes ≡ stopped n =
-          stops_after (ended_word next) (scanned last next (suc at) bytes) n (sym (onward_is scan at byte bytes r) ∙ e) in
-          let s : Stops bytes next (suc at) n = on next (suc at) n (column_low last scan byte c) after in
+          stops_after (ended_word step) (scanned last next (suc at) bytes) n (sym (goes_on last scan step at byte bytes r) ∙ e) in
+          let s : Stops bytes next (suc at) n = on next (suc at) n (column_low last scan byte c r) after in
           let one : n - at ≡ suc (n - suc at) = omega (arith, s.least) in
           let two : suc n - at ≡ suc (suc n - suc at) = omega (arith, s.least) in
           record {
@@ -328,10 +343,10 @@ module _ (last : ℕ) where
             most = omega (arith, s.most);
             viable = (
               s.viable.0,
-              ended_word next ++ s.viable.1,
-              rw one (onward_is scan at byte (take (n - suc at) bytes ++ s.viable.0) r ∙ ap (with_words (ended_word next)) s.viable.2),
+              ended_word step ++ s.viable.1,
+              rw one (goes_on last scan step at byte (take (n - suc at) bytes ++ s.viable.0) r ∙ ap (with_words (ended_word step)) s.viable.2),
             );
-            further = λ l rest. rw two (onward_is scan at byte (take (suc n - suc at) bytes ++ rest) r ∙ ap (with_words (ended_word next)) (s.further (omega (arith, l)) rest));
+            further = λ l rest. rw two (goes_on last scan step at byte (take (suc n - suc at) bytes ++ rest) r ∙ ap (with_words (ended_word step)) (s.further (omega (arith, l)) rest));
           }
 
   stopping : (bytes : List ℕ) → Stopping bytes
@@ -339,16 +354,6 @@ module _ (last : ℕ) where
   stopping (byte ∷ bytes) = stopping_more byte bytes (stopping bytes)
 
 -- ---- the line of names
-
-alike_most : (names file : List ℕ) → (alike names file ≤ length names) × (alike names file ≤ length file)
-unfolding alike
-alike_most [] file = (omega arith, omega arith)
-alike_most (name ∷ names) [] = (omega arith, omega arith)
-alike_most (name ∷ names) (byte ∷ file) = by (alike_most names file) (eqb byte name)
-  where
-    by : (alike names file ≤ length names) × (alike names file ≤ length file) → (y : Bool) → (cond y (suc (alike names file)) 0 ≤ suc (length names)) × (cond y (suc (alike names file)) 0 ≤ suc (length file))
-    by m true = (omega (arith, m.0), omega (arith, m.1))
-    by m false = (omega arith, omega arith)
 
 -- what is alike of the file, and then the rest of the names
 alike_taken : (names file : List ℕ) → take (alike names file) file ++ drop (alike names file) names ≡ names
@@ -409,7 +414,7 @@ module _ (names : List ℕ) (last : ℕ) where
       by : (y : Bool) → eqb (alike names file) (length names) ≡ y → (t : TableFile names last file) × (flat t.rows ≡ list)
       by true p =
           let all : alike names file ≡ length names = eqb-true (alike names file) (length names) p in
-          let w = (sound last (drop (length names) file) start_scan (length names) list (omega arith) (omega arith) (sym (names_read file all) ∙ e)).first refl refl in
+          let w = (sound last (drop (length names) file) start_scan (length names) list (omega arith) (λ v e. cc) (sym (names_read file all) ∙ e)).first refl refl in
           (record { rows = w.rows; formed = w.formed; text = alike_all names file all ∙ ap (λ (z : List ℕ). names ++ z) w.same }, sym w.all)
       by false p = absurd (stopped_words (sym (names_stop file (eqb-false (alike names file) (length names) p)) ∙ e))
 

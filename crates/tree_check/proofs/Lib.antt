@@ -4,7 +4,6 @@ pub mod PartLaws
 pub mod ReadLaws
 pub mod Simulation
 pub mod Begins
-pub mod ScanLaws
 pub mod FileLaws
 pub mod ReadBack
 pub mod FirstByte

@@ -1,15 +1,13 @@
 -- The parts that a row takes, and where they begin.
 use mathlib.Core.Path.{◌≡◌, refl, sym, ap, ◌∙◌}
-use Prim.Native.Nat.{ℕ, zero, suc, ◌-◌, ◌<◌, ◌≤◌}
+use Prim.Native.Nat.{ℕ, zero, suc, ◌+◌, ◌-◌, ◌<◌, ◌≤◌}
 use native.Mathlib.Omega.{arith}
-use native.Mathlib.Nat.{le_refl}
 use mathlib.Core.List.{List, [], ◌∷◌}
-use mathlib.Core.Option.{Option, none, some}
 use mathlib.Core.Bool.{Bool, true, false}
 use lib.ListN.{get_or}
-use Rattle.definition.proofs.Steps.{none_some}
+use Rattle.std.specs.Prelude.{Option, None, Some}
 use Rattle.tree_grammar.specs.Needs.{Sort, serves, many, if_present, needs_by_op, made_by}
-use Rattle.tree_check.specs.Found.{word_at, parts_begin, or_nowhere, Ready}
+use Rattle.tree_check.specs.Found.{word_at, parts_begin, Ready}
 
 -- a flag that is not 0
 pub is_present : (flag : ℕ) (sort : Sort) (more : List Sort) → (flag ≡ 0 → ⊥) → sort ∷ more ≡ if_present flag sort more
@@ -24,116 +22,103 @@ same_needs {op' = op'} {a} {a'} {b} {b'} {c} o p q r =
 
 module _ (words begins : List ℕ) where
   -- what is found lies before the cursor
-  pub found_low : ((k : ℕ) → get_or begins k 0 ≤ k) → (wanted : List Sort) (cursor found : ℕ) → parts_begin words begins wanted cursor ≡ some found → found ≤ cursor
+  pub found_low : ((k : ℕ) → get_or begins k 0 ≤ k) → (wanted : List Sort) (cursor found : ℕ) → parts_begin words begins wanted cursor ≡ Some found → found ≤ cursor
   unfolding parts_begin
   found_low low [] cursor found e = let z : cursor ≡ found = cc e in omega arith
-  found_low low (sort ∷ wanted) zero found e = absurd (none_some e)
+  found_low low (sort ∷ wanted) zero found e = cc
   found_low low (sort ∷ wanted) (suc last) found e = by (serves sort (made_by (word_at words last 0))) e (λ q. found_low low wanted (get_or begins last 0) found q)
     where
-      by : (y : Bool) → elim y [ true ↦ parts_begin words begins wanted (get_or begins last 0) | false ↦ none ] ≡ some found
-          → (parts_begin words begins wanted (get_or begins last 0) ≡ some found → found ≤ get_or begins last 0) → found ≤ suc last
+      by : (y : Bool) → elim y [ true ↦ parts_begin words begins wanted (get_or begins last 0) | false ↦ None ] ≡ Some found
+          → (parts_begin words begins wanted (get_or begins last 0) ≡ Some found → found ≤ get_or begins last 0) → found ≤ suc last
       by true e h = omega (arith, h e, low last)
-      by false e h = absurd (none_some e)
-
-  -- a search's answer told from its number
-  pub data Told (wanted : List Sort) (cursor found : ℕ) : Type 0 where
-    nowhere : parts_begin words begins wanted cursor ≡ none → found ≡ 65535 → Told wanted cursor found
-    there : parts_begin words begins wanted cursor ≡ some found → found ≤ cursor → Told wanted cursor found
-
-  pub told : {rows : ℕ} → Ready words begins rows → (wanted : List Sort) (cursor found : ℕ) → found ≡ or_nowhere (parts_begin words begins wanted cursor) → Told wanted cursor found
-  told ready wanted cursor found e = by (parts_begin words begins wanted cursor) refl e
-    where
-      by : (o : Option ℕ) → parts_begin words begins wanted cursor ≡ o → found ≡ or_nowhere o → Told wanted cursor found
-      by none q e = nowhere q e
-      by (some c) q e = let z : parts_begin words begins wanted cursor ≡ some found = q ∙ ap (λ (n : ℕ). some n) (sym e) in there z (found_low ready.low wanted cursor found z)
+      by false e h = cc
 
   -- ---- one part
 
   by_sort : (sort : Sort) (tail : List Sort) (last : ℕ) {y : Bool} → serves sort (made_by (word_at words last 0)) ≡ y
-      → parts_begin words begins (sort ∷ tail) (suc last) ≡ elim y [ true ↦ parts_begin words begins tail (get_or begins last 0) | false ↦ none ]
+      → parts_begin words begins (sort ∷ tail) (suc last) ≡ elim y [ true ↦ parts_begin words begins tail (get_or begins last 0) | false ↦ None ]
   unfolding parts_begin
-  by_sort sort tail last e = ap (λ (y : Bool). elim y [ true ↦ parts_begin words begins tail (get_or begins last 0) | false ↦ none ]) e
+  by_sort sort tail last e = ap (λ (y : Bool). elim y [ true ↦ parts_begin words begins tail (get_or begins last 0) | false ↦ None ]) e
 
-  -- the op of the row before, as it was read
-  read_sort : (sort : Sort) (last : ℕ) {op : ℕ} {served y : Bool} → op ≡ word_at words (suc last - 1) 0 → served ≡ serves sort (made_by op) → served ≡ y → serves sort (made_by (word_at words last 0)) ≡ y
-  read_sort sort last read is e =
-      let z : suc last - 1 ≡ last = omega arith in
-      ap (λ (n : ℕ). serves sort (made_by n)) (sym (read ∙ ap (λ (n : ℕ). word_at words n 0) z)) ∙ (sym is ∙ e)
-
-  pub no_part : (at : ℕ) (sort : Sort) → at ≡ 0 → 65535 ≡ or_nowhere (parts_begin words begins (sort ∷ []) at)
+  pub no_part : (sort : Sort) (at : ℕ) → at < 1 → None ≡ parts_begin words begins (sort ∷ []) at
   unfolding parts_begin
-  no_part at sort e = rw e
+  no_part sort at h = let z : at ≡ 0 = omega arith in rw z
 
-  pub other_part : (at : ℕ) (sort : Sort) {op : ℕ} {served : Bool} → (at ≡ 0 → ⊥) → op ≡ word_at words (at - 1) 0 → served ≡ serves sort (made_by op) → served ≡ false
-      → 65535 ≡ or_nowhere (parts_begin words begins (sort ∷ []) at)
-  other_part zero sort f read is e = absurd (f refl)
-  other_part (suc last) sort f read is e = sym (ap or_nowhere (by_sort sort [] last (read_sort sort last read is e)))
-
-  pub that_part : (at : ℕ) (sort : Sort) {op : ℕ} {served : Bool} → (at ≡ 0 → ⊥) → op ≡ word_at words (at - 1) 0 → served ≡ serves sort (made_by op) → served ≡ true
-      → get_or begins (at - 1) 0 ≡ or_nowhere (parts_begin words begins (sort ∷ []) at)
+  -- whether it serves, by the op of the row before, as they were read
+  pub one_part : (sort : Sort) (at last : ℕ) {op : ℕ} {found : Sort} {y : Bool} → (1 ≤ at) × (last ≡ at - 1) → op ≡ word_at words last 0 → found ≡ made_by op → y ≡ serves sort found
+      → elim y [ true ↦ Some (get_or begins last 0) | false ↦ None ] ≡ parts_begin words begins (sort ∷ []) at
   unfolding parts_begin
-  that_part zero sort f read is e = absurd (f refl)
-  that_part (suc last) sort f read is e =
-      let z : suc last - 1 ≡ last = omega arith in
-      ap (λ (n : ℕ). get_or begins n 0) z ∙ sym (ap or_nowhere (by_sort sort [] last (read_sort sort last read is e)))
+  one_part sort at last h read made is =
+      let z : suc last ≡ at = omega (arith, h.0, h.1) in
+      sym (ap (parts_begin words begins (sort ∷ [])) (sym z) ∙ by_sort sort [] last (ap (serves sort) (sym (made ∙ ap made_by read)) ∙ sym is))
 
-  -- ---- many parts
+  -- ---- parts one after another
 
-  -- what is left of a search gives what the whole gives
-  pub record Seeking (wanted : List Sort) (row : ℕ) (left : List Sort) (at : ℕ) : Type 0 where
-    pub rest : parts_begin words begins wanted row ≡ parts_begin words begins left at
-    pub near : at ≤ row
-
-  pub seek_start : (wanted : List Sort) (row : ℕ) → Seeking wanted row wanted row
-  seek_start wanted row = record { rest = refl; near = le_refl row }
-
-  pub near_ready : {row at : ℕ} → Ready words begins row → at ≤ row → Ready words begins at
-  near_ready ready h = record { whole = omega (arith, ready.whole, h); few = omega (arith, ready.few, h); size = ready.size; low = ready.low }
-
-  abbrev and_then : Option ℕ → (ℕ → Option ℕ) → Option ℕ
-  and_then none next = none
-  and_then (some middle) next = next middle
+  abbrev pub and_then : Option ℕ → (ℕ → Option ℕ) → Option ℕ
+  and_then None next = None
+  and_then (Some middle) next = next middle
 
   part_then : (sort : Sort) (tail : List Sort) (at : ℕ) → parts_begin words begins (sort ∷ tail) at ≡ and_then (parts_begin words begins (sort ∷ []) at) (parts_begin words begins tail)
   unfolding parts_begin
   part_then sort tail zero = refl
   part_then sort tail (suc last) = by (serves sort (made_by (word_at words last 0)))
     where
-      by : (y : Bool) → elim y [ true ↦ parts_begin words begins tail (get_or begins last 0) | false ↦ none ]
-          ≡ and_then (elim y [ true ↦ some (get_or begins last 0) | false ↦ none ]) (parts_begin words begins tail)
+      by : (y : Bool) → elim y [ true ↦ parts_begin words begins tail (get_or begins last 0) | false ↦ None ]
+          ≡ and_then (elim y [ true ↦ Some (get_or begins last 0) | false ↦ None ]) (parts_begin words begins tail)
       by true = refl
       by false = refl
 
-  one_less : (left : ℕ) (sort : Sort) (tail : List Sort) → 0 < left → many left sort tail ≡ sort ∷ many (left - 1) sort tail
-  one_less zero sort tail h = absurd (omega arith)
-  one_less (suc n) sort tail h = let z : suc n - 1 ≡ n = omega arith in rw z
-
-  module _ {wanted : List Sort} {row : ℕ} (left : ℕ) (sort : Sort) (tail : List Sort) {at : ℕ} (s : Seeking wanted row (many left sort tail) at) where
-    pub seek_through : left ≤ 0 → Seeking wanted row tail at
-    seek_through h = let z : left ≡ 0 = omega arith in record { rest = s.rest ∙ rw z; near = s.near }
-
-    module _ (ready : Ready words begins row) (more : 0 < left) {r : ℕ} (part : r ≡ or_nowhere (parts_begin words begins (sort ∷ []) at)) where
-      next : parts_begin words begins wanted row ≡ and_then (parts_begin words begins (sort ∷ []) at) (parts_begin words begins (many (left - 1) sort tail))
-      next = s.rest ∙ (ap (λ (l : List Sort). parts_begin words begins l at) (one_less left sort tail more) ∙ part_then sort (many (left - 1) sort tail) at)
-
-      pub seek_missing : r ≡ 65535 → 65535 ≡ or_nowhere (parts_begin words begins wanted row)
-      seek_missing e = by (told ready (sort ∷ []) at r part)
-        where
-          by : Told (sort ∷ []) at r → 65535 ≡ or_nowhere (parts_begin words begins wanted row)
-          by (nowhere q z) = let none_there : parts_begin words begins wanted row ≡ none = rw q at next in sym (ap or_nowhere none_there)
-          by (there q l) = absurd (omega (arith, e, l, s.near, ready.few))
-
-      pub seek_on : (r ≡ 65535 → ⊥) → Seeking wanted row (many (left - 1) sort tail) r
-      seek_on f = by (told ready (sort ∷ []) at r part)
-        where
-          by : Told (sort ∷ []) at r → Seeking wanted row (many (left - 1) sort tail) r
-          by (nowhere q z) = absurd (f z)
-          by (there q l) = record { rest = next ∙ rw q; near = omega (arith, l, s.near) }
-
-  pub seek_end : {wanted : List Sort} {row at : ℕ} → Seeking wanted row [] at → at ≡ or_nowhere (parts_begin words begins wanted row)
+  pub parts_then : (sort : Sort) (tail : List Sort) (n at : ℕ)
+      → parts_begin words begins (many n sort tail) at ≡ and_then (parts_begin words begins (many n sort []) at) (parts_begin words begins tail)
   unfolding parts_begin
-  seek_end s = sym (ap or_nowhere s.rest)
+  parts_then sort tail zero at = refl
+  parts_then sort tail (suc n) at = part_then sort (many n sort tail) at ∙ (by (parts_begin words begins (sort ∷ []) at) (parts_then sort tail n) ∙ ap (λ (o : Option ℕ). and_then o (parts_begin words begins tail)) (sym (part_then sort (many n sort []) at)))
+    where
+      by : (o : Option ℕ) → ((at : ℕ) → parts_begin words begins (many n sort tail) at ≡ and_then (parts_begin words begins (many n sort []) at) (parts_begin words begins tail))
+          → and_then o (parts_begin words begins (many n sort tail)) ≡ and_then (and_then o (parts_begin words begins (many n sort []))) (parts_begin words begins tail)
+      by None on = refl
+      by (Some middle) on = on middle
 
-  -- the same of the parts by another name
-  pub asked : (row : ℕ) {wanted wanted' : List Sort} {r : ℕ} → wanted ≡ wanted' → r ≡ or_nowhere (parts_begin words begins wanted row) → r ≡ or_nowhere (parts_begin words begins wanted' row)
-  asked row e h = h ∙ ap (λ (w : List Sort). or_nowhere (parts_begin words begins w row)) e
+  -- ---- parts of one sort
+
+  -- what is left of a search gives what the whole gives
+  pub record Seeking (sort : Sort) (count from done at : ℕ) : Type 0 where
+    pub rest : parts_begin words begins (many count sort []) from ≡ parts_begin words begins (many (count - done) sort []) at
+    pub near : at ≤ from
+
+  module _ {rows : ℕ} (ready : Ready words begins rows) {sort : Sort} {count done at : ℕ} (s : Seeking sort count rows done at) where
+    pub near_ready : Ready words begins at
+    near_ready = record { whole = omega (arith, ready.whole, s.near); few = omega (arith, ready.few, s.near); size = ready.size; low = ready.low }
+
+    module _ (more : done < count) {part : Option ℕ} (is : part ≡ parts_begin words begins (sort ∷ []) at) where
+      next : and_then part (parts_begin words begins (many (count - (done + 1)) sort [])) ≡ parts_begin words begins (many count sort []) rows
+      next =
+          let z : count - done ≡ suc (count - (done + 1)) = omega arith in
+          sym (s.rest ∙ (ap (λ (n : ℕ). parts_begin words begins (many n sort []) at) z ∙ (part_then sort (many (count - (done + 1)) sort []) at ∙ rw is)))
+
+    pub seek_missing : done < count → None ≡ parts_begin words begins (sort ∷ []) at → None ≡ parts_begin words begins (many count sort []) rows
+    seek_missing more is = next more is
+
+    pub seek_on : done < count → {first : ℕ} → Some first ≡ parts_begin words begins (sort ∷ []) at → Seeking sort count rows (done + 1) first
+    seek_on more {first} is = record { rest = sym (next more is); near = omega (arith, s.near, found_low ready.low (sort ∷ []) at first (sym is)) }
+
+    pub seek_end : count ≤ done → Some at ≡ parts_begin words begins (many count sort []) rows
+    unfolding parts_begin
+    seek_end h = let z : count - done ≡ 0 = omega arith in sym (s.rest ∙ rw z)
+
+  -- ---- the parts of a row
+
+  module _ (row n : ℕ) (sort : Sort) (tail : List Sort) {wanted : List Sort} (are : many n sort tail ≡ wanted) where
+    first_part : {part : Option ℕ} → part ≡ parts_begin words begins (many n sort []) row → and_then part (parts_begin words begins tail) ≡ parts_begin words begins wanted row
+    first_part is = rw is (sym (parts_then sort tail n row) ∙ ap (λ (w : List Sort). parts_begin words begins w row) are)
+
+    pub first_missing : None ≡ parts_begin words begins (many n sort []) row → None ≡ parts_begin words begins wanted row
+    first_missing is = first_part is
+
+    pub then_the_rest : {at : ℕ} → Some at ≡ parts_begin words begins (many n sort []) row → {part : Option ℕ} → part ≡ parts_begin words begins tail at → part ≡ parts_begin words begins wanted row
+    then_the_rest is rest = rest ∙ first_part is
+
+  pub found_ready : {rows : ℕ} → Ready words begins rows → (wanted : List Sort) {at : ℕ} → Some at ≡ parts_begin words begins wanted rows → Ready words begins at
+  found_ready {rows} ready wanted {at} is =
+      let near : at ≤ rows = found_low ready.low wanted rows at (sym is) in
+      record { whole = omega (arith, ready.whole); few = omega (arith, ready.few); size = ready.size; low = ready.low }

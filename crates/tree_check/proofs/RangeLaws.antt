@@ -1,26 +1,21 @@
 -- The ranges of a row as the code tests them: each column against its limit.
-use mathlib.Core.Path.{◌≡◌, refl, ap}
+use mathlib.Core.Path.{◌≡◌, refl, sym, ap, ◌∙◌}
 use Prim.Native.Nat.{ℕ, ◌<◌, ◌≤◌}
 use native.Mathlib.Omega.{arith}
-use mathlib.Core.List.{[]}
+use mathlib.Core.Logic.{◌⊎◌, inl, inr}
+use mathlib.Core.List.{List, [], ◌∷◌}
 use mathlib.Core.Bool.{Bool, true, false, ◌&&◌}
-use lib.ListN.{get_or}
-use lib.Dec.{eqb}
-use borrow.Author.Tests.{le-leb, lt-leb}
+use lib.ListN.{get_or, get_or-eq_default}
+use lib.Dec.{eqb, leb}
+use borrow.Author.Tests.{le-leb, lt-leb, leb-true, leb-false}
+use Rattle.std.specs.Prelude.{nat_lt}
+use Rattle.std.specs.List.{list_all, zip}
 use Rattle.table.specs.Check.{unused, fits}
-use Rattle.table.proofs.RuleLaws.{below_fits, not_below_fits}
+use Rattle.table.proofs.RuleLaws.{fits_limit}
 use Rattle.definition.specs.Tree.{row}
 use Rattle.tree_grammar.specs.Ranges.{rules_by_op, row_rules, fits_column, in_range}
 use Rattle.tree_grammar.proofs.Upto.{upto, ends, ◌and◌}
-use Rattle.tree_check.specs.declared.ranges.Limits.{Limits}
 use Rattle.tree_check.specs.Takes.{limit_of, limits_of}
-
--- tests one after the other
-passes : {x y z : Bool} → x ≡ true → z ≡ y → z ≡ x && y
-passes h e = rw h e
-
-fails : {x : Bool} (y : Bool) → x ≡ false → false ≡ x && y
-fails y h = rw h
 
 -- no op has a column e
 e_unused : (op : ℕ) → op < 26 → get_or (get_or rules_by_op op []) 4 unused ≡ unused
@@ -29,57 +24,49 @@ e_unused = upto (λ op. get_or (get_or rules_by_op op []) 4 unused ≡ unused) 2
     and refl and refl and refl and refl and refl and refl and refl and refl and refl and refl and refl and refl and refl
     and ends)
 
+pub no_columns : (op a b c d : ℕ) → (op ≤ 25 → op ≡ 0) → 1 ∷ 1 ∷ 1 ∷ 1 ∷ [] ≡ limits_of op a b c d
+unfolding row_rules
+no_columns op a b c d f = by (leb 26 op) refl
+  where
+    by : (y : Bool) → leb 26 op ≡ y → 1 ∷ 1 ∷ 1 ∷ 1 ∷ [] ≡ limits_of op a b c d
+    by true e = rw (get_or-eq_default rules_by_op [] (leb-true 26 op e))
+    by false e = let z : op ≡ 0 = f (omega (arith, leb-false 26 op e)) in rw z
+
+all_and : (u v x y z : Bool) → (u && (v && (x && (y && true)))) && z ≡ u && (v && (x && (y && z)))
+all_and true true true true z = refl
+all_and true true true false z = refl
+all_and true true false y z = refl
+all_and true false x y z = refl
+all_and false v x y z = refl
+
 module _ (op a b c d e : ℕ) where
-  pub no_op : op ≡ 0 → false ≡ in_range (row op a b c d e)
+  pub no_op : (op ≡ 0) ⊎ ((op ≡ 0 → ⊥) × (25 < op)) → false ≡ in_range (row op a b c d e)
   unfolding in_range
-  no_op h = rw h
+  no_op (inl z) = rw z
+  no_op (inr (f, h)) = rw (le-leb 1 op (omega (arith, f)), lt-leb op 25 h)
 
-  pub large_op : (op ≡ 0 → ⊥) → 25 < op → false ≡ in_range (row op a b c d e)
-  unfolding in_range
-  large_op f h = passes (le-leb 1 op (omega (arith, f))) (fails _ (lt-leb op 25 h))
+  column : (k w : ℕ) → fits_column op k w ≡ nat_lt w (limit_of op k w)
+  unfolding fits_column
+  column k w = fits_limit (get_or (row_rules op) k unused) w
 
-  module _ (f : op ≡ 0 → ⊥) (known : op ≤ 25) {limits : Limits} (is : limits ≡ limits_of op a b c d) where
-    fit : (column w : ℕ) {most : ℕ} → most ≡ limit_of op column w → w < most → fits_column op column w ≡ true
-    unfolding fits_column
-    fit column w e h = below_fits _ w (rw (← e) h)
+  column_e : op ≤ 25 → fits_column op 4 e ≡ eqb e 0
+  unfolding fits_column row_rules fits
+  column_e known = rw (e_unused op (omega arith))
 
-    unfit : (column w : ℕ) {most : ℕ} → most ≡ limit_of op column w → most ≤ w → fits_column op column w ≡ false
-    unfolding fits_column
-    unfit column w e h = not_below_fits _ w (rw (← e) h)
-
-    columns : {x : Bool} → x ≡ (fits_column op 0 a && (fits_column op 1 b && (fits_column op 2 c && (fits_column op 3 d && fits_column op 4 e)))) → x ≡ in_range (row op a b c d e)
+  module _ (f : op ≡ 0 → ⊥) (known : op ≤ 25) {limits : List ℕ} (is : limits ≡ limits_of op a b c d) {below : Bool}
+      (fit : below ≡ list_all (λ p. nat_lt p.0 p.1) (zip (a ∷ b ∷ c ∷ d ∷ []) limits)) where
+    columns : in_range (row op a b c d e)
+        ≡ nat_lt a (limit_of op 0 a) && (nat_lt b (limit_of op 1 b) && (nat_lt c (limit_of op 2 c) && (nat_lt d (limit_of op 3 d) && eqb e 0)))
     unfolding in_range
-    columns h = passes (le-leb 1 op (omega (arith, f))) (passes (le-leb op 25 known) h)
+    columns = rw (le-leb 1 op (omega (arith, f)), le-leb op 25 known, column 0 a, column 1 b, column 2 c, column 3 d, column_e known)
 
-    a_is : limits.a ≡ limit_of op 0 a
-    a_is = ap (λ (z : Limits). z.a) is
+    in_range_by : below && eqb e 0 ≡ in_range (row op a b c d e)
+    in_range_by =
+        ap (λ (y : Bool). y && eqb e 0) (fit ∙ ap (λ (l : List ℕ). list_all (λ p. nat_lt p.0 p.1) (zip (a ∷ b ∷ c ∷ d ∷ []) l)) is)
+        ∙ (all_and (nat_lt a (limit_of op 0 a)) (nat_lt b (limit_of op 1 b)) (nat_lt c (limit_of op 2 c)) (nat_lt d (limit_of op 3 d)) (eqb e 0) ∙ sym columns)
 
-    b_is : limits.b ≡ limit_of op 1 b
-    b_is = ap (λ (z : Limits). z.b) is
+    pub all_told : below ≡ true → eqb e 0 ≡ in_range (row op a b c d e)
+    all_told h = rw h at in_range_by
 
-    c_is : limits.c ≡ limit_of op 2 c
-    c_is = ap (λ (z : Limits). z.c) is
-
-    d_is : limits.d ≡ limit_of op 3 d
-    d_is = ap (λ (z : Limits). z.d) is
-
-    pub a_out : limits.a ≤ a → false ≡ in_range (row op a b c d e)
-    a_out h = columns (fails _ (unfit 0 a a_is h))
-
-    module _ (fit_a : a < limits.a) where
-      pub b_out : limits.b ≤ b → false ≡ in_range (row op a b c d e)
-      b_out h = columns (passes (fit 0 a a_is fit_a) (fails _ (unfit 1 b b_is h)))
-
-      module _ (fit_b : b < limits.b) where
-        pub c_out : limits.c ≤ c → false ≡ in_range (row op a b c d e)
-        c_out h = columns (passes (fit 0 a a_is fit_a) (passes (fit 1 b b_is fit_b) (fails _ (unfit 2 c c_is h))))
-
-        module _ (fit_c : c < limits.c) where
-          pub d_out : limits.d ≤ d → false ≡ in_range (row op a b c d e)
-          d_out h = columns (passes (fit 0 a a_is fit_a) (passes (fit 1 b b_is fit_b) (passes (fit 2 c c_is fit_c) (fails _ (unfit 3 d d_is h)))))
-
-          pub e_told : d < limits.d → eqb e 0 ≡ in_range (row op a b c d e)
-          e_told h = columns (passes (fit 0 a a_is fit_a) (passes (fit 1 b b_is fit_b) (passes (fit 2 c c_is fit_c) (passes (fit 3 d d_is h) last))))
-            where
-              last : eqb e 0 ≡ fits_column op 4 e
-              last = unfold fits_column row_rules fits in rw (e_unused op (omega (arith, known)))
+    pub one_told : below ≡ false → below ≡ in_range (row op a b c d e)
+    one_told h = h ∙ (rw h at in_range_by)

@@ -9,31 +9,35 @@ use lib.ListN.{length, length-append}
 use lib.Seq.{drop_at}
 use lib.Dec.{eqb, ltb}
 use borrow.Author.Tests.{eq-eqb, ne_eqb, le-leb, lt-ltb, ltb-true, ltb-false}
+use Rattle.std.specs.Prelude.{Option, None, Some}
 use Rattle.text.specs.Form.{ending}
+use Rattle.text.specs.Reading.{is_digit, may_follow}
 use Rattle.text.specs.Decimal.{decimal}
 use Rattle.text.specs.Line.{line, lines, flat}
 use Rattle.text.specs.File.{Words, Rows}
 use Rattle.text.specs.Printed.{tree_names}
 use Rattle.text.proofs.DecimalLaws.{decimal_small, decimal_more}
 use Rattle.tree_check.specs.declared.scan.Scan.{Scan}
-use Rattle.tree_check.specs.Scan.{Scanned, stopped, words, digit_of, next_column, first_digit, in_number, stepped, with_words, ended_word, scanned, start_scan, alike, table_words, file_words}
+use Rattle.tree_check.specs.declared.scan.Step.{Step}
+use Rattle.tree_check.specs.Scan.{stopped, words, next_column, going_on, gone_by, first_digit, in_number, stepped, with_words, ended_word, scanned, start_scan, alike, table_words, file_words}
 use Rattle.tree_check.proofs.FileLaws.{with_none, with_more}
 
 module _ (last : ℕ) where
   abbrev pub opened : (column value : ℕ) → Scan
-  opened column value = record { refused = false; ended = false; begun = true; column = column; value = value }
+  opened column value = record { column = column; number = Some value }
 
-  abbrev pub closed : (column value : ℕ) → Scan
-  closed column value = record { refused = false; ended = true; begun = false; column = next_column last column; value = value }
+  abbrev pub closed : (column : ℕ) → Scan
+  closed column = record { column = next_column last column; number = None }
 
   -- ---- one byte
 
-  digit_shown : (d : ℕ) → d < 10 → digit_of (48 + d) ≡ d
-  digit_shown d h = let z : 48 + d - 48 ≡ d = omega arith in rw (le-leb 48 (48 + d) (omega arith), le-leb (48 + d) 57 (omega arith), z)
+  digit_shown : (d : ℕ) → d < 10 → is_digit (48 + d) ≡ true
+  unfolding is_digit
+  digit_shown d h = rw (le-leb 48 (48 + d) (omega arith), le-leb (48 + d) 57 (omega arith))
 
-  first_digit_lem : (scan : Scan) (d : ℕ) → scan.begun ≡ false → d < 10 → stepped last scan (48 + d) ≡ opened scan.column d
+  first_digit_lem : (scan : Scan) (d : ℕ) → scan.number ≡ None → d < 10 → stepped last scan (48 + d) ≡ Some (going_on scan.column d)
   unfolding stepped first_digit
-  first_digit_lem scan d e h = rw (e, digit_shown d h, ne_eqb d 10 (λ z. omega arith))
+  first_digit_lem scan d e h = let z : 48 + d - 48 ≡ d = omega arith in rw (e, digit_shown d h, z)
 
   -- a digit is no end
   not_ending : (column d : ℕ) → eqb (48 + d) (ending (eqb column last)) ≡ false
@@ -43,35 +47,25 @@ module _ (last : ℕ) where
       by true = ne_eqb (48 + d) 10 (λ z. omega arith)
       by false = ne_eqb (48 + d) 32 (λ z. omega arith)
 
-  next_digit : (column value d : ℕ) → 0 < value → d < 10 → value * 10 + d < 2 ^ 32 → stepped last (opened column value) (48 + d) ≡ opened column (value * 10 + d)
-  unfolding stepped in_number
+  next_digit : (column value d : ℕ) → 0 < value → d < 10 → value * 10 + d < 2 ^ 32 → stepped last (opened column value) (48 + d) ≡ Some (going_on column (value * 10 + d))
+  unfolding stepped in_number may_follow
   next_digit column value d led h fits =
       let z : 48 + d - 48 ≡ d = omega arith in
-      rw (
-        not_ending column d,
-        le-leb 48 (48 + d) (omega arith),
-        le-leb (48 + d) 57 (omega arith),
-        lt-ltb 0 value led,
-        z,
-        lt-ltb (value * 10 + d) (2 ^ 32) fits,
-      )
+      rw (not_ending column d, digit_shown d h, lt-ltb 0 value led, z, lt-ltb (value * 10 + d) (2 ^ 32) fits)
 
-  number_end : (column value : ℕ) → stepped last (opened column value) (ending (eqb column last)) ≡ closed column value
+  number_end : (column value : ℕ) → stepped last (opened column value) (ending (eqb column last)) ≡ Some (gone_by last column value)
   unfolding stepped in_number
   number_end column value = rw (eq-eqb (ending (eqb column last)) (ending (eqb column last)) refl)
 
   -- ---- a number
 
-  -- the scan after a step: it stops, or goes on
-  abbrev onward : (refused : Bool) → (next : Scan) → (at : ℕ) → List ℕ → Scanned
-  onward refused next at rest = elim refused [ true ↦ stopped at | false ↦ with_words (ended_word next) (scanned last next (suc at) rest) ]
-
-  pub goes_on : (scan next : Scan) (at byte : ℕ) (rest : List ℕ) → stepped last scan byte ≡ next → next.refused ≡ false
-      → scanned last scan at (byte ∷ rest) ≡ with_words (ended_word next) (scanned last next (suc at) rest)
+  pub goes_on : (scan : Scan) (step : Step) (at byte : ℕ) (rest : List ℕ) → stepped last scan byte ≡ Some step
+      → scanned last scan at (byte ∷ rest) ≡ with_words (ended_word step) (scanned last step.scan (suc at) rest)
   unfolding scanned
-  goes_on scan next at byte rest e f = ap (λ (n : Scan). onward n.refused n at rest) e ∙ ap (λ (y : Bool). onward y next at rest) f
+  goes_on scan step at byte rest e =
+      ap (λ (o : Option Step). elim o [ None ↦ stopped at | Some step ↦ with_words (ended_word step) (scanned last step.scan (suc at) rest) ]) e
 
-  module _ (scan : Scan) (outside : scan.begun ≡ false) (at : ℕ) where
+  module _ (scan : Scan) (outside : scan.number ≡ None) (at : ℕ) where
     -- the digits of n, whatever comes after them
     abbrev DigitsRead : ℕ → Type 0
     DigitsRead n = (rest : List ℕ) → scanned last scan at (decimal n ++ rest) ≡ scanned last (opened scan.column n) (at + length (decimal n)) rest
@@ -79,7 +73,7 @@ module _ (last : ℕ) where
     one_digit_read : (n : ℕ) → n < 10 → DigitsRead n
     one_digit_read n h rest =
         rw (decimal_small n h, add-one at)
-        (goes_on scan (opened scan.column n) at (48 + n) rest (first_digit_lem scan n outside h) refl ∙ with_none (scanned last (opened scan.column n) (suc at) rest))
+        (goes_on scan (going_on scan.column n) at (48 + n) rest (first_digit_lem scan n outside h) ∙ with_none (scanned last (opened scan.column n) (suc at) rest))
 
     one_more_read : (n : ℕ) → 10 ≤ n → n < 2 ^ 32 → DigitsRead (n / 10) → DigitsRead n
     one_more_read n h l before rest =
@@ -87,10 +81,10 @@ module _ (last : ℕ) where
         let d : ℕ = n % 10 in
         let is : v * 10 + d ≡ n = omega arith in
         let place : at + (length (decimal v) + 1) ≡ suc (at + length (decimal v)) = omega arith in
-        let step : stepped last (opened scan.column v) (48 + d) ≡ opened scan.column (v * 10 + d) = next_digit scan.column v d (omega arith) (omega arith) (omega arith) in
+        let step : stepped last (opened scan.column v) (48 + d) ≡ Some (going_on scan.column (v * 10 + d)) = next_digit scan.column v d (omega arith) (omega arith) (omega arith) in
         rw (decimal_more n h, append_assoc (decimal v) ((48 + d) ∷ []) rest, length-append (decimal v) ((48 + d) ∷ []), place)
         (before ((48 + d) ∷ rest)
-        ∙ (goes_on (opened scan.column v) (opened scan.column (v * 10 + d)) (at + length (decimal v)) (48 + d) rest step refl
+        ∙ (goes_on (opened scan.column v) (going_on scan.column (v * 10 + d)) (at + length (decimal v)) (48 + d) rest step
         ∙ (with_none (scanned last (opened scan.column (v * 10 + d)) (suc (at + length (decimal v))) rest)
         ∙ ap (λ (k : ℕ). scanned last (opened scan.column k) (suc (at + length (decimal v))) rest) is)))
 
@@ -103,10 +97,10 @@ module _ (last : ℕ) where
         by false e on = let large : 10 ≤ n = ltb-false n 10 e in one_more_read n large l (on (omega arith))
 
     number_read : (n : ℕ) → n < 2 ^ 32 → (rest : List ℕ)
-        → scanned last scan at (decimal n ++ (ending (eqb scan.column last) ∷ rest)) ≡ with_words (n ∷ []) (scanned last (closed scan.column n) (suc (at + length (decimal n))) rest)
+        → scanned last scan at (decimal n ++ (ending (eqb scan.column last) ∷ rest)) ≡ with_words (n ∷ []) (scanned last (closed scan.column) (suc (at + length (decimal n))) rest)
     number_read n l rest =
         digits_read n n (omega arith) l (ending (eqb scan.column last) ∷ rest)
-        ∙ goes_on (opened scan.column n) (closed scan.column n) (at + length (decimal n)) (ending (eqb scan.column last)) rest (number_end scan.column n) refl
+        ∙ goes_on (opened scan.column n) (gone_by last scan.column n) (at + length (decimal n)) (ending (eqb scan.column last)) rest (number_end scan.column n)
 
   -- ---- a line, and lines
 
@@ -114,7 +108,7 @@ module _ (last : ℕ) where
   pub record LineRead (scan : Scan) (at : ℕ) (numbers rest : List ℕ) : Type 0 where
     pub next : Scan
     pub place : ℕ
-    pub outside : next.begun ≡ false
+    pub outside : next.number ≡ None
     pub first : next.column ≡ 0
     pub same : scanned last scan at (line numbers ++ rest) ≡ with_words numbers (scanned last next place rest)
 
@@ -138,14 +132,14 @@ module _ (last : ℕ) where
   pub later_column : (column : ℕ) → (column ≡ last → ⊥) → next_column last column ≡ column + 1
   later_column column f = rw (ne_eqb column last f)
 
-  pub line_read : (numbers : List ℕ) (n : ℕ) (scan : Scan) (at : ℕ) (rest : List ℕ) → Words (n ∷ numbers) → scan.begun ≡ false → scan.column + suc (length numbers) ≡ suc last
+  pub line_read : (numbers : List ℕ) (n : ℕ) (scan : Scan) (at : ℕ) (rest : List ℕ) → Words (n ∷ numbers) → scan.number ≡ None → scan.column + suc (length numbers) ≡ suc last
       → LineRead scan at (n ∷ numbers) rest
   line_read [] n scan at rest w outside e =
       let at_last : scan.column ≡ last = omega arith in
       let text : line (n ∷ []) ++ rest ≡ decimal n ++ (ending (eqb scan.column last) ∷ rest) =
       line_one n rest ∙ ap (λ (b : ℕ). decimal n ++ (b ∷ rest)) (last_ending scan.column at_last) in
       record {
-        next = closed scan.column n;
+        next = closed scan.column;
         place = suc (at + length (decimal n));
         outside = refl;
         first = first_column scan.column at_last;
@@ -156,8 +150,8 @@ module _ (last : ℕ) where
       let column : next_column last scan.column ≡ scan.column + 1 = later_column scan.column within in
       let text : line (n ∷ m ∷ numbers) ++ rest ≡ decimal n ++ (ending (eqb scan.column last) ∷ (line (m ∷ numbers) ++ rest)) =
       line_more n m numbers rest ∙ ap (λ (b : ℕ). decimal n ++ (b ∷ (line (m ∷ numbers) ++ rest))) (other_ending scan.column within) in
-      let more : LineRead (closed scan.column n) (suc (at + length (decimal n))) (m ∷ numbers) rest =
-      line_read numbers m (closed scan.column n) (suc (at + length (decimal n))) rest w.1 refl (omega (arith, column)) in
+      let more : LineRead (closed scan.column) (suc (at + length (decimal n))) (m ∷ numbers) rest =
+      line_read numbers m (closed scan.column) (suc (at + length (decimal n))) rest w.1 refl (omega (arith, column)) in
       record {
         next = more.next;
         place = more.place;
@@ -168,7 +162,7 @@ module _ (last : ℕ) where
             ∙ (ap (with_words (n ∷ [])) more.same ∙ with_more (n ∷ []) (m ∷ numbers) (scanned last more.next more.place rest)));
       }
 
-  lines_read : (rows : List (List ℕ)) → Rows (suc last) rows → (scan : Scan) (at : ℕ) → scan.begun ≡ false → scan.column ≡ 0 → scanned last scan at (lines rows) ≡ words (flat rows)
+  lines_read : (rows : List (List ℕ)) → Rows (suc last) rows → (scan : Scan) (at : ℕ) → scan.number ≡ None → scan.column ≡ 0 → scanned last scan at (lines rows) ≡ words (flat rows)
   unfolding lines flat
   lines_read [] w scan at outside first = nothing_left
     where

@@ -1,18 +1,22 @@
 -- The rows one by one, and the whole list.
 use mathlib.Core.Path.{◌≡◌, refl, sym, ap, ◌∙◌}
+use mathlib.Core.Logic.{◌⊎◌, inl, inr}
 use Prim.Native.Nat.{ℕ, zero, suc, ◌+◌, ◌*◌, ◌-◌, ◌/◌, ◌<◌, ◌≤◌}
 use native.Mathlib.Numerals.{add-one}
 use native.Mathlib.Omega.{arith}
 use mathlib.Core.List.{List}
-use mathlib.Core.Bool.{Bool, true, false}
+use mathlib.Core.Bool.{Bool, true, false, ◌&&◌}
 use lib.ListN.{length, get_or, set, length-set, replicate, length-replicate}
 use lib.Seq.{get_or-set_same, get_or-set_other}
-use lib.Dec.{eqb}
+use lib.Dec.{eqb, leb}
 use borrow.Author.Tests.{eq-eqb, ne_eqb, eqb-true, eqb-false, le-leb, lt-leb}
+use Rattle.std.specs.Prelude.{Option, None, Some, Ok, Err, ok_or}
 use Rattle.tree_grammar.specs.Ranges.{in_range}
 use Rattle.tree_grammar.specs.Needs.{parts_of}
-use Rattle.tree_check.specs.Found.{word_at, row_at, parts_begin, or_nowhere, Ready, remainder_code, read_from, no_begins, no_list, tree_read}
-use Rattle.tree_check.proofs.PartLaws.{Told, nowhere, there, told}
+use Rattle.tree_check.specs.Found.{row_at, parts_begin, Ready, one_root, read_from, no_begins, no_list, tree_read}
+use Rattle.tree_check.specs.declared.TreeError.{TreeError}
+use Rattle.tree_check.specs.declared.TreeError.TheVariants.{RowOutOfRange, PartsMissing, NotOneTree}
+use Rattle.tree_check.proofs.PartLaws.{found_low}
 
 -- ---- beginnings that lie low
 
@@ -36,51 +40,59 @@ set_low begins row first low h l k = by (eqb k row) refl
     by true e = let z : k ≡ row = eqb-true k row e in rw (z, get_or-set_same begins row first 0 h) l
     by false e = rw (get_or-set_other begins row k first 0 (eqb-false k row e)) (low k)
 
-module _ (words begins : List ℕ) (rows row : ℕ) where
-  -- what is left of the reading gives what the whole gives
-  pub record Reading : Type 0 where
-    pub rest : read_from words no_begins 0 rows ≡ read_from words begins row (rows - row)
-    pub ready : Ready words begins row
-    pub most : row ≤ rows
+and_false : (x : Bool) → x && false ≡ false
+and_false true = refl
+and_false false = refl
 
-  module _ (r : Reading) (h : row < rows) where
+-- what is left of the reading gives what the whole gives
+pub record Reading (words begins : List ℕ) (rows row : ℕ) : Type 0 where
+  pub rest : read_from words no_begins 0 rows ≡ read_from words begins row (rows - row)
+  pub ready : Ready words begins row
+  pub most : row ≤ rows
+
+module _ (words begins : List ℕ) (rows row : ℕ) where
+  module _ (r : Reading words begins rows row) (h : row < rows) where
     one_more : rows - row ≡ suc (rows - (row + 1))
     one_more = omega arith
 
-    pub row_out : {fits : Bool} → fits ≡ in_range (row_at words row) → fits ≡ false → record { code = 60; at = row; begin = begins } ≡ read_from words no_begins 0 rows
+    pub row_out : {fits : Bool} → fits ≡ in_range (row_at words row) → fits ≡ false → record { answer = Err (RowOutOfRange row); begin = begins } ≡ read_from words no_begins 0 rows
     row_out is e = sym (r.rest ∙ (ap (read_from words begins row) one_more ∙ (unfold read_from in rw (sym is ∙ e, read_from))))
 
-    module _ {fits : Bool} (is : fits ≡ in_range (row_at words row)) (e : fits ≡ true) {first : ℕ}
-        (parts : first ≡ or_nowhere (parts_begin words begins (parts_of (row_at words row)) row)) where
+    module _ {fits : Bool} (is : fits ≡ in_range (row_at words row)) (e : fits ≡ true) {found : Option ℕ} (parts : found ≡ parts_begin words begins (parts_of (row_at words row)) row) where
       in_range_lem : in_range (row_at words row) ≡ true
       in_range_lem = sym is ∙ e
 
-      pub row_missing : first ≡ 65535 → record { code = 61; at = row; begin = begins } ≡ read_from words no_begins 0 rows
-      row_missing m = by (told words begins r.ready _ row first parts)
+      pub row_missing : {error : TreeError} → Err error ≡ ok_or found (PartsMissing row) → record { answer = Err error; begin = begins } ≡ read_from words no_begins 0 rows
+      unfolding read_from
+      row_missing {error} q = by found parts q
         where
-          by : Told words begins (parts_of (row_at words row)) row first → record { code = 61; at = row; begin = begins } ≡ read_from words no_begins 0 rows
-          by (nowhere q z) = sym (r.rest ∙ (ap (read_from words begins row) one_more ∙ (unfold read_from in rw (in_range_lem, q, read_from))))
-          by (there q l) = absurd (omega (arith, m, l, r.ready.few))
+          by : (o : Option ℕ) → o ≡ parts_begin words begins (parts_of (row_at words row)) row → Err error ≡ ok_or o (PartsMissing row) → record { answer = Err error; begin = begins } ≡ read_from words no_begins 0 rows
+          by None p q = let z : error ≡ PartsMissing row = cc in ap (λ (e : TreeError). record { answer = Err e; begin = begins }) z ∙ sym (r.rest ∙ (ap (read_from words begins row) one_more ∙ rw (in_range_lem, ← p, read_from)))
+          by (Some first) p q = cc
 
-      pub row_on : row < 2048 → row * 6 + 6 ≤ length words → (first ≡ 65535 → ⊥)
-          → (read_from words no_begins 0 rows ≡ read_from words (set begins row first) (row + 1) (rows - (row + 1))) × Ready words (set begins row first) (row + 1)
-      row_on small whole f = by (told words begins r.ready _ row first parts)
+      pub row_on : rows ≤ 2048 → length words ≡ rows * 6 → {first : ℕ} → Ok first ≡ ok_or found (PartsMissing row) → Reading words (set begins row first) rows (row + 1)
+      unfolding read_from
+      row_on few whole {first} q = by found parts q
         where
-          by : Told words begins (parts_of (row_at words row)) row first
-              → (read_from words no_begins 0 rows ≡ read_from words (set begins row first) (row + 1) (rows - (row + 1))) × Ready words (set begins row first) (row + 1)
-          by (nowhere q z) = absurd (f z)
-          by (there q l) = (
-            r.rest ∙ (ap (read_from words begins row) one_more ∙ (unfold read_from in rw (in_range_lem, q, read_from, add-one))),
-            record {
-              whole = omega arith;
-              few = omega arith;
-              size = length-set begins row first ∙ r.ready.size;
-              low = set_low begins row first r.ready.low (omega (arith, r.ready.size)) l;
-            },
-          )
+          by : (o : Option ℕ) → o ≡ parts_begin words begins (parts_of (row_at words row)) row → Ok first ≡ ok_or o (PartsMissing row) → Reading words (set begins row first) rows (row + 1)
+          by None p q = cc
+          by (Some k) p q =
+              let z : k ≡ first = cc in
+              let there : parts_begin words begins (parts_of (row_at words row)) row ≡ Some first = sym p ∙ ap Some z in
+              record {
+                rest = r.rest ∙ (ap (read_from words begins row) one_more ∙ rw (in_range_lem, there, read_from, add-one));
+                ready = record {
+                  whole = omega arith;
+                  few = omega arith;
+                  size = length-set begins row first ∙ r.ready.size;
+                  low = set_low begins row first r.ready.low (omega (arith, r.ready.size)) (found_low words begins r.ready.low (parts_of (row_at words row)) row first there);
+                };
+                most = omega arith;
+              }
 
-  pub rows_read : Reading → rows ≤ row → {code : ℕ} → code ≡ remainder_code words begins rows → record { code = code; at = 0; begin = begins } ≡ read_from words no_begins 0 rows
-  rows_read r h {code} e =
+  pub rows_read : Reading words begins rows row → rows ≤ row → {one : Bool} → one ≡ one_root words begins rows
+      → record { answer = elim one [ true ↦ Ok tt | false ↦ Err NotOneTree ]; begin = begins } ≡ read_from words no_begins 0 rows
+  rows_read r h {one} e =
       let z : row ≡ rows = omega (arith, r.most) in
       let n : rows - row ≡ 0 = omega arith in
       sym (r.rest ∙ (rw (n, z) (unfold read_from in rw e)))
@@ -88,35 +100,17 @@ module _ (words begins : List ℕ) (rows row : ℕ) where
 pub reading_start : (words : List ℕ) (rows : ℕ) → Reading words no_begins rows 0
 reading_start words rows = let z : rows ≡ rows - 0 = omega arith in record { rest = ap (read_from words no_begins 0) z; ready = start_ready words; most = omega arith }
 
--- ---- the remainder
-
-module _ (words begins : List ℕ) (rows : ℕ) where
-  pub begins_later : (get_or begins (rows - 1) 0 ≡ 0 → ⊥) → 62 ≡ remainder_code words begins rows
-  unfolding remainder_code
-  begins_later f = rw (ne_eqb (get_or begins (rows - 1) 0) 0 f, remainder_code)
-
-  pub no_block : {op : ℕ} → get_or begins (rows - 1) 0 ≡ 0 → op ≡ word_at words (rows - 1) 0 → (op ≡ 9 → ⊥) → 62 ≡ remainder_code words begins rows
-  unfolding remainder_code
-  no_block e is f = rw (eq-eqb (get_or begins (rows - 1) 0) 0 e, ne_eqb (word_at words (rows - 1) 0) 9 (λ z. f (is ∙ z)), remainder_code)
-
-  pub one_root : {op : ℕ} → get_or begins (rows - 1) 0 ≡ 0 → op ≡ word_at words (rows - 1) 0 → op ≡ 9 → 0 ≡ remainder_code words begins rows
-  unfolding remainder_code
-  one_root e is h = rw (eq-eqb (get_or begins (rows - 1) 0) 0 e, eq-eqb (word_at words (rows - 1) 0) 9 (sym is ∙ h), remainder_code)
-
 -- ---- the list's length
 
 module _ (words : List ℕ) where
-  pub part_of_row : (length words ≡ length words / 6 * 6 → ⊥) → no_list ≡ tree_read words
-  unfolding tree_read
-  part_of_row f = rw (ne_eqb (length words) (length words / 6 * 6) f, tree_read)
+  abbrev whole : Type 0
+  whole = length words ≡ length words / 6 * 6
 
-  pub no_rows : length words ≡ length words / 6 * 6 → length words / 6 ≡ 0 → no_list ≡ tree_read words
+  pub not_sized : (whole → ⊥) ⊎ ((whole × (length words / 6 ≡ 0)) ⊎ (whole × (length words / 6 ≡ 0 → ⊥) × (2048 < length words / 6))) → no_list ≡ tree_read words
   unfolding tree_read
-  no_rows e z = rw (eq-eqb (length words) (length words / 6 * 6) e, lt-leb 1 (length words / 6) (omega arith), tree_read)
-
-  pub too_many : length words ≡ length words / 6 * 6 → (length words / 6 ≡ 0 → ⊥) → 2048 < length words / 6 → no_list ≡ tree_read words
-  unfolding tree_read
-  too_many e f h = rw (eq-eqb (length words) (length words / 6 * 6) e, le-leb 1 (length words / 6) (omega (arith, f)), lt-leb (length words / 6) 2048 h, tree_read)
+  not_sized (inl f) = rw (ne_eqb (length words) (length words / 6 * 6) f, tree_read)
+  not_sized (inr (inl (_, z))) = rw (lt-leb 1 (length words / 6) (omega arith), and_false (eqb (length words) (length words / 6 * 6)), tree_read)
+  not_sized (inr (inr (_, _, h))) = rw (lt-leb (length words / 6) 2048 h, and_false (leb 1 (length words / 6)), and_false (eqb (length words) (length words / 6 * 6)), tree_read)
 
   pub sized : length words ≡ length words / 6 * 6 → (length words / 6 ≡ 0 → ⊥) → length words / 6 ≤ 2048 → read_from words no_begins 0 (length words / 6) ≡ tree_read words
   unfolding tree_read

@@ -1,5 +1,5 @@
 -- The check over beginnings answers what the machine over sorts does: the stack of sorts is what stands before the next row, part before part.
-use mathlib.Core.Path.{◌≡◌, refl, sym, ap, ap₂, subst, ◌∙◌}
+use mathlib.Core.Path.{◌≡◌, refl, sym, ap, subst, ◌∙◌}
 use Prim.Native.Nat.{ℕ, zero, suc, ◌+◌, ◌*◌, ◌-◌, ◌/◌, ◌<◌, ◌≤◌}
 use native.Mathlib.Omega.{arith}
 use mathlib.Core.List.{List, [], ◌∷◌}
@@ -9,23 +9,26 @@ use lib.ListN.{length, get_or, set, length-set}
 use lib.Seq.{get_or-set_same, get_or-set_other}
 use lib.Dec.{eqb, leb}
 use borrow.Author.Tests.{eq-eqb, ne_eqb, eqb-true, eqb-false, leb-true}
+use Rattle.std.specs.Prelude.{Result, Ok, Err, None, Some}
+use Rattle.std.specs.Prelude as rust
 use Rattle.definition.specs.Tree.{Row, row}
 use Rattle.definition.proofs.Steps.{none_some}
 use Rattle.tree_grammar.specs.Grammar.{Answer}
 use Rattle.tree_grammar.specs.Ranges.{in_range}
 use Rattle.tree_grammar.specs.Needs.{Sort, a_value, an_instr, a_statement, a_block, a_case, serves, parts_of, made_by, Sorts, taken, sort_step, RowsVerdict}
-use Rattle.tree_grammar.specs.Needs.{refused, code_of, at_of, remainder, rows_verdict, rows_of_words, sized_verdict, tree_verdict}
+use Rattle.tree_grammar.specs.Needs.{accepted, refused, code_of, at_of, remainder, rows_verdict, rows_of_words, sized_verdict, tree_verdict}
 use Rattle.tree_grammar.proofs.Upto.{and_both}
 use Rattle.tree_grammar.proofs.Words.{words_answered}
-use Rattle.tree_check.specs.declared.TreeChecked.{TreeChecked}
-use Rattle.tree_check.specs.declared.TreeRead.{TreeRead}
-use Rattle.tree_check.specs.Found.{word_at, row_at, parts_begin, Ready, remainder_code, read_from, no_begins, no_list, tree_read, tree_checked}
-use Rattle.tree_check.proofs.SortLaws.{served}
+use Rattle.tree_check.specs.declared.TreeError.{TreeError}
+use Rattle.tree_check.specs.declared.TreeError.TheVariants.{RowOutOfRange, PartsMissing, NotOneTree}
+use Rattle.tree_check.specs.Found.{verdict_of, answer_of, TreeChecked, checked_of, word_at, row_at, parts_begin, Ready, one_root, tree_checked}
+use Rattle.tree_check.specs.Found.{TreeRead, read_from, no_begins, no_list, tree_read}
+use Rattle.tree_check.proofs.SortLaws.{block_made}
 use Rattle.tree_check.proofs.PartLaws.{found_low}
 use Rattle.tree_check.proofs.ReadLaws.{set_low, start_ready}
 
 abbrev Same : TreeRead → RowsVerdict → Type 0
-Same read verdict = (read.code ≡ code_of verdict) × (read.at ≡ at_of verdict)
+Same read verdict = answer_of read.answer ≡ verdict
 
 -- ---- the words as rows
 
@@ -85,11 +88,11 @@ module _ (words : List ℕ) where
     nothing : Stands begins 0 []
     a_part : {last : ℕ} {stack : Sorts} → Stands begins (get_or begins last 0) stack → Stands begins (suc last) (made_by (word_at words last 0) ∷ stack)
 
-  abbrev Agree : List ℕ → Option ℕ → Option Sorts → Type 0
-  Agree begins none none = Unit {0}
-  Agree begins none (some left) = ⊥
-  Agree begins (some cursor) none = ⊥
-  Agree begins (some cursor) (some left) = Stands begins cursor left
+  abbrev Agree : List ℕ → rust.Option ℕ → Option Sorts → Type 0
+  Agree begins None none = Unit {0}
+  Agree begins None (some left) = ⊥
+  Agree begins (Some cursor) none = ⊥
+  Agree begins (Some cursor) (some left) = Stands begins cursor left
 
   takes_alike : (begins : List ℕ) (wanted : List Sort) {cursor : ℕ} {stack : Sorts} → Stands begins cursor stack → Agree begins (parts_begin words begins wanted cursor) (taken wanted stack)
   unfolding parts_begin
@@ -98,7 +101,7 @@ module _ (words : List ℕ) where
   takes_alike begins (sort ∷ wanted) (a_part {last = last} {stack = stack} s) = by (serves sort (made_by (word_at words last 0))) (takes_alike begins wanted s)
     where
       by : (y : Bool) → Agree begins (parts_begin words begins wanted (get_or begins last 0)) (taken wanted stack)
-          → Agree begins (elim y [ true ↦ parts_begin words begins wanted (get_or begins last 0) | false ↦ none ]) (elim y [ true ↦ taken wanted stack | false ↦ none ])
+          → Agree begins (elim y [ true ↦ parts_begin words begins wanted (get_or begins last 0) | false ↦ None ]) (elim y [ true ↦ taken wanted stack | false ↦ none ])
       by true h = h
       by false h = tt
 
@@ -124,34 +127,38 @@ module _ (words : List ℕ) where
   bottom (a_part s) = above (λ e. omega arith) _ _ refl
 
   abbrev Ends : Bool → Sort → Sorts → Type 0
-  Ends y sort stack = (elim (y && serves a_block sort) [ true ↦ 0 | false ↦ 62 ] ≡ code_of (remainder (sort ∷ stack))) × (0 ≡ at_of (remainder (sort ∷ stack)))
+  Ends y sort stack = elim (y && serves a_block sort) [ true ↦ accepted | false ↦ refused 62 0 ] ≡ remainder (sort ∷ stack)
 
   alone : (sort : Sort) → Ends true sort []
-  alone a_value = (refl, refl)
-  alone an_instr = (refl, refl)
-  alone a_statement = (refl, refl)
-  alone a_block = (refl, refl)
-  alone a_case = (refl, refl)
+  alone a_value = refl
+  alone an_instr = refl
+  alone a_statement = refl
+  alone a_block = refl
+  alone a_case = refl
 
   not_alone : (sort other : Sort) (stack : Sorts) → Ends false sort (other ∷ stack)
-  not_alone a_value other stack = (refl, refl)
-  not_alone an_instr other stack = (refl, refl)
-  not_alone a_statement other stack = (refl, refl)
-  not_alone a_block other stack = (refl, refl)
-  not_alone a_case other stack = (refl, refl)
+  not_alone a_value other stack = refl
+  not_alone an_instr other stack = refl
+  not_alone a_statement other stack = refl
+  not_alone a_block other stack = refl
+  not_alone a_case other stack = refl
 
-  ending : (begins : List ℕ) (last : ℕ)
-      → remainder_code words begins (suc last) ≡ elim (eqb (get_or begins last 0) 0 && serves a_block (made_by (word_at words last 0))) [ true ↦ 0 | false ↦ 62 ]
-  unfolding remainder_code
+  ending : (begins : List ℕ) (last : ℕ) → one_root words begins (suc last) ≡ eqb (get_or begins last 0) 0 && serves a_block (made_by (word_at words last 0))
+  unfolding one_root
   ending begins last =
       let z : suc last - 1 ≡ last = omega arith in
-      ap (λ (k : ℕ). elim (eqb (get_or begins k 0) 0 && eqb (word_at words k 0) 9) [ true ↦ 0 | false ↦ 62 ]) z
-      ∙ ap (λ (y : Bool). elim (eqb (get_or begins last 0) 0 && y) [ true ↦ 0 | false ↦ 62 ]) (served (word_at words last 0)).block
+      ap (λ (k : ℕ). eqb (get_or begins k 0) 0 && eqb (word_at words k 0) 9) z
+      ∙ ap (λ (y : Bool). eqb (get_or begins last 0) 0 && y) (block_made (word_at words last 0))
+
+  told : (y : Bool) → answer_of {X = Unit {0}} (elim y [ true ↦ Ok tt | false ↦ Err NotOneTree ]) ≡ elim y [ true ↦ accepted | false ↦ refused 62 0 ]
+  told true = refl
+  told false = refl
 
   remains : (begins : List ℕ) {cursor : ℕ} {stack : Sorts} → 1 ≤ cursor → Stands begins cursor stack → Same (read_from words begins cursor 0) (remainder stack)
   unfolding read_from
   remains begins h nothing = absurd (omega arith)
-  remains begins h (a_part {last = last} {stack = stack} s) = let e : Ends (eqb (get_or begins last 0) 0) (made_by (word_at words last 0)) stack = by (bottom s) in (ending begins last ∙ e.0, e.1)
+  remains begins h (a_part {last = last} {stack = stack} s) =
+      told (one_root words begins (suc last)) ∙ (ap (λ (y : Bool). elim y [ true ↦ accepted | false ↦ refused 62 0 ]) (ending begins last) ∙ by (bottom s))
     where
       by : Bottom (get_or begins last 0) stack → Ends (eqb (get_or begins last 0) 0) (made_by (word_at words last 0)) stack
       by (at_bottom e q) = rw (eq-eqb (get_or begins last 0) 0 e, q) (alone (made_by (word_at words last 0)))
@@ -168,13 +175,13 @@ module _ (words : List ℕ) where
       (λ first left l q. alike count (suc i) (set begins i first) (made_by (word_at words i 0) ∷ left) (set_low begins i first low (omega arith) l)
       (omega (arith, length-set begins i first)) (omega arith) (next_stands begins low i first (omega arith) l q))
     where
-      by : (y : Bool) (o : Option ℕ) (t : Option Sorts) → parts_begin words begins (parts_of (row_at words i)) i ≡ o → Agree begins o t
+      by : (y : Bool) (o : rust.Option ℕ) (t : Option Sorts) → parts_begin words begins (parts_of (row_at words i)) i ≡ o → Agree begins o t
           → ((first : ℕ) (left : Sorts) → first ≤ i → Stands begins first left
           → Same (read_from words (set begins i first) (suc i) count) (rows_verdict (rows_from words (suc i) count) (suc i) (made_by (word_at words i 0) ∷ left)))
           → Same
           (elim y [
-            | true ↦ elim o [ none ↦ record { code = 61; at = i; begin = begins } | some first ↦ read_from words (set begins i first) (suc i) count ]
-            | false ↦ record { code = 60; at = i; begin = begins }
+            | true ↦ elim o [ None ↦ record { answer = Err (PartsMissing i); begin = begins } | Some first ↦ read_from words (set begins i first) (suc i) count ]
+            | false ↦ record { answer = Err (RowOutOfRange i); begin = begins }
           ])
           (elim y [
             | true ↦
@@ -184,11 +191,11 @@ module _ (words : List ℕ) where
                 ]
             | false ↦ refused 60 i
           ])
-      by false o t q a on = (refl, refl)
-      by true none none q a on = (refl, refl)
-      by true none (some left) q a on = absurd a
-      by true (some first) none q a on = absurd a
-      by true (some first) (some left) q a on = on first left (found_low words begins low (parts_of (row_at words i)) i first q) a
+      by false o t q a on = refl
+      by true None none q a on = refl
+      by true None (some left) q a on = absurd a
+      by true (Some first) none q a on = absurd a
+      by true (Some first) (some left) q a on = on first left (found_low words begins low (parts_of (row_at words i)) i first q) a
 
   -- ---- the whole
 
@@ -197,7 +204,7 @@ module _ (words : List ℕ) where
       (elim y [ true ↦ rows_verdict (rows_from words 0 (length words / 6)) 0 [] | false ↦ refused 62 0 ])
 
   sized_same : (y : Bool) → leb 1 (length words / 6) && leb (length words / 6) 2048 ≡ y → SizedSame y
-  sized_same false e = (refl, refl)
+  sized_same false e = refl
   sized_same true e =
       let h : (leb 1 (length words / 6) ≡ true) × (leb (length words / 6) 2048 ≡ true) = and_both _ _ e in
       let start : Ready words no_begins 0 = start_ready words in
@@ -215,18 +222,26 @@ module _ (words : List ℕ) where
       by : (y : Bool) → eqb (length words) (length words / 6 * 6) ≡ y
           → Same (elim (y && (leb 1 (length words / 6) && leb (length words / 6) 2048)) [ true ↦ read_from words no_begins 0 (length words / 6) | false ↦ no_list ]) (tree_verdict words)
       by true e = rw (whole_rows words (length words / 6) (eqb-true _ _ e), tree_verdict, sized_verdict_lem) (sized_same _ refl)
-      by false e = rw (no_rows (rows_of_words words) refl, tree_verdict) (refl, refl)
+      by false e = rw (no_rows (rows_of_words words) refl, tree_verdict) refl
         where
           no_rows : (o : Option (List Row)) → rows_of_words words ≡ o → rows_of_words words ≡ none
           no_rows none q = q
           no_rows (some list) q = absurd (eqb-false (length words) (length words / 6 * 6) e (omega (arith, row_words words list q)))
 
-  pub tree_checked_lem : {read : TreeRead} → read ≡ tree_read words → record { code = read.code; at = read.at } ≡ tree_checked words
-  tree_checked_lem e =
-      let code : _ ≡ code_of (tree_verdict words) = ap (λ (r : TreeRead). r.code) e ∙ read_answers.0 in
-      let at : _ ≡ at_of (tree_verdict words) = ap (λ (r : TreeRead). r.at) e ∙ read_answers.1 in
-      ap₂ (λ (c a : ℕ). record { code = c; at = a }) code at
+  pub told_so : (result : Result (Unit {0}) TreeError) (begins : List ℕ) → record { answer = result; begin = begins } ≡ tree_read words → checked_of result ≡ tree_checked words
+  told_so result begins e = ap (λ (r : TreeRead). checked_of r.answer) e ∙ ap (λ (v : RowsVerdict). record { code = code_of v; at = at_of v }) read_answers
+
+  pub refused_so : {error : TreeError} {begins : List ℕ} → record { answer = Err error; begin = begins } ≡ tree_read words
+      → record { code = code_of (verdict_of error); at = at_of (verdict_of error) } ≡ tree_checked words
+  refused_so {error} {begins} e = told_so (Err error) begins e
+
+  pub accepted_so : {begins : List ℕ} → record { answer = Ok tt; begin = begins } ≡ tree_read words → record { code = 0; at = 0 } ≡ tree_checked words
+  accepted_so {begins} e = told_so (Ok tt) begins e
 
   -- which is the grammar's answer
-  pub tree_answer : {read : TreeRead} → read ≡ tree_read words → Answer words read.code read.at
-  tree_answer e = subst (λ (c : TreeChecked). Answer words c.code c.at) (sym (tree_checked_lem e)) (words_answered words)
+  pub refused_answer : {error : TreeError} {begins : List ℕ} → record { answer = Err error; begin = begins } ≡ tree_read words
+      → Answer words (code_of (verdict_of error)) (at_of (verdict_of error))
+  refused_answer {error} {begins} e = subst (λ (c : TreeChecked). Answer words c.code c.at) (sym (refused_so e)) (words_answered words)
+
+  pub accepted_answer : {begins : List ℕ} → record { answer = Ok tt; begin = begins } ≡ tree_read words → Answer words 0 0
+  accepted_answer {begins} e = subst (λ (c : TreeChecked). Answer words c.code c.at) (sym (accepted_so e)) (words_answered words)

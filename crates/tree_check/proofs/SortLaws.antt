@@ -1,65 +1,33 @@
--- The sorts of parts as the code tests them: by the op of the row that closed the part.
-use mathlib.Core.Path.{◌≡◌, refl, ◌∙◌}
-use Prim.Native.Nat.{ℕ, zero, suc, ◌<◌, ◌≤◌}
+-- What a row leaves, by its op.
+use mathlib.Core.Path.{◌≡◌, refl, sym, ◌∙◌}
+use Prim.Native.Nat.{ℕ, ◌<◌, ◌≤◌}
 use native.Mathlib.Omega.{arith}
 use mathlib.Core.Bool.{Bool, true, false}
 use lib.ListN.{get_or-eq_default}
-use lib.Dec.{eqb, leb, ltb}
-use borrow.Author.Tests.{ne_eqb, le-ltb, le-leb, leb-true, leb-false}
-use Rattle.tree_grammar.specs.Needs.{a_value, an_instr, a_statement, a_block, a_case, serves, makes_by_op, made_by}
-use Rattle.tree_check.specs.Takes.{sort_of}
+use lib.Dec.{eqb, leb}
+use borrow.Author.Tests.{ne_eqb, leb-true, leb-false}
+use Rattle.tree_grammar.specs.Needs.{a_value, a_statement, a_block, serves, makes_by_op, made_by}
 use Rattle.tree_grammar.proofs.Upto.{upto, ends, ◌and◌}
 
--- "values ops 1 to 3 and 5 to 8, statements 4, 10 and 12 to 25"
-pub record Served (op : ℕ) : Type 0 where
-  pub value : (op ≡ 4 → ⊥) → ltb op 9 ≡ serves a_value (made_by op)
-  pub instr : eqb op 4 ≡ serves an_instr (made_by op)
-  pub statement : (op ≡ 4 → ⊥) → (op ≡ 10 → ⊥) → leb 12 op ≡ serves a_statement (made_by op)
-  pub block : eqb op 9 ≡ serves a_block (made_by op)
-  pub case : eqb op 11 ≡ serves a_case (made_by op)
-
-known : (op : ℕ) → op < 12 → Served op
+pub value_made : (op : ℕ) → op ≤ 8 → (op ≡ 4 → ⊥) → a_value ≡ made_by op
 unfolding made_by
-known = upto Served 12
-    (record { value = λ f. refl; instr = refl; statement = λ f g. refl; block = refl; case = refl }
-    and record { value = λ f. refl; instr = refl; statement = λ f g. refl; block = refl; case = refl }
-    and record { value = λ f. refl; instr = refl; statement = λ f g. refl; block = refl; case = refl }
-    and record { value = λ f. refl; instr = refl; statement = λ f g. refl; block = refl; case = refl }
-    and record { value = λ f. absurd (f refl); instr = refl; statement = λ f g. absurd (f refl); block = refl; case = refl }
-    and record { value = λ f. refl; instr = refl; statement = λ f g. refl; block = refl; case = refl }
-    and record { value = λ f. refl; instr = refl; statement = λ f g. refl; block = refl; case = refl }
-    and record { value = λ f. refl; instr = refl; statement = λ f g. refl; block = refl; case = refl }
-    and record { value = λ f. refl; instr = refl; statement = λ f g. refl; block = refl; case = refl }
-    and record { value = λ f. refl; instr = refl; statement = λ f g. refl; block = refl; case = refl }
-    and record { value = λ f. refl; instr = refl; statement = λ f g. absurd (g refl); block = refl; case = refl }
-    and record { value = λ f. refl; instr = refl; statement = λ f g. refl; block = refl; case = refl }
-    and ends)
+value_made op h = upto (λ n. (n ≡ 4 → ⊥) → a_value ≡ made_by n) 9
+    ((λ f. refl) and (λ f. refl) and (λ f. refl) and (λ f. refl) and (λ f. absurd (f refl)) and (λ f. refl) and (λ f. refl) and (λ f. refl) and (λ f. refl) and ends) op (omega arith)
 
-others : (op : ℕ) → 12 ≤ op → Served op
-others op h =
-    let e : made_by op ≡ a_statement = statement_made op h in
-    record {
-      value = λ f. le-ltb op 9 (omega arith) ∙ rw e;
-      instr = ne_eqb op 4 (λ e. omega arith) ∙ rw e;
-      statement = λ f g. le-leb 12 op h ∙ rw e;
-      block = ne_eqb op 9 (λ e. omega arith) ∙ rw e;
-      case = ne_eqb op 11 (λ e. omega arith) ∙ rw e;
-    }
+pub statement_made : (op : ℕ) → 9 < op → (op ≡ 11 → ⊥) → a_statement ≡ made_by op
+unfolding made_by
+statement_made op h f = by (leb 12 op) refl
   where
-    statement_made : (op : ℕ) → 12 ≤ op → made_by op ≡ a_statement
-    statement_made op h = unfold made_by in get_or-eq_default makes_by_op a_statement h
+    by : (y : Bool) → leb 12 op ≡ y → a_statement ≡ made_by op
+    by true e = sym (get_or-eq_default makes_by_op a_statement (leb-true 12 op e))
+    by false e = let z : op ≡ 10 = omega (arith, leb-false 12 op e, f, h) in rw z
 
-pub served : (op : ℕ) → Served op
-served op = by (leb 12 op) refl
+-- a BLOCK is made by op 9 alone
+pub block_made : (op : ℕ) → eqb op 9 ≡ serves a_block (made_by op)
+unfolding made_by
+block_made op = by (leb 12 op) refl
   where
-    by : (y : Bool) → leb 12 op ≡ y → Served op
-    by true e = others op (leb-true 12 op e)
-    by false e = known op (omega (arith, leb-false 12 op e))
-
--- the last of the code's numbers for sorts
-pub case_sort : (n : ℕ) → 4 ≤ n → sort_of n ≡ a_case
-case_sort zero h = absurd (omega arith)
-case_sort (suc zero) h = absurd (omega arith)
-case_sort (suc (suc zero)) h = absurd (omega arith)
-case_sort (suc (suc (suc zero))) h = absurd (omega arith)
-case_sort (suc (suc (suc (suc n)))) h = refl
+    by : (y : Bool) → leb 12 op ≡ y → eqb op 9 ≡ serves a_block (made_by op)
+    by true e = let h : 12 ≤ op = leb-true 12 op e in ne_eqb op 9 (λ e. omega arith) ∙ rw (← (statement_made op (omega arith) (λ e. omega arith)))
+    by false e = upto (λ n. eqb n 9 ≡ serves a_block (made_by n)) 12
+        (refl and refl and refl and refl and refl and refl and refl and refl and refl and refl and refl and refl and ends) op (omega (arith, leb-false 12 op e))

@@ -1,9 +1,11 @@
 -- What treecheck prints of a file: `code at` and the two numbers.
-use Rattle.std.specs.Prelude.{ℕ, List, [], ◌∷◌, ◌++◌, true, false, length, leb}
+use Rattle.std.specs.Prelude.{ℕ, List, [], ◌∷◌, ◌++◌, true, false, Result, Ok, Err, length, leb}
 use Rattle.text.specs.Ascii.{ascii}
 use Rattle.text.specs.Line.{line}
-use Rattle.tree_check.specs.declared.TreeChecked.{TreeChecked}
-use Rattle.tree_check.specs.Found.{tree_checked}
+use Rattle.tree_grammar.specs.Needs.{code_of, at_of}
+use Rattle.tree_check.specs.declared.file.FileError.{FileError}
+use Rattle.tree_check.specs.declared.file.FileError.TheVariants.{TooLong, NotInForm, NotATree}
+use Rattle.tree_check.specs.Found.{verdict_of, TreeChecked, tree_checked}
 use Rattle.tree_check.specs.Scan.{Scanned, stopped, words, file_words}
 
 abbrev pub most_bytes : ℕ
@@ -16,6 +18,16 @@ scan_checked (words list) = tree_checked list
 -- "51 over .. bytes, at 0; then 50 not in the form"; then the check of the rows
 unfoldable pub file_checked : List ℕ → TreeChecked
 file_checked file = elim (leb (length file) most_bytes) [ true ↦ scan_checked (file_words file) | false ↦ record { code = 51; at = 0 } ]
+
+-- what the code's answers about a file mean
+abbrev pub file_refusal : FileError → TreeChecked
+file_refusal TooLong = record { code = 51; at = 0 }
+file_refusal (NotInForm bad) = record { code = 50; at = bad.at }
+file_refusal (NotATree error) = record { code = code_of (verdict_of error); at = at_of (verdict_of error) }
+
+abbrev pub file_answer : {X : Type 0} → Result X FileError → TreeChecked
+file_answer (Ok given) = record { code = 0; at = 0 }
+file_answer (Err error) = file_refusal error
 
 abbrev pub check_names : List ℕ
 check_names = ascii "code at\n"

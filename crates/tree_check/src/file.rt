@@ -1,132 +1,137 @@
 // The program treecheck as a function: a file's bytes in, the bytes that are printed of it out.
-ghost use Rattle.std.specs.Prelude.{◌≡◌, List, ℕ, ◌+◌, ◌≤◌, ◌<◌, length};
+ghost use Rattle.std.specs.Prelude.{◌≡◌, List, ℕ, ◌+◌, ◌≤◌, ◌<◌, length, Ok, nat_eq};
+ghost use Rattle.std.specs.List.{take_while, zip};
 ghost use Rattle.text.specs.Lent.{Holds};
 ghost use Rattle.text.specs.Prints.{printing, WrittenText};
-ghost use Rattle.text.specs.declared.write.Written.TheVariants.{Bytes};
-ghost use Rattle.tree_check.specs.Prints.{file_checked, printed_check, check_text};
-ghost use Rattle.tree_check.specs.Read.{NamesEnd, Kept, rows_refused, scan_end, RowsRead, checked_as};
+ghost use Rattle.tree_check.specs.declared.file.FileError.TheVariants.{NotInForm, NotATree};
+ghost use Rattle.tree_check.specs.Found.{checked_of};
+ghost use Rattle.tree_check.specs.Prints.{file_refusal, file_answer, file_checked, printed_check, check_text};
+ghost use Rattle.tree_check.specs.Read.{RowsRead, checked_as};
 
-use crate::scan::{Scan, start_scan, step};
-use crate::{TreeChecked, check_tree};
-use text::lent::put_word;
-use text::write::{Written, finish_text, write_line, write_names};
+use crate::scan::Scan;
+use crate::{TreeError, check_tree};
+use text::lent::put;
+use text::write::{NoRoom, finish_text, write_line, write_names};
 
-// What reading a file gives: the number of its words; or the byte that it is refused at.
-#[derive(Clone, Copy)]
-pub struct Rows {
-    pub refused: bool,
-    pub at: usize,
-    pub count: usize,
+// No good file could have this byte here; or the file is short, and this is its length.
+#[derive(Clone, Copy, Debug, PartialEq, Eq)]
+pub struct BadByte {
+    pub at: u32,
+}
+
+// Why a file is refused.
+#[derive(Clone, Copy, Debug, PartialEq, Eq)]
+pub enum FileError {
+    TooLong,
+    NotInForm(BadByte),
+    NotATree(TreeError),
+}
+
+impl From<BadByte> for FileError {
+    ghost from_gives = { λ bad error. error ≡ NotInForm bad };
+
+    fn from(bad: BadByte) -> FileError {
+        FileError::NotInForm(bad)
+    }
+}
+
+impl From<TreeError> for FileError {
+    ghost from_gives = { λ refused error. error ≡ NotATree refused };
+
+    fn from(refused: TreeError) -> FileError {
+        FileError::NotATree(refused)
+    }
+}
+
+impl FileError {
+    // Paper 01: "51 over .. bytes, at 0; then 50 not in the form"; then the check's own.
+    pub fn code(self) -> u32
+        ensures { result ≡ (file_refusal self).code }
+    {
+        match self {
+            FileError::TooLong => 51,
+            FileError::NotInForm(_) => 50,
+            FileError::NotATree(error) => error.code(),
+        }
+    }
+
+    pub fn place(self) -> u32
+        ensures { result ≡ (file_refusal self).at }
+    {
+        match self {
+            FileError::TooLong => 0,
+            FileError::NotInForm(bad) => bad.at,
+            FileError::NotATree(error) => error.place(),
+        }
+    }
 }
 
 // How many bytes of these names the file begins with.
 fn names_end(file: &[u8], names: &[u8]) -> usize
-    ensures { NamesEnd names.now file.now result }
+    ensures { result ≡ length (take_while (λ p. nat_eq p.1 p.0) (zip names.now file.now)) }
 {
-    let mut i = 0;
-    while i < names.len() {
-        if file.len() <= i {
-            return i;
-        }
-        if file[i] != names[i] {
-            return i;
-        }
-        i += 1;
-    }
-    i
+    names
+        .iter()
+        .zip(file)
+        .take_while(|(name, byte)| byte == name)
+        .count()
 }
 
-// Stores the word that has ended, if one has and there is a place for it.
-fn keep(words: &mut [u32], count: usize, ended: bool, value: u32) -> usize
-    requires { count < 262144 }
-    ensures { Kept words.old count ended value words.new result }
-{
-    if ended {
-        put_word(words, count, value);
-        return count + 1;
-    }
-    count
-}
-
-fn rows_refused(at: usize) -> Rows
-    ensures { result ≡ rows_refused at }
-{
-    Rows {
-        refused: true,
-        at,
-        count: 0,
-    }
-}
-
-// The file's end, which must be that of a line.
-fn scan_end(scan: Scan, at: usize, count: usize) -> Rows
-    ensures { result ≡ scan_end scan at count }
-{
-    if scan.begun {
-        return rows_refused(at);
-    }
-    if scan.column != 0 {
-        return rows_refused(at);
-    }
-    Rows {
-        refused: false,
-        at,
-        count,
-    }
-}
-
-// Reads the words of a table's file into the lent ones: its line of names, then lines of `last` + 1 numbers.
-pub fn read_table(file: &[u8], names: &[u8], last: u32, words: &mut [u32]) -> Rows
+// Reads the words of a table's file into the lent ones, and gives their number. The table is its line of names, then lines of `last` + 1 numbers.
+pub fn read_table(file: &[u8], names: &[u8], last: u32, words: &mut [u32]) -> Result<usize, BadByte>
     requires { length file.now ≤ 262144 }
     ensures { RowsRead names.now last file.now words.new result }
 {
     let start = names_end(file, names);
     if start != names.len() {
-        return rows_refused(start);
+        return Err(BadByte { at: start as u32 });
     }
-    let mut scan = start_scan();
+    let mut scan = Scan {
+        column: 0,
+        number: None,
+    };
     let mut count = 0;
-    let mut at = start;
-    while at < file.len() {
-        let next = step(last, scan, file[at]);
-        if next.refused {
-            return rows_refused(at);
+    for at in start..file.len() {
+        let next = scan.step(last, file[at]).ok_or(BadByte { at: at as u32 })?;
+        if let Some(word) = next.ended {
+            put(words, count, word);
+            count += 1;
         }
-        count = keep(words, count, next.ended, next.value);
-        scan = next;
-        at += 1;
+        scan = next.scan;
     }
-    scan_end(scan, at, count)
+    if scan.number.is_some() || scan.column != 0 {
+        return Err(BadByte {
+            at: file.len() as u32,
+        });
+    }
+    Ok(count)
 }
 
 // The check of `count` words. Words past the places lent make the list too long.
-fn check_words(words: &[u32], count: usize) -> TreeChecked
+fn check_words(words: &[u32], count: usize) -> Result<(), TreeError>
     requires { length words.now ≡ 12288 }
-    ensures { (list : List ℕ) → Holds words.now count list → checked_as list result }
+    ensures { (list : List ℕ) → Holds words.now count list → checked_as list (checked_of result) }
 {
     if count > words.len() {
-        return TreeChecked { code: 62, at: 0 };
+        return Err(TreeError::NotOneTree);
     }
     check_tree(&words[..count])
 }
 
-// Code and place of a file: 51, 50, or those of its rows.
-fn check_rows(file: &[u8]) -> TreeChecked
-    ensures { result ≡ file_checked file.now }
+// Whether a file is one of rows that are a tree.
+fn check_rows(file: &[u8]) -> Result<(), FileError>
+    ensures { file_answer result ≡ file_checked file.now }
 {
     if file.len() > 262144 {
-        return TreeChecked { code: 51, at: 0 };
+        return Err(FileError::TooLong);
     }
     let mut words = [0u32; 12288];
-    let rows = read_table(file, b"op a b c d e\n", 5, &mut words);
-    if rows.refused {
-        let at = rows.at as u32;
-        return TreeChecked { code: 50, at };
-    }
-    check_words(&words, rows.count)
+    let count = read_table(file, b"op a b c d e\n", 5, &mut words)?;
+    check_words(&words, count)?;
+    Ok(())
 }
 
-fn write_check(out: &mut [u8], code: u32, at: u32) -> Written
+fn write_check(out: &mut [u8], code: u32, at: u32) -> Result<usize, NoRoom>
     ensures { WrittenText 30 (printed_check (record { code = code; at = at })) (length out.old) result out.new }
 {
     let names = write_names(out, 0, b"code at\n");
@@ -136,10 +141,12 @@ fn write_check(out: &mut [u8], code: u32, at: u32) -> Written
 }
 
 // Reads a file of rows, checks them and writes the answer; 30 bytes are enough.
-pub fn check_file(file: &[u8], out: &mut [u8]) -> Written
+pub fn check_file(file: &[u8], out: &mut [u8]) -> Result<usize, NoRoom>
     ensures out_after { record { answer = result; bytes = out.new } ≡ printing (length out.old) (check_text file.now) }
-    ensures value { 30 ≤ length out.old → result ≡ Bytes (length (check_text file.now)) }
+    ensures value { 30 ≤ length out.old → result ≡ Ok (length (check_text file.now)) }
 {
-    let checked = check_rows(file);
-    write_check(out, checked.code, checked.at)
+    match check_rows(file) {
+        Ok(()) => write_check(out, 0, 0),
+        Err(error) => write_check(out, error.code(), error.place()),
+    }
 }

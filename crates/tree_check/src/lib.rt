@@ -1,4 +1,4 @@
-// M-100: whether a list of rows reads as one tree, and where each of its parts begins.
+// M-100: checks that rows read as one tree.
 #![tactic(auto)]
 
 pub mod file;
@@ -8,118 +8,117 @@ mod scan;
 mod words;
 
 ghost use Rattle.std.specs.Prelude.{◌≡◌, ◌*◌, ◌≤◌, length};
-ghost use Rattle.tree_check.specs.Found.{no_begins, no_list, remainder_code, read_from, tree_read, Ready, tree_checked};
+ghost use Rattle.tree_grammar.specs.Needs.{code_of, at_of};
+ghost use Rattle.tree_check.specs.Found.{verdict_of, checked_of, one_root, no_begins, read_from, tree_read, Ready, tree_checked};
 
-use crate::parts::{NOWHERE, row_begin};
+use crate::parts::row_begin;
 use crate::ranges::in_range;
 use crate::words::word;
 
-// M-100: "At is the row, or 0 for 62"; code 0 is accepted.
-#[derive(Clone, Copy)]
-pub struct TreeChecked {
-    pub code: u32,
-    pub at: u32,
+// Why words are not the rows of one tree; with the row, where one is at fault.
+#[derive(Clone, Copy, Debug, PartialEq, Eq)]
+pub enum TreeError {
+    RowOutOfRange(u32),
+    PartsMissing(u32),
+    NotOneTree,
 }
 
-// The same, and for each row read the first row of the part that it closes; zeros follow.
-#[derive(Clone, Copy)]
-pub struct TreeRead {
-    pub code: u32,
-    pub at: u32,
-    pub begin: [u32; 2048],
+impl TreeError {
+    pub fn code(self) -> u32
+        ensures { result ≡ code_of (verdict_of self) }
+    {
+        match self {
+            TreeError::RowOutOfRange(_) => 60,
+            TreeError::PartsMissing(_) => 61,
+            TreeError::NotOneTree => 62,
+        }
+    }
+
+    // M-100: "At is the row, or 0 for 62".
+    pub fn place(self) -> u32
+        ensures { result ≡ at_of (verdict_of self) }
+    {
+        match self {
+            TreeError::RowOutOfRange(row) => row,
+            TreeError::PartsMissing(row) => row,
+            TreeError::NotOneTree => 0,
+        }
+    }
 }
 
-// 62 unless just one BLOCK is left.
-fn remainder(tree: &[u32], begin: &[u32], rows: u32) -> u32
+// Whether just one BLOCK is left.
+fn one_root(tree: &[u32], begin: &[u32], rows: u32) -> bool
     requires ready { Ready tree.now begin.now rows }
     requires le_rows { 1 ≤ rows }
-    ensures { result ≡ remainder_code tree.now begin.now rows }
+    ensures { result ≡ one_root tree.now begin.now rows }
 {
     let last = rows - 1;
-    if begin[last as usize] != 0 {
-        return 62;
-    }
-    if word(tree, last, 0) != 9 {
-        return 62;
-    }
-    0
+    begin[last as usize] == 0 && word(tree, last, 0) == 9
 }
 
-// Checks the rows one by one: 60 and 61 of each row before the next row.
-fn read_rows(tree: &[u32], rows: u32) -> TreeRead
+// Checks the rows one by one, and both of a row's faults before the next row. The beginnings are lent, since a Result that holds the array is copied on its way out.
+fn read_rows(tree: &[u32], rows: u32, begin: &mut [u32]) -> Result<(), TreeError>
     requires tree_len { length tree.now ≡ rows * 6 }
     requires le_rows { 1 ≤ rows }
     requires rows_bound { rows ≤ 2048 }
-    ensures { result ≡ read_from tree.now no_begins 0 rows }
+    requires zeros { begin.old ≡ no_begins }
+    ensures { record { answer = result; begin = begin.new } ≡ read_from tree.now no_begins 0 rows }
 {
-    let mut begin = [0u32; 2048];
-    let mut row = 0;
-    while row < rows {
+    for row in 0..rows {
         if !in_range(tree, row) {
-            return TreeRead {
-                code: 60,
-                at: row,
-                begin,
-            };
+            return Err(TreeError::RowOutOfRange(row));
         }
-        let first = row_begin(tree, &begin, row);
-        if first == NOWHERE {
-            return TreeRead {
-                code: 61,
-                at: row,
-                begin,
-            };
-        }
+        let first = row_begin(tree, begin, row).ok_or(TreeError::PartsMissing(row))?;
         begin[row as usize] = first;
-        row += 1;
     }
-    let code = remainder(tree, &begin, rows);
-    TreeRead { code, at: 0, begin }
-}
-
-fn no_list() -> TreeRead
-    ensures { result ≡ no_list }
-{
-    TreeRead {
-        code: 62,
-        at: 0,
-        begin: [0u32; 2048],
+    if one_root(tree, begin, rows) {
+        Ok(())
+    } else {
+        Err(TreeError::NotOneTree)
     }
 }
 
-// The check, with what it finds.
-pub fn read_tree(tree: &[u32]) -> TreeRead
-    ensures { result ≡ tree_read tree.now }
+// The check, with the beginnings in an array of zeros.
+fn read_into(tree: &[u32], begin: &mut [u32]) -> Result<(), TreeError>
+    requires { begin.old ≡ no_begins }
+    ensures { record { answer = result; begin = begin.new } ≡ tree_read tree.now }
 {
     let rows = tree.len() / 6;
-    if tree.len() != rows * 6 {
-        return no_list();
+    if tree.len() != rows * 6 || rows == 0 || rows > 2048 {
+        return Err(TreeError::NotOneTree);
     }
-    if rows == 0 {
-        return no_list();
-    }
-    if rows > 2048 {
-        return no_list();
-    }
-    read_rows(tree, rows as u32)
+    read_rows(tree, rows as u32, begin)
+}
+
+// The check, with what it finds: for each row read the first row of the part that it closes, the rows before a refused one included. Zeros follow, whatever `begin`
+// held before.
+pub fn read_tree(tree: &[u32], begin: &mut [u32; 2048]) -> Result<(), TreeError>
+    ensures { record { answer = result; begin = begin.new } ≡ tree_read tree.now }
+{
+    begin.fill(0);
+    read_into(tree, begin)
 }
 
 // Whether any words are the rows of one tree.
-pub fn check_tree(tree: &[u32]) -> TreeChecked
-    ensures { result ≡ tree_checked tree.now }
+pub fn check_tree(tree: &[u32]) -> Result<(), TreeError>
+    ensures { checked_of result ≡ tree_checked tree.now }
 {
-    let read = read_tree(tree);
-    TreeChecked {
-        code: read.code,
-        at: read.at,
-    }
+    let mut begin = [0u32; 2048];
+    read_into(tree, &mut begin)
 }
 
 // The same for callers in C or Rust: the code, and its row in `at`.
 pub fn tree_check(tree: &[u32], at: &mut u32) -> u32
     ensures { record { code = result; at = at.new } ≡ tree_checked tree.now }
 {
-    let checked = check_tree(tree);
-    *at = checked.at;
-    checked.code
+    match check_tree(tree) {
+        Ok(()) => {
+            *at = 0;
+            0
+        }
+        Err(error) => {
+            *at = error.place();
+            error.code()
+        }
+    }
 }

@@ -1,41 +1,21 @@
 // The bytes of a table's lines, one by one; `last` is the last column.
-ghost use Rattle.std.specs.Prelude.{◌≡◌, true, false, ◌≤◌};
-ghost use Rattle.tree_check.specs.Scan.{start_scan, refused_scan, next_column, first_digit, in_number, stepped};
+ghost use Rattle.std.specs.Prelude.{◌≡◌, ◌≤◌};
+ghost use Rattle.tree_check.specs.Scan.{next_column, going_on, first_digit, in_number, stepped};
 
 use text::number::{digit_value, ending_byte, extended};
 
-// How far a line has come: the column, and the value of the number that is open; `ended` where one has just ended.
-#[derive(Clone, Copy)]
+// How far a line has come: the column, and the value so far of the number in it, once it has a digit.
+#[derive(Clone, Copy, Debug, PartialEq, Eq)]
 pub struct Scan {
-    pub refused: bool,
-    pub ended: bool,
-    pub begun: bool,
     pub column: u32,
-    pub value: u32,
+    pub number: Option<u32>,
 }
 
-pub fn start_scan() -> Scan
-    ensures { result ≡ start_scan }
-{
-    Scan {
-        refused: false,
-        ended: false,
-        begun: false,
-        column: 0,
-        value: 0,
-    }
-}
-
-fn refused_scan() -> Scan
-    ensures { result ≡ refused_scan }
-{
-    Scan {
-        refused: true,
-        ended: false,
-        begun: false,
-        column: 0,
-        value: 0,
-    }
+// What a byte makes of that, and the number that it ends.
+#[derive(Clone, Copy, Debug, PartialEq, Eq)]
+pub struct Step {
+    pub scan: Scan,
+    pub ended: Option<u32>,
 }
 
 fn next_column(last: u32, column: u32) -> u32
@@ -45,54 +25,54 @@ fn next_column(last: u32, column: u32) -> u32
     if column == last { 0 } else { column + 1 }
 }
 
-fn open_scan(column: u32, value: u32) -> Scan
-    ensures { result ≡ record { refused = false; ended = false; begun = true; column = column; value = value } }
+fn going_on(column: u32, value: u32) -> Step
+    ensures { result ≡ going_on column value }
 {
-    Scan {
-        refused: false,
-        ended: false,
-        begun: true,
-        column,
-        value,
+    Step {
+        scan: Scan {
+            column,
+            number: Some(value),
+        },
+        ended: None,
     }
 }
 
-fn first_digit(column: u32, byte: u8) -> Scan
+#[tactic(auto, unfolding(crate::specs::Scan::first_digit))]
+fn first_digit(column: u32, byte: u8) -> Option<Step>
     ensures { result ≡ first_digit column byte }
 {
-    let digit = digit_value(byte);
-    if digit == 10 {
-        return refused_scan();
-    }
-    open_scan(column, digit)
+    let value = digit_value(byte)?;
+    Some(going_on(column, value))
 }
 
-fn in_number(last: u32, column: u32, value: u32, byte: u8) -> Scan
+#[tactic(auto, unfolding(crate::specs::Scan::in_number))]
+fn in_number(last: u32, column: u32, value: u32, byte: u8) -> Option<Step>
     requires { column ≤ last }
     ensures { result ≡ in_number last column value byte }
 {
     if byte == ending_byte(column == last) {
-        return Scan {
-            refused: false,
-            ended: true,
-            begun: false,
-            column: next_column(last, column),
-            value,
-        };
+        return Some(Step {
+            scan: Scan {
+                column: next_column(last, column),
+                number: None,
+            },
+            ended: Some(value),
+        });
     }
-    let more = extended(value, byte);
-    if more == 4294967296 {
-        return refused_scan();
-    }
-    open_scan(column, more as u32)
+    let value = extended(value, byte)?;
+    Some(going_on(column, value))
 }
 
-pub fn step(last: u32, scan: Scan, byte: u8) -> Scan
-    requires { scan.column ≤ last }
-    ensures { result ≡ stepped last scan byte }
-{
-    if scan.begun {
-        return in_number(last, scan.column, scan.value, byte);
+impl Scan {
+    // None where no good file has this byte.
+    #[tactic(auto, unfolding(crate::specs::Scan::stepped))]
+    pub fn step(self, last: u32, byte: u8) -> Option<Step>
+        requires { self.column ≤ last }
+        ensures { result ≡ stepped last self byte }
+    {
+        match self.number {
+            None => first_digit(self.column, byte),
+            Some(value) => in_number(last, self.column, value, byte),
+        }
     }
-    first_digit(scan.column, byte)
 }

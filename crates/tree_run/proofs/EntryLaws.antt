@@ -3,12 +3,15 @@ use mathlib.Core.Path.{◌≡◌, refl, sym, ap, ◌∙◌, subst}
 use mathlib.Core.Logic.{◌⊎◌, inl, inr}
 use Prim.Native.Nat.{ℕ, zero, suc, ◌+◌, ◌*◌, ◌-◌, ◌/◌, ◌<◌, ◌≤◌}
 use native.Mathlib.Omega.{arith}
-use mathlib.Core.List.{List, [], ◌∷◌, ◌++◌, map}
+use native.Mathlib.Nat.{le_refl}
+use mathlib.Core.List.{List, [], ◌∷◌, map}
 use mathlib.Core.Option.{Option, none, some}
 use mathlib.Core.Bool.{Bool, true, false}
-use lib.ListN.{length, get_or, take, replicate, length-map, length-take}
+use lib.ListN.{length, get_or, take, length-map, length-take}
 use lib.Seq.{ext_get_or, get_or-take}
-use borrow.Author.Tests.{le-leb, lt-leb}
+use borrow.Author.Tests.{le-leb, lt-leb, ne_eqb}
+use Rattle.std.specs.Prelude.{Result, Ok, Err, Some, None}
+use Rattle.table.specs.Words.{largest}
 use Rattle.table.specs.Table.{unless_none}
 use Rattle.table.specs.Check as check
 use Rattle.table.specs.Check.{unused, fits}
@@ -20,11 +23,13 @@ use Rattle.definition.specs.Run.{Answers, Reason, returned, threw, no_answer_lef
 use Rattle.definition.specs.TreeRun.{Completed, run_statements, reason_of}
 use Rattle.tree_grammar.specs.Ranges.{rules_by_op, in_range, all_in_range}
 use Rattle.tree_grammar.specs.Grammar.{most_rows, Answer, no_list, of_rows, one_tree, out_of_range, no_parts, remainder}
+use Rattle.tree_grammar.specs.Needs.{code_of, at_of}
 use Rattle.tree_grammar.proofs.Upto.{and_both}
 use Rattle.tree_grammar.proofs.Sound.{in_range_lem}
-use Rattle.tree_check.specs.declared.TreeRead.{TreeRead}
-use Rattle.tree_check.specs.Found.{word_at, row_at, tree_read, Begun}
-use Rattle.tree_check.proofs.Simulation.{tree_answer}
+use Rattle.tree_check.specs.declared.TreeError.{TreeError}
+use Rattle.tree_check.specs.declared.TreeError.TheVariants.{RowOutOfRange, PartsMissing, NotOneTree}
+use Rattle.tree_check.specs.Found.{verdict_of, word_at, row_at, tree_read, Begun}
+use Rattle.tree_check.proofs.Simulation.{refused_answer, accepted_answer}
 use Rattle.tree_check.proofs.Begins.{begins_found}
 use Rattle.tree_runs.specs.Numbered.{end_statements, numbered}
 use Rattle.tree_runs.specs.Links.{Links}
@@ -35,11 +40,11 @@ use Rattle.tree_runs.specs.Given.{RunGives, refused, runs}
 use Rattle.tree_runs.proofs.Lays.{Targets, Stand, at_end, stands, root_laid}
 use Rattle.tree_runs.proofs.Images.{instruction_at}
 use Rattle.tree_runs.proofs.RowsRun.{rows_run, rows_ran}
-use Rattle.tree_run.specs.declared.Ran.{Ran}
-use Rattle.tree_run.specs.Abstraction.{RowsLinked, layout_at}
-use Rattle.tree_run.specs.Holds.{Held, Walks, told, Ends, filled, not_run_from, outcome_of}
+use Rattle.tree_run.specs.declared.Run.{Run}
+use Rattle.tree_run.specs.declared.RunError.{RunError}
+use Rattle.tree_run.specs.Abstraction.{if_any, RowsLinked, layout_at}
+use Rattle.tree_run.specs.Holds.{Held, Walks, told, Ends, filled, not_run_from, number_of, kept, outcome_of}
 use Rattle.tree_run.specs.Holds as holds
-use Rattle.tree_run.proofs.CompletionLaws.{some_is}
 
 true_false : true ≡ false → ⊥
 true_false e = let z : ◌≡◌ {A = ℕ} 0 1 = cc in omega arith
@@ -63,15 +68,20 @@ module _ (words : List ℕ) where
   of_answer (of_rows list w l m code at (no_parts i g r f)) e = absurd (omega (arith, e))
   of_answer (of_rows list w l m code at (remainder a r f)) e = absurd (omega (arith, e))
 
-  pub accepted : {read : TreeRead} → read ≡ tree_read words → read.code ≡ 0 → Accepted words
-  accepted {read} e z = of_answer (tree_answer words e) z
+  pub accepted : {begins : List ℕ} → record { answer = Ok tt; begin = begins } ≡ tree_read words → Accepted words
+  accepted {begins} e = of_answer (accepted_answer words e) refl
 
-  pub check_refused : {read : TreeRead} (answers : Answers) (lent : ℕ) {o : Outcome} → read ≡ tree_read words → (read.code ≡ 0 → ⊥)
-      → o ≡ refusal read.code read.at lent → RunGives words answers lent o
-  check_refused {read} answers lent e f q = rw q (refused read.code read.at (tree_answer words e) f)
+  pub check_refused : {error : TreeError} {begins : List ℕ} (answers : Answers) (lent : ℕ) {o : Outcome} → record { answer = Err error; begin = begins } ≡ tree_read words
+      → o ≡ refusal (code_of (verdict_of error)) (at_of (verdict_of error)) lent → RunGives words answers lent o
+  check_refused {error} {begins} answers lent e q = rw q (refused (code_of (verdict_of error)) (at_of (verdict_of error)) (refused_answer words e) (is_code error))
+    where
+      is_code : (error : TreeError) → code_of (verdict_of error) ≡ 0 → ⊥
+      is_code (RowOutOfRange at) z = omega arith
+      is_code (PartsMissing at) z = omega arith
+      is_code NotOneTree z = omega arith
 
-  pub begun : {read : TreeRead} → read ≡ tree_read words → read.code ≡ 0 → Begun words read.begin (length words / 6)
-  begun e z = rw e (begins_found words (ap (λ (r : TreeRead). r.code) (sym e) ∙ z))
+  pub begun : {begins : List ℕ} → record { answer = Ok tt; begin = begins } ≡ tree_read words → Begun words begins (length words / 6)
+  begun {begins} e = begins_found words (sym e)
 
 -- ---- the words as rows
 
@@ -102,6 +112,10 @@ unfolding words_of
 length_words [] = refl
 length_words (row op a b c d e ∷ list) = let z : length (words_of list) ≡ length list * 6 = length_words list in omega (arith, z)
 
+some_is : (n : ℕ) → (n ≡ 65535 → ⊥) → unless_none n ≡ some n
+unfolding unless_none
+some_is n e = ap (λ (y : Bool). elim y [ true ↦ none | false ↦ some n ]) (ne_eqb n largest e)
+
 target_some : (a : ℕ) → fits (check.row 1024) a ≡ true → unless_none a ≡ some a
 unfolding fits
 target_some a e = some_is a (λ z. true_false (sym e ∙ ap (λ (n : ℕ). fits (check.row 1024) n) z))
@@ -129,28 +143,24 @@ module _ (words : List ℕ) (t : Links) (number : ℕ) (linked : RowsLinked word
 -- ---- 64
 
 -- what is found of the rows from row f on
-abbrev FirstOther : Option ℕ → (f count n : ℕ) → Type 0
-FirstOther none f count n = n ≡ f + count
-FirstOther (some i) f count n = (n ≡ i) × (i < f + count)
-
-first_other : (words : List ℕ) (list : List Row) (f : ℕ) → AllAt words list f → FirstOther (first_not_run list f) f (length list) (not_run_from words f (length list))
+first_is : (words : List ℕ) (list : List Row) (f : ℕ) → AllAt words list f → if_any (not_run_from words f (length list)) ≡ first_not_run list f
 unfolding first_not_run not_run_from
-first_other words [] f h = omega arith
-first_other words (row op a b c d e ∷ list) f h =
-    subst (λ (o : ℕ). FirstOther (elim (not_run op) [ true ↦ some f | false ↦ first_not_run list (suc f) ]) f (suc (length list))
-    (elim (not_run o) [ true ↦ f | false ↦ not_run_from words (suc f) (length list) ])) (sym (ap op_of h.0))
-    (by (not_run op) (first_not_run list (suc f)) (first_other words list (suc f) h.1))
+first_is words [] f h = refl
+first_is words (row op a b c d e ∷ list) f h =
+    subst (λ (o : ℕ). if_any (elim (not_run o) [ true ↦ Some f | false ↦ not_run_from words (suc f) (length list) ]) ≡ first_not_run (row op a b c d e ∷ list) f)
+    (sym (ap op_of h.0)) (by (not_run op) (first_is words list (suc f) h.1))
   where
-    later : (o : Option ℕ) → FirstOther o (suc f) (length list) (not_run_from words (suc f) (length list)) → FirstOther o f (suc (length list)) (not_run_from words (suc f) (length list))
-    later none q = omega (arith, q)
-    later (some i) q = (q.0, omega (arith, q.1))
-
-    by : (y : Bool) (o : Option ℕ) → FirstOther o (suc f) (length list) (not_run_from words (suc f) (length list))
-        → FirstOther (elim y [ true ↦ some f | false ↦ o ]) f (suc (length list)) (elim y [ true ↦ f | false ↦ not_run_from words (suc f) (length list) ])
-    by true o q = (refl, omega arith)
-    by false o q = later o q
+    by : (y : Bool) → if_any (not_run_from words (suc f) (length list)) ≡ first_not_run list (suc f)
+        → if_any (elim y [ true ↦ Some f | false ↦ not_run_from words (suc f) (length list) ]) ≡ elim y [ true ↦ some f | false ↦ first_not_run list (suc f) ]
+    by true q = refl
+    by false q = q
 
 -- ---- the end of the walk, and the outcome
+
+-- a refused run leaves zeros
+pub kept_none : (code at : ℕ) (buffer : List ℕ) → record { code = code; at = at; number = 0; reason = 0; buffer = kept 0 buffer } ≡ refusal code at (length buffer)
+unfolding refusal
+kept_none code at buffer = let z : length buffer - 0 ≡ length buffer = omega arith in rw z refl
 
 module _ (words : List ℕ) (t : Links) (number : ℕ) where
   abbrev instruction : ℕ → ℕ
@@ -191,56 +201,34 @@ module _ (words : List ℕ) (t : Links) (number : ℕ) where
           | false ↦ refusal 65 (get_or end.rows (length buffer) 0) (length buffer)
         ]) (lt-leb (length end.rows) (length buffer) l)
 
-    told_refused : (n : ℕ) (performed : List ℕ) (reason : Reason) → ((told n reason).code ≡ 0 → ⊥)
-        → refusal (told n reason).code (told n reason).at (length buffer) ≡ ended performed (length buffer) reason
-    unfolding ended
-    told_refused n performed (returned v i) f = absurd (f refl)
-    told_refused n performed (threw v i) f = absurd (f refl)
-    told_refused n performed end_of_tree f = absurd (f refl)
-    told_refused n performed no_answer_left f = absurd (f refl)
-    told_refused n performed (no_target at) f = refl
-    told_refused n performed not_plain f = refl
-    told_refused n performed no_such_case f = refl
-
-    pub outcome_refused : {r : Ran} → Ends words buffer r end → (r.code ≡ 0 → ⊥) → refusal r.code r.at (length buffer) ≡ outcome
-    outcome_refused (filled l e) f = rw e (sym (over_outcome l))
-    outcome_refused {r} (holds.ended n h e) f = rw e (told_refused n (map instruction end.rows) (reason_of end.completion) (λ z. f (ap (λ (x : Ran). x.code) e ∙ z)) ∙ sym (fits_outcome h))
-
-    told_run : (n : ℕ) (b' : List ℕ) (reason : Reason) → (told n reason).code ≡ 0 → length (map instruction end.rows) ≡ n
-        → b' ≡ map instruction end.rows ++ replicate (length buffer - n) 0 → ((told n reason).number ≡ n) → outcome_of (told n reason) b' ≡ ended (map instruction end.rows) (length buffer) reason
+    told_is : (n : ℕ) (performed : List ℕ) (reason : Reason) → length performed ≡ n → take n buffer ≡ performed
+        → outcome_of (told n reason) (kept (number_of (told n reason)) buffer) ≡ ended performed (length buffer) reason
     unfolding ended performed_all
-    told_run n b' (returned v i) z c q s = rw (q, c) refl
-    told_run n b' (threw v i) z c q s = rw (q, c) refl
-    told_run n b' end_of_tree z c q s = rw (q, c) refl
-    told_run n b' no_answer_left z c q s = rw (q, c) refl
-    told_run n b' (no_target at) z c q s = absurd (omega (arith, z))
-    told_run n b' not_plain z c q s = absurd (omega (arith, z))
-    told_run n b' no_such_case z c q s = absurd (omega (arith, z))
+    told_is n performed (returned v i) c q = rw (q, c) refl
+    told_is n performed (threw v i) c q = rw (q, c) refl
+    told_is n performed end_of_tree c q = rw (q, c) refl
+    told_is n performed no_answer_left c q = rw (q, c) refl
+    told_is n performed (no_target at) c q = kept_none 63 at buffer
+    told_is n performed not_plain c q = kept_none 64 0 buffer
+    told_is n performed no_such_case c q = kept_none 64 0 buffer
 
-    told_number : (n : ℕ) (reason : Reason) → (told n reason).code ≡ 0 → (told n reason).number ≡ n
-    told_number n (returned v i) z = refl
-    told_number n (threw v i) z = refl
-    told_number n end_of_tree z = refl
-    told_number n no_answer_left z = refl
-    told_number n (no_target at) z = absurd (omega (arith, z))
-    told_number n not_plain z = absurd (omega (arith, z))
-    told_number n no_such_case z = absurd (omega (arith, z))
+    pub outcome_is : {r : Result Run RunError} → Ends words buffer r end → outcome_of r (kept (number_of r) buffer) ≡ outcome
+    outcome_is (filled l e) = rw e (kept_none 65 (get_or end.rows (length buffer) 0) buffer ∙ sym (over_outcome l))
+    outcome_is (holds.ended n h e) =
+        rw e (told_is n (map instruction end.rows) (reason_of end.completion) (length-map end.rows instruction ∙ h.count) (held_map h) ∙ sym (fits_outcome h))
 
-    pub number_fits : {r : Ran} → Ends words buffer r end → r.code ≡ 0 → r.number ≤ length buffer
-    number_fits (filled l e) z = absurd (omega (arith, ap (λ (x : Ran). x.code) e, z))
-    number_fits {r} (holds.ended n h e) z =
-        let q : r.number ≡ n = ap (λ (x : Ran). x.number) e ∙ told_number n (reason_of end.completion) (ap (λ (x : Ran). x.code) (sym e) ∙ z) in
-        omega (arith, q, h.fits)
+    told_number : (n : ℕ) (reason : Reason) → number_of (told n reason) ≤ n
+    told_number n (returned v i) = le_refl n
+    told_number n (threw v i) = le_refl n
+    told_number n end_of_tree = le_refl n
+    told_number n no_answer_left = le_refl n
+    told_number n (no_target at) = omega arith
+    told_number n not_plain = omega arith
+    told_number n no_such_case = omega arith
 
-    pub outcome_run : {r : Ran} {b' : List ℕ} → Ends words buffer r end → r.code ≡ 0 → b' ≡ take r.number buffer ++ replicate (length buffer - r.number) 0 → outcome_of r b' ≡ outcome
-    outcome_run (filled l e) z q = absurd (omega (arith, ap (λ (x : Ran). x.code) e, z))
-    outcome_run {r} {b'} (holds.ended n h e) z q =
-        let c : (told n (reason_of end.completion)).code ≡ 0 = ap (λ (x : Ran). x.code) (sym e) ∙ z in
-        let k : r.number ≡ n = ap (λ (x : Ran). x.number) e ∙ told_number n (reason_of end.completion) c in
-        ap (λ (x : Ran). outcome_of x b') e
-        ∙ (told_run n b' (reason_of end.completion) c (length-map end.rows instruction ∙ h.count)
-        (q ∙ (rw k (ap (λ (z : List ℕ). z ++ replicate (length buffer - n) 0) (held_map h)))) (told_number n (reason_of end.completion) c)
-        ∙ sym (fits_outcome h))
+    pub number_fits : {r : Result Run RunError} → Ends words buffer r end → number_of r ≤ length buffer
+    number_fits (filled l e) = rw e (omega arith)
+    number_fits (holds.ended n h e) = rw e (omega (arith, told_number n (reason_of end.completion), h.fits))
 
 -- ---- the whole
 
@@ -257,29 +245,16 @@ module _ (words : List ℕ) (a : Accepted words) where
   all_at : AllAt words a.list 0
   all_at = subst (λ (w : List ℕ). AllAt w a.list 0) a.same (words_rows a.list)
 
-  other_at : FirstOther (first_not_run a.list 0) 0 (length a.list) (not_run_from words 0 (length words / 6))
-  other_at = rw rows_number (first_other words a.list 0 all_at)
+  first_at : if_any (not_run_from words 0 (length words / 6)) ≡ first_not_run (tree.rows a.root) 0
+  first_at = rw (rows_number, a.reading.same_rows) (first_is words a.list 0 all_at)
 
   gives_run : (answers : Answers) (lent : ℕ) {o : Outcome} → o ≡ ran a.root answers lent → RunGives words answers lent o
   gives_run answers lent e = rw e (runs a.list a.same a.least a.most a.ranged a.root a.reading)
 
   -- 64
-  pub run_other : (answers : Answers) (lent : ℕ) {n : ℕ} {o : Outcome} → n ≡ not_run_from words 0 (length words / 6) → n < length words / 6 → o ≡ refusal 64 n lent → RunGives words answers lent o
+  pub run_other : (answers : Answers) (lent : ℕ) {n : ℕ} {o : Outcome} → Some n ≡ not_run_from words 0 (length words / 6) → o ≡ refusal 64 n lent → RunGives words answers lent o
   unfolding ran after_sorts
-  run_other answers lent {n} {o} e l q = gives_run answers lent (q ∙ by (first_not_run a.list 0) refl other_at)
-    where
-      by : (x : Option ℕ) → first_not_run a.list 0 ≡ x → FirstOther x 0 (length a.list) (not_run_from words 0 (length words / 6)) → refusal 64 n lent ≡ ran a.root answers lent
-      by none f h = absurd (omega (arith, e, l, h, rows_number))
-      by (some i) f h =
-          ap (λ (k : ℕ). refusal 64 k lent) (e ∙ h.0) ∙ sym
-          (ap (λ (z : Option ℕ). after_sorts z a.root answers lent) (ap (λ (l : List Row). first_not_run l 0) a.reading.same_rows ∙ f))
-
-  none_other : {n : ℕ} → n ≡ not_run_from words 0 (length words / 6) → length words / 6 ≤ n → first_not_run (tree.rows a.root) 0 ≡ none
-  none_other {n} e l = ap (λ (l : List Row). first_not_run l 0) a.reading.same_rows ∙ by (first_not_run a.list 0) refl other_at
-    where
-      by : (x : Option ℕ) → first_not_run a.list 0 ≡ x → FirstOther x 0 (length a.list) (not_run_from words 0 (length words / 6)) → first_not_run a.list 0 ≡ none
-      by none f h = f
-      by (some i) f h = absurd (omega (arith, e, l, h.0, h.1, rows_number))
+  run_other answers lent {n} {o} e q = gives_run answers lent (q ∙ ap (λ (z : Option ℕ). after_sorts z a.root answers lent) (ap if_any e ∙ first_at))
 
   module _ (t : Links) {number : ℕ} (is : number ≡ length words / 6) (linked : RowsLinked words t number) where
     stand : Stand (row_at words) t number 0 (tree.rows a.root)
@@ -297,20 +272,16 @@ module _ (words : List ℕ) (a : Accepted words) where
     pub walks : (answers : Answers) → Walks (layout_at words t number) number answers
     walks answers = record { end = the_end answers; gives = walked answers }
 
-    module _ (answers : Answers) {n : ℕ} (e : n ≡ not_run_from words 0 (length words / 6)) (l : length words / 6 ≤ n) {r : Ran} {buffer : List ℕ}
+    module _ (answers : Answers) (e : None ≡ not_run_from words 0 (length words / 6)) {r : Result Run RunError} {buffer : List ℕ}
         (ends : (m : ℕ) (end : Completed) → machine.Completes (layout_at words t number) m (state (enter (number - 1)) [] answers) end → Ends words buffer r end) where
       at_end_of : Ends words buffer r (the_end answers)
       at_end_of = ends _ (the_end answers) (walked answers)
 
       ran_is : from_reached (instruction_at (row_at words) t number) (length buffer) (the_end answers).rows (reason_of (the_end answers).completion) ≡ ran a.root answers (length buffer)
-      ran_is = sym (rows_ran (row_at words) t number a.root a.reading.well_formed stand (none_other e l) answers (length buffer))
+      ran_is = sym (rows_ran (row_at words) t number a.root a.reading.well_formed stand (sym first_at ∙ ap if_any (sym e)) answers (length buffer))
 
-      pub run_refused : {o : Outcome} (lent : ℕ) → length buffer ≡ lent → (r.code ≡ 0 → ⊥) → o ≡ refusal r.code r.at (length buffer) → RunGives words answers lent o
-      run_refused lent z f q = gives_run answers lent (q ∙ (outcome_refused words t number buffer (the_end answers) at_end_of f ∙ (ran_is ∙ ap (ran a.root answers) z)))
+      pub run_fits : number_of r ≤ length buffer
+      run_fits = number_fits words t number buffer (the_end answers) at_end_of
 
-      pub run_fits : r.code ≡ 0 → r.number ≤ length buffer
-      run_fits z = number_fits words t number buffer (the_end answers) at_end_of z
-
-      pub run_given : {b' : List ℕ} (lent : ℕ) → length buffer ≡ lent → r.code ≡ 0 → b' ≡ take r.number buffer ++ replicate (length buffer - r.number) 0
-          → RunGives words answers lent (outcome_of r b')
-      run_given lent z c q = gives_run answers lent (outcome_run words t number buffer (the_end answers) at_end_of c q ∙ (ran_is ∙ ap (ran a.root answers) z))
+      pub run_given : (lent : ℕ) → length buffer ≡ lent → RunGives words answers lent (outcome_of r (kept (number_of r) buffer))
+      run_given lent z = gives_run answers lent (outcome_is words t number buffer (the_end answers) at_end_of ∙ (ran_is ∙ ap (ran a.root answers) z))

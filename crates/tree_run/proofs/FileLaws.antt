@@ -14,9 +14,8 @@ use Rattle.text.proofs.LentLaws.{holds_all}
 use Rattle.tree_grammar.specs.Grammar.{Answer}
 use Rattle.tree_grammar.specs.Needs.{tree_verdict, code_of, at_of}
 use Rattle.tree_grammar.proofs.Words.{words_answered}
-use Rattle.tree_check.specs.declared.TreeChecked.{TreeChecked}
-use Rattle.tree_check.specs.declared.file.Rows.{Rows}
-use Rattle.tree_check.specs.Read.{RowsRead, checked_as}
+use Rattle.tree_check.specs.Found.{TreeChecked}
+use Rattle.tree_check.specs.Read.{WordsRead, Refused, checked_as}
 use Rattle.tree_check.proofs.FileLaws.{too_many_words}
 use Rattle.tree_runs.specs.Ran.{Outcome, refusal}
 use Rattle.tree_runs.specs.Given.{refused, run_of}
@@ -50,8 +49,8 @@ module _ (file : List ℕ) where
           let on : answers_from at (drop at file) ≡ answers_from (at + 1) (drop (at + 1) file) = opened ∙ rw (sym is ∙ e, add-one at) in
           record { rest = l.rest ∙ on; within = omega arith }
 
-    pub none_there : length file ≤ at → AnswersAt file at
-    none_there h = record { is = sym (l.rest ∙ nothing); within = l.within }
+    pub none_there : length file ≤ at → AnswersAt file (length file)
+    none_there h = record { is = omega (arith, l.rest, nothing, h, l.within); within = omega arith }
       where
         nothing : answers_from at (drop at file) ≡ at
         nothing = unfold answers_from in rw (drop_of_length-le file h)
@@ -96,25 +95,23 @@ module _ (file : List ℕ) (lent : ℕ) {o : Outcome} where
   unfolding file_run
   file_long h q = q ∙ rw (lt-leb (length file) 262144 h, file_run)
 
-  module _ (short : length file ≤ 262144) {from : ℕ} (a : AnswersAt file from) {lent_words : List ℕ} {rows : Rows} (p : RowsRead tree_names 5 (take from file) lent_words rows) where
+  module _ (short : length file ≤ 262144) {from : ℕ} (a : AnswersAt file from) where
     -- a file within the limit gives what its two parts give
     of_parts : {given : Given} → given_from from file ≡ given → o ≡ run_given given lent → o ≡ file_run file lent
     of_parts {given} e q =
         let within : file_run file lent ≡ run_given (file_given file) lent = unfold file_run in rw (le-leb (length file) 262144 short, file_run) in
         q ∙ sym (within ∙ ap (λ (g : Given). run_given g lent) (parted a ∙ e))
 
-    pub rows_refused : rows.refused ≡ true → o ≡ refusal 50 rows.at lent → o ≡ file_run file lent
-    rows_refused e q = of_parts {given = stopped rows.at} (rw (p.stop e)) (q ∙ unfold run_given in refl)
+    pub rows_refused : {at : ℕ} → Refused tree_names 5 (take from file) at → o ≡ refusal 50 at lent → o ≡ file_run file lent
+    rows_refused {at} r q = of_parts {given = stopped at} (rw r.is) (q ∙ unfold run_given in refl)
 
-    module _ (good : rows.refused ≡ false) {part lent_answers : List ℕ} {given : Rows} (is : part ≡ drop from file) (s : RowsRead answer_names 0 part lent_answers given) where
-      pub answers_refused : given.refused ≡ true → o ≡ refusal 50 (from + given.at) lent → o ≡ file_run file lent
-      answers_refused e q = of_parts {given = stopped (from + given.at)} (rw ((p.read good).1, ← is, s.stop e)) (q ∙ unfold run_given in refl)
+    module _ {lent_words : List ℕ} {count : ℕ} (p : WordsRead tree_names 5 (take from file) lent_words count) {part : List ℕ} (is : part ≡ drop from file) where
+      pub answers_refused : {at : ℕ} → Refused answer_names 0 part at → o ≡ refusal 50 (from + at) lent → o ≡ file_run file lent
+      answers_refused {at} r q = of_parts {given = stopped (from + at)} (rw (p.is, ← is, r.is)) (q ∙ unfold run_given in refl)
 
-      pub file_runs : given.refused ≡ false → given.count ≤ length lent_answers
-          → ((list : List ℕ) → Holds lent_words rows.count list → o ≡ run_of list (take given.count lent_answers) lent) → o ≡ file_run file lent
-      file_runs e fits h =
-          let list : List ℕ = (p.read good).0 in
-          let answers : List ℕ = (s.read e).0 in
-          let held : take given.count lent_answers ≡ answers = holds_all lent_answers given.count answers (s.read e).2 fits in
-          let ran : o ≡ run_given (read list answers) lent = h list (p.read good).2 ∙ ap (λ (z : List ℕ). run_of list z lent) held ∙ runs_given list answers lent in
-          of_parts {given = read list answers} (rw ((p.read good).1, ← is, (s.read e).1)) ran
+      pub file_runs : {lent_answers : List ℕ} {given : ℕ} → WordsRead answer_names 0 part lent_answers given → given ≤ length lent_answers
+          → ((list : List ℕ) → Holds lent_words count list → o ≡ run_of list (take given lent_answers) lent) → o ≡ file_run file lent
+      file_runs {lent_answers} {given} s fits h =
+          let held : take given lent_answers ≡ s.list = holds_all lent_answers given s.list s.held fits in
+          let ran : o ≡ run_given (read p.list s.list) lent = h p.list p.held ∙ ap (λ (z : List ℕ). run_of p.list z lent) held ∙ runs_given p.list s.list lent in
+          of_parts {given = read p.list s.list} (rw (p.is, ← is, s.is)) ran

@@ -1,4 +1,3 @@
-pub mod CompletionLaws
 pub mod PerformLaws
 pub mod TurnLaws
 pub mod AnswerLaws

@@ -4,7 +4,6 @@ use Prim.Native.Nat.{ℕ, zero, suc, ◌+◌, ◌-◌, ◌<◌, ◌≤◌}
 use native.Mathlib.Omega.{arith}
 use native.Mathlib.Numerals.{add-one}
 use mathlib.Core.List.{List, [], ◌∷◌}
-use mathlib.Core.Option.{none, some}
 use mathlib.Core.Bool.{Bool, true, false}
 use lib.ListN.{length, get_or, set, length-set, get_or-eq_default}
 use lib.Seq.{get_or-set_same, get_or-set_other}
@@ -13,30 +12,59 @@ use borrow.Author.Tests.{eqb-true, eqb-false, leb-true, leb-false}
 use Rattle.tree_grammar.specs.Needs.{Sort, serves, made_by, many, needs_by_op}
 use Rattle.tree_grammar.specs.Needs as goal
 use Rattle.tree_grammar.proofs.Upto.{upto, ends, ◌and◌}
+use Rattle.std.specs.Prelude.{None, Some}
 use Rattle.tree_check.specs.Found.{word_at, row_at, parts_begin, Begun}
 use Rattle.tree_runs.specs.Links.{Links, parts_by_op, parts_of, put, with_part, with_row}
 use Rattle.tree_runs.proofs.Linking.{Linking, Taking, linking_start, taking_start, taking_part, taking_end}
-use Rattle.tree_run.specs.Abstraction.{links_of, RowsLinked}
+use Rattle.tree_run.specs.declared.links.Link.{Link}
+use Rattle.tree_run.specs.Abstraction.{link_at, links_of, RowsLinked}
 
 -- ---- a store is `put`
 
-set_put : (l : List ℕ) (i v : ℕ) → i < length l → (λ j. get_or (set l i v) j 0) ≡ put (λ j. get_or l j 0) i v
-unfolding put
-set_put l i v h = fun_ext (λ j. by j (eqb j i) refl)
-  where
-    by : (j : ℕ) (y : Bool) → eqb j i ≡ y → get_or (set l i v) j 0 ≡ elim (eqb j i) [ true ↦ v | false ↦ get_or l j 0 ]
-    by j true e = let z : j ≡ i = eqb-true j i e in rw (e, z) (get_or-set_same l i v 0 h)
-    by j false e = rw e (get_or-set_other l i j v 0 (eqb-false j i e))
+at_set : (l : List Link) (i : ℕ) (v : Link) → i < length l → (j : ℕ) (y : Bool) → eqb j i ≡ y → link_at (set l i v) j ≡ elim y [ true ↦ v | false ↦ link_at l j ]
+at_set l i v h j true e = let z : j ≡ i = eqb-true j i e in rw z (get_or-set_same l i v _ h)
+at_set l i v h j false e = get_or-set_other l i j v _ (eqb-false j i e)
 
-part_stored : (begin parent next child : List ℕ) (k m later : ℕ) → m < length parent → m < length next
-    → with_part (links_of begin parent next child) k m later ≡ links_of begin (set parent m k) (set next m later) child
-part_stored begin parent next child k m later p n =
-    ap (λ (f : ℕ → ℕ). record { begin = λ j. get_or begin j 0; parent = f; next = put (λ j. get_or next j 0) m later; child = λ j. get_or child j 0 }) (sym (set_put parent m k p))
-    ∙ ap (λ (f : ℕ → ℕ). record { begin = λ j. get_or begin j 0; parent = λ j. get_or (set parent m k) j 0; next = f; child = λ j. get_or child j 0 }) (sym (set_put next m later n))
+module _ (l : List Link) (i : ℕ) (v : Link) (h : i < length l) where
+  pub set_put : (field : Link → ℕ) → ◌≡◌ {A = ℕ → ℕ} (λ j. field (link_at (set l i v) j)) (put (λ j. field (link_at l j)) i (field v))
+  unfolding put
+  set_put field = fun_ext (λ j. ap field (at_set l i v h j (eqb j i) refl) ∙ by (eqb j i) j)
+    where
+      by : (y : Bool) (j : ℕ) → field (elim y [ true ↦ v | false ↦ link_at l j ]) ≡ elim y [ true ↦ field v | false ↦ field (link_at l j) ]
+      by true j = refl
+      by false j = refl
 
-row_stored : (begin parent next child : List ℕ) (k later : ℕ) → k < length child → with_row (links_of begin parent next child) k later ≡ links_of begin parent next (set child k later)
-row_stored begin parent next child k later c =
-    ap (λ (f : ℕ → ℕ). record { begin = λ j. get_or begin j 0; parent = λ j. get_or parent j 0; next = λ j. get_or next j 0; child = f }) (sym (set_put child k later c))
+  pub set_same : (field : Link → ℕ) → field v ≡ field (link_at l i) → ◌≡◌ {A = ℕ → ℕ} (λ j. field (link_at (set l i v) j)) (λ j. field (link_at l j))
+  set_same field e = fun_ext (λ j. ap field (at_set l i v h j (eqb j i) refl) ∙ by j (eqb j i) refl)
+    where
+      by : (j : ℕ) (y : Bool) → eqb j i ≡ y → field (elim y [ true ↦ v | false ↦ link_at l j ]) ≡ field (link_at l j)
+      by j true q = let z : j ≡ i = eqb-true j i q in e ∙ ap (λ (n : ℕ). field (link_at l n)) (sym z)
+      by j false q = refl
+
+abbrev links_by : (begin : List ℕ) → (parent next child : ℕ → ℕ) → Links
+links_by begin parent next child = record { begin = λ j. get_or begin j 0; parent = parent; next = next; child = child }
+
+part_stored : (begin : List ℕ) (l : List Link) (k m later : ℕ) → m < length l
+    → with_part (links_of begin l) k m later ≡ links_of begin (set l m (record { parent = k; next = later; child = (link_at l m).child }))
+part_stored begin l k m later h =
+    let v : Link = record { parent = k; next = later; child = (link_at l m).child } in
+    let p = set_put l m v h (λ z. z.parent) in
+    let n = set_put l m v h (λ z. z.next) in
+    let c = set_same l m v h (λ z. z.child) refl in
+    ap (λ (f : ℕ → ℕ). links_by begin f (put (λ j. (link_at l j).next) m later) (λ j. (link_at l j).child)) (sym p)
+    ∙ ap (λ (f : ℕ → ℕ). links_by begin (λ j. (link_at (set l m v) j).parent) f (λ j. (link_at l j).child)) (sym n)
+    ∙ ap (λ (f : ℕ → ℕ). links_by begin (λ j. (link_at (set l m v) j).parent) (λ j. (link_at (set l m v) j).next) f) (sym c)
+
+row_stored : (begin : List ℕ) (l : List Link) (k later : ℕ) → k < length l
+    → with_row (links_of begin l) k later ≡ links_of begin (set l k (record { parent = (link_at l k).parent; next = (link_at l k).next; child = later }))
+row_stored begin l k later h =
+    let v : Link = record { parent = (link_at l k).parent; next = (link_at l k).next; child = later } in
+    let p = set_same l k v h (λ z. z.parent) refl in
+    let n = set_same l k v h (λ z. z.next) refl in
+    let c = set_put l k v h (λ z. z.child) in
+    ap (λ (f : ℕ → ℕ). links_by begin (λ j. (link_at l j).parent) (λ j. (link_at l j).next) f) (sym c)
+    ∙ ap (λ (f : ℕ → ℕ). links_by begin f (λ j. (link_at l j).next) (λ j. (link_at (set l k v) j).child)) (sym p)
+    ∙ ap (λ (f : ℕ → ℕ). links_by begin (λ j. (link_at (set l k v) j).parent) f (λ j. (link_at (set l k v) j).child)) (sym n)
 
 -- ---- so many parts as the check wants
 
@@ -88,40 +116,40 @@ module _ (words begin : List ℕ) where
     taken : ℕ
     wanted : List Sort
     taking : Taking (row_at words) t k taken cursor later
-    found : parts_begin words begin wanted cursor ≡ some (get_or begin k 0)
+    found : parts_begin words begin wanted cursor ≡ Some (get_or begin k 0)
     all : taken + length wanted ≡ parts_of (row_at words k)
 
-  none_some : {n : ℕ} → none ≡ some n → ⊥
+  none_some : {n : ℕ} → None ≡ Some n → ⊥
   none_some e = let z : ◌≡◌ {A = ℕ} 0 1 = cc in omega arith
 
-  some_is : {m n : ℕ} → some m ≡ some n → m ≡ n
+  some_is : {m n : ℕ} → Some m ≡ Some n → m ≡ n
   some_is e = cc
 
   -- parts that are there begin before the row after them
-  parts_below : ((k : ℕ) → get_or begin k 0 ≤ k) → (wanted : List Sort) (cursor first : ℕ) → parts_begin words begin wanted cursor ≡ some first → first ≤ cursor
+  parts_below : ((k : ℕ) → get_or begin k 0 ≤ k) → (wanted : List Sort) (cursor first : ℕ) → parts_begin words begin wanted cursor ≡ Some first → first ≤ cursor
   unfolding parts_begin
   parts_below low [] cursor first e = omega (arith, some_is e)
   parts_below low (sort ∷ wanted) zero first e = absurd (none_some e)
   parts_below low (sort ∷ wanted) (suc last) first e = by (serves sort (made_by (word_at words last 0))) e (λ q. parts_below low wanted (get_or begin last 0) first q)
     where
-      by : (y : Bool) → elim y [ true ↦ parts_begin words begin wanted (get_or begin last 0) | false ↦ none ] ≡ some first
-          → (parts_begin words begin wanted (get_or begin last 0) ≡ some first → first ≤ get_or begin last 0) → first ≤ suc last
+      by : (y : Bool) → elim y [ true ↦ parts_begin words begin wanted (get_or begin last 0) | false ↦ None ] ≡ Some first
+          → (parts_begin words begin wanted (get_or begin last 0) ≡ Some first → first ≤ get_or begin last 0) → first ≤ suc last
       by true q on = omega (arith, on q, low last)
       by false q on = absurd (none_some q)
 
-  part_served : (sort : Sort) (wanted : List Sort) (last first : ℕ) → parts_begin words begin (sort ∷ wanted) (suc last) ≡ some first → parts_begin words begin wanted (get_or begin last 0) ≡ some first
+  part_served : (sort : Sort) (wanted : List Sort) (last first : ℕ) → parts_begin words begin (sort ∷ wanted) (suc last) ≡ Some first → parts_begin words begin wanted (get_or begin last 0) ≡ Some first
   unfolding parts_begin
   part_served sort wanted last first e = by (serves sort (made_by (word_at words last 0))) e
     where
-      by : (y : Bool) → elim y [ true ↦ parts_begin words begin wanted (get_or begin last 0) | false ↦ none ] ≡ some first → parts_begin words begin wanted (get_or begin last 0) ≡ some first
+      by : (y : Bool) → elim y [ true ↦ parts_begin words begin wanted (get_or begin last 0) | false ↦ None ] ≡ Some first → parts_begin words begin wanted (get_or begin last 0) ≡ Some first
       by true q = q
       by false q = absurd (none_some q)
 
-  none_wanted : (cursor first : ℕ) → parts_begin words begin [] cursor ≡ some first → cursor ≡ first
+  none_wanted : (cursor first : ℕ) → parts_begin words begin [] cursor ≡ Some first → cursor ≡ first
   unfolding parts_begin
   none_wanted cursor first e = some_is e
 
-  none_there : (sort : Sort) (wanted : List Sort) (first : ℕ) → parts_begin words begin (sort ∷ wanted) 0 ≡ some first → ⊥
+  none_there : (sort : Sort) (wanted : List Sort) (first : ℕ) → parts_begin words begin (sort ∷ wanted) 0 ≡ Some first → ⊥
   unfolding parts_begin
   none_there sort wanted first e = none_some e
 
@@ -132,7 +160,7 @@ module _ (words begin : List ℕ) where
     join_part : get_or begin k 0 < suc m → Joining t k (suc m) later → Joining (with_part t k m later) k (get_or begin m 0) m
     join_part h j = by j.wanted j.found j.all
       where
-        by : (wanted : List Sort) → parts_begin words begin wanted (suc m) ≡ some (get_or begin k 0) → j.taken + length wanted ≡ parts_of (row_at words k)
+        by : (wanted : List Sort) → parts_begin words begin wanted (suc m) ≡ Some (get_or begin k 0) → j.taken + length wanted ≡ parts_of (row_at words k)
             → Joining (with_part t k m later) k (get_or begin m 0) m
         by [] q all = absurd (omega (arith, none_wanted (suc m) (get_or begin k 0) q, h))
         by (sort ∷ wanted) q all = record {
@@ -147,12 +175,12 @@ module _ (words begin : List ℕ) where
     join_end : cursor ≤ get_or begin k 0 → Joining t k cursor later → Linking (row_at words) (with_row t k later) (suc k)
     join_end h j = by j.wanted j.found j.all
       where
-        by : (wanted : List Sort) → parts_begin words begin wanted cursor ≡ some (get_or begin k 0) → j.taken + length wanted ≡ parts_of (row_at words k)
+        by : (wanted : List Sort) → parts_begin words begin wanted cursor ≡ Some (get_or begin k 0) → j.taken + length wanted ≡ parts_of (row_at words k)
             → Linking (row_at words) (with_row t k later) (suc k)
         by [] q all = taking_end (row_at words) t k j.taken cursor later j.taking (omega (arith, all)) (same k ∙ sym (none_wanted cursor (get_or begin k 0) q))
         by (sort ∷ wanted) q all = strict cursor q h
           where
-            strict : (cursor : ℕ) → parts_begin words begin (sort ∷ wanted) cursor ≡ some (get_or begin k 0) → cursor ≤ get_or begin k 0 → Linking (row_at words) (with_row t k later) (suc k)
+            strict : (cursor : ℕ) → parts_begin words begin (sort ∷ wanted) cursor ≡ Some (get_or begin k 0) → cursor ≤ get_or begin k 0 → Linking (row_at words) (with_row t k later) (suc k)
             strict zero q h = absurd (none_there sort wanted (get_or begin k 0) q)
             strict (suc last) q h =
                 let l : get_or begin k 0 ≤ get_or begin last 0 = parts_below low wanted (get_or begin last 0) (get_or begin k 0) (part_served sort wanted last (get_or begin k 0) q) in
@@ -162,61 +190,54 @@ module _ (words begin : List ℕ) where
 
 module _ (begin : List ℕ) (rows : ℕ) where
   -- the rows before this one are linked
-  pub record RowsDone (parent next child : List ℕ) (row : ℕ) : Type 0 where
+  pub record RowsDone (l : List Link) (row : ℕ) : Type 0 where
     pub most : row ≤ rows
-    pub parents : length parent ≡ 2048
-    pub nexts : length next ≡ 2048
-    pub children : length child ≡ 2048
-    pub linking : (words : List ℕ) → Begun words begin rows → Linking (row_at words) (links_of begin parent next child) row
+    pub long : length l ≡ 2048
+    pub linking : (words : List ℕ) → Begun words begin rows → Linking (row_at words) (links_of begin l) row
 
   -- and the parts of this row from the cursor on
-  pub record PartsDone (parent next child : List ℕ) (row cursor later : ℕ) : Type 0 where
+  pub record PartsDone (l : List Link) (row cursor later : ℕ) : Type 0 where
     pub under : cursor ≤ row
-    pub parents : length parent ≡ 2048
-    pub nexts : length next ≡ 2048
-    pub joining : (words : List ℕ) → Begun words begin rows → Joining words begin (links_of begin parent next child) row cursor later
+    pub long : length l ≡ 2048
+    pub joining : (words : List ℕ) → Begun words begin rows → Joining words begin (links_of begin l) row cursor later
 
   pub cursor_falls : ((k : ℕ) → get_or begin k 0 ≤ k) → (first cursor : ℕ) → first < cursor → get_or begin (cursor - 1) 0 < cursor
   cursor_falls low first cursor h = omega (arith, low (cursor - 1), h)
 
-  pub rows_start : {parent next child : List ℕ} → length parent ≡ 2048 → length next ≡ 2048 → length child ≡ 2048 → ((k : ℕ) → get_or begin k 0 ≤ k) → RowsDone parent next child 0
-  rows_start {parent} {next} {child} p n c low =
-      record { most = omega arith; parents = p; nexts = n; children = c; linking = λ words b. linking_start (row_at words) (links_of begin parent next child) low }
+  pub rows_start : {l : List Link} → length l ≡ 2048 → ((k : ℕ) → get_or begin k 0 ≤ k) → RowsDone l 0
+  rows_start {l} p low = record { most = omega arith; long = p; linking = λ words b. linking_start (row_at words) (links_of begin l) low }
 
-  pub parts_start : {parent next child : List ℕ} {row : ℕ} → RowsDone parent next child row → row < rows → PartsDone parent next child row row 0
-  parts_start {parent} {next} {child} {row} d h =
-      record { under = omega arith; parents = d.parents; nexts = d.nexts; joining = λ words b. join_start words begin (links_of begin parent next child) row rows h b (d.linking words b) }
+  pub parts_start : {l : List Link} {row : ℕ} → RowsDone l row → row < rows → PartsDone l row row 0
+  parts_start {l} {row} d h =
+      record { under = omega arith; long = d.long; joining = λ words b. join_start words begin (links_of begin l) row rows h b (d.linking words b) }
 
-  pub parts_more : {parent next child : List ℕ} {row cursor later : ℕ} → ((k : ℕ) → get_or begin k 0 ≤ k) → row < 2048 → PartsDone parent next child row cursor later → get_or begin row 0 < cursor
-      → PartsDone (set parent (cursor - 1) row) (set next (cursor - 1) later) child row (get_or begin (cursor - 1) 0) (cursor - 1)
-  parts_more {parent} {next} {child} {row} {cursor} {later} low few d h = by cursor d h
+  pub parts_more : {l : List Link} {row cursor later : ℕ} → ((k : ℕ) → get_or begin k 0 ≤ k) → row < 2048 → PartsDone l row cursor later → get_or begin row 0 < cursor
+      → PartsDone (set l (cursor - 1) (record { parent = row; next = later; child = (link_at l (cursor - 1)).child })) row (get_or begin (cursor - 1) 0) (cursor - 1)
+  parts_more {l} {row} {cursor} {later} low few d h = by cursor d h
     where
-      by : (cursor : ℕ) → PartsDone parent next child row cursor later → get_or begin row 0 < cursor
-          → PartsDone (set parent (cursor - 1) row) (set next (cursor - 1) later) child row (get_or begin (cursor - 1) 0) (cursor - 1)
+      by : (cursor : ℕ) → PartsDone l row cursor later → get_or begin row 0 < cursor
+          → PartsDone (set l (cursor - 1) (record { parent = row; next = later; child = (link_at l (cursor - 1)).child })) row (get_or begin (cursor - 1) 0) (cursor - 1)
       by zero d h = absurd (omega arith)
       by (suc m) d h =
           let z : suc m - 1 ≡ m = omega arith in
           rw z (record {
             under = omega (arith, low m, d.under);
-            parents = length-set parent m row ∙ d.parents;
-            nexts = length-set next m later ∙ d.nexts;
+            long = length-set l m _ ∙ d.long;
             joining = λ words b. subst (λ (t : Links). Joining words begin t row (get_or begin m 0) m)
-                (part_stored begin parent next child row m later (omega (arith, d.under, d.parents, few)) (omega (arith, d.under, d.nexts, few)))
-                (join_part words begin low (links_of begin parent next child) (λ j. refl) row m later h (d.joining words b));
+                (part_stored begin l row m later (omega (arith, d.under, d.long, few)))
+                (join_part words begin low (links_of begin l) (λ j. refl) row m later h (d.joining words b));
           })
 
-  pub row_done : {parent₀ next₀ parent next child : List ℕ} {row cursor later : ℕ} → ((k : ℕ) → get_or begin k 0 ≤ k) → RowsDone parent₀ next₀ child row → row < rows → rows ≤ 2048
-      → PartsDone parent next child row cursor later → cursor ≤ get_or begin row 0 → RowsDone parent next (set child row later) (row + 1)
-  row_done {parent = parent} {next = next} {child = child} {row = row} {cursor = cursor} {later = later} low d h few p e = record {
+  pub row_done : {l : List Link} {row cursor later : ℕ} → ((k : ℕ) → get_or begin k 0 ≤ k) → row < rows → rows ≤ 2048
+      → PartsDone l row cursor later → cursor ≤ get_or begin row 0
+      → RowsDone (set l row (record { parent = (link_at l row).parent; next = (link_at l row).next; child = later })) (row + 1)
+  row_done {l} {row} {cursor} {later} low h few p e = record {
     most = omega arith;
-    parents = p.parents;
-    nexts = p.nexts;
-    children = length-set child row later ∙ d.children;
+    long = length-set l row _ ∙ p.long;
     linking = λ words b. rw (add-one row) (subst (λ (t : Links). Linking (row_at words) t (suc row))
-        (row_stored begin parent next child row later (omega (arith, d.children, h, few)))
-        (join_end words begin low (links_of begin parent next child) (λ j. refl) row cursor later e (p.joining words b)));
+        (row_stored begin l row later (omega (arith, p.long, h, few)))
+        (join_end words begin low (links_of begin l) (λ j. refl) row cursor later e (p.joining words b)));
   }
 
-  pub rows_linked : {parent next child : List ℕ} {row : ℕ} → RowsDone parent next child row → rows ≤ row → (words : List ℕ) → Begun words begin rows
-      → RowsLinked words (links_of begin parent next child) rows
-  rows_linked d h words b k l = (d.linking words b).linked k (omega (arith, l, h))
+  pub rows_linked : {l : List Link} {row : ℕ} → RowsDone l row → rows ≤ row → (words : List ℕ) → Begun words begin rows → RowsLinked words (links_of begin l) rows
+  rows_linked d h words b k e = (d.linking words b).linked k (omega (arith, e, h))

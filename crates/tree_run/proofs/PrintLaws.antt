@@ -9,9 +9,7 @@ use lib.ListN.{length, get_or, take, drop, length-append, length-take}
 use lib.Dec.{leb}
 use Rattle.text.specs.Line.{line, lines}
 use Rattle.text.specs.File.{Words}
-use Rattle.text.specs.Printed.{written_of, lent_of, Wrote}
-use Rattle.text.specs.declared.write.Written.{Written}
-use Rattle.text.specs.Prints.{WrittenText}
+use Rattle.text.specs.Printed.{Written, written_of, lent_of, Wrote}
 use Rattle.text.proofs.PrintsLaws.{AsPrinted, as_printed}
 use Rattle.text.proofs.WriteLaws.{Narrow, narrow_words, narrow_take, narrow_drop, line_most, text_fits, wrote_then}
 use Rattle.convert.specs.Cut.{cut}
@@ -24,7 +22,15 @@ use Rattle.tree_runs.specs.Given.{root_of, run_by, run_of}
 use Rattle.tree_grammar.specs.Needs.{RowsVerdict, rows_of_words, tree_verdict}
 use Rattle.tree_grammar.specs.Needs as goal
 use Rattle.tree_run.specs.Given.{Given, stopped as misread, read, file_given, run_given, file_run}
-use Rattle.tree_run.specs.Prints.{run_names, instruction_names, performed_lines, printed_run, most_printed, lent_rows, run_text}
+use Rattle.std.specs.Prelude.{Result, Ok, Err}
+use Rattle.tree_run.specs.declared.Run as told
+use Rattle.tree_run.specs.declared.file.FileError.{FileError}
+use Rattle.tree_run.specs.declared.file.FileError.TheVariants as file
+use Rattle.tree_run.specs.declared.file.FileError.TheVariants.{TooLong, NotInForm}
+use Rattle.tree_run.specs.declared.RunError.TheVariants.{NotATree, NoTarget, NotRun, NoRoom}
+use Rattle.tree_check.specs.declared.TreeError.TheVariants.{RowOutOfRange, PartsMissing, NotOneTree}
+use Rattle.tree_run.specs.Answer.{file_code}
+use Rattle.tree_run.specs.Prints.{file_outcome, run_names, instruction_names, performed_lines, printed_run, most_printed, lent_rows, run_text}
 
 -- ---- the number of rows
 
@@ -86,9 +92,14 @@ file_within file lent = by (leb (length file) 262144)
     by true = given_run_within (file_given file) lent
     by false = refusal_within 51 0 lent
 
+told_buffer : (r : Result told.Run FileError) (buffer : List ℕ) → (file_outcome r buffer).buffer ≡ buffer
+told_buffer (Ok run) buffer = refl
+told_buffer (Err error) buffer = refl
+
 -- no more rows are told than the buffer has words
-pub number_within : (file : List ℕ) (lent : ℕ) {o : Outcome} → o ≡ file_run file lent → o.number ≤ length o.buffer
-number_within file lent e = subst Within (sym e) (file_within file lent)
+pub number_within : (file : List ℕ) (lent : ℕ) (r : Result told.Run FileError) (buffer : List ℕ) → file_outcome r buffer ≡ file_run file lent → (file_outcome r buffer).number ≤ length buffer
+number_within file lent r buffer e =
+    subst (λ (b : List ℕ). (file_outcome r buffer).number ≤ length b) (told_buffer r buffer) (subst Within (sym e) (file_within file lent))
 
 -- ---- the lines
 
@@ -113,6 +124,17 @@ module _ (code at number reason : ℕ) (buffer : List ℕ) {b b' b'' : List ℕ}
   unfolding printed_run
   run_wrote e p = rw (run_lines code number buffer e) (wrote_then n (wrote_then l p))
 
+-- a refusal has a code
+pub no_code : (error : FileError) → file_code error ≡ 0 → ⊥
+no_code TooLong z = omega arith
+no_code (NotInForm bad) z = omega arith
+no_code (file.NotRun (NotATree (RowOutOfRange at))) z = omega arith
+no_code (file.NotRun (NotATree (PartsMissing at))) z = omega arith
+no_code (file.NotRun (NotATree NotOneTree)) z = omega arith
+no_code (file.NotRun (NoTarget at)) z = omega arith
+no_code (file.NotRun (NotRun at)) z = omega arith
+no_code (file.NotRun (NoRoom at)) z = omega arith
+
 -- ---- room
 
 lines_most : (count : ℕ) (words : List ℕ) → Narrow words → length (lines (cut 1 1 count words)) ≤ count * 11
@@ -127,20 +149,15 @@ unfolding performed_lines
 performed_most zero number buffer p = simp length-append (omega (arith, lines_most number buffer p))
 performed_most (suc code) number buffer p = omega arith
 
-pub run_written : (o : Outcome) {room : ℕ} {r : Written} {lent : List ℕ} → Words (o.code ∷ o.at ∷ o.number ∷ o.reason ∷ []) → Narrow o.buffer → o.number ≤ 65536
-    → r ≡ written_of room (printed_run o) → lent ≡ lent_of room (printed_run o) → WrittenText most_printed (printed_run o) room r lent
+pub printed_most : (o : Outcome) → Words (o.code ∷ o.at ∷ o.number ∷ o.reason ∷ []) → Narrow o.buffer → o.number ≤ 65536 → length (printed_run o) ≤ most_printed
 unfolding printed_run
-run_written o {room} w n few answer bytes =
+printed_most o w n few =
     let numbers : List ℕ = o.code ∷ o.at ∷ o.number ∷ o.reason ∷ [] in
-    let most : length (run_names ++ (line numbers ++ performed_lines o.code o.number o.buffer)) ≤ 720974 =
-    simp length-append (omega (arith, line_most numbers w, performed_most o.code o.number o.buffer n, few)) in
-    record {
-      answer = answer;
-      bytes = bytes;
-      enough = λ long. answer ∙ text_fits room (run_names ++ (line numbers ++ performed_lines o.code o.number o.buffer)) (omega (arith, most, long));
-    }
+    simp length-append (omega (arith, line_most numbers w, performed_most o.code o.number o.buffer n, few))
 
 -- a run into the lent words, and what is written of it
-pub run_printed : (file : List ℕ) {lent room : ℕ} {o : Outcome} {r : Written} {out : List ℕ} → lent ≡ lent_rows → o ≡ file_run file lent
-    → WrittenText most_printed (printed_run o) room r out → AsPrinted most_printed (run_text file) room r out
-run_printed file e g w = as_printed (ap printed_run (sym (g ∙ ap (file_run file) e))) w
+pub run_printed : (file : List ℕ) {lent room : ℕ} {o : Outcome} {r : Written} {out : List ℕ} → lent ≡ lent_rows → o ≡ file_run file lent → length (printed_run o) ≤ most_printed
+    → r ≡ written_of room (printed_run o) → out ≡ lent_of room (printed_run o) → AsPrinted most_printed (run_text file) room r out
+run_printed file {room = room} {o = o} e g most answer bytes =
+    as_printed (ap printed_run (sym (g ∙ ap (file_run file) e)))
+    (record { answer = answer; bytes = bytes; enough = λ long. answer ∙ text_fits room (printed_run o) (omega (arith, most, long)) })

@@ -1,15 +1,14 @@
 -- The first row that is not run; a refusal.
-use mathlib.Core.Path.{◌≡◌, refl, sym, ap, ◌∙◌}
+use mathlib.Core.Path.{◌≡◌, sym, ap, ◌∙◌}
 use Prim.Native.Nat.{ℕ, suc, ◌+◌, ◌-◌, ◌<◌, ◌≤◌}
 use native.Mathlib.Omega.{arith}
 use native.Mathlib.Numerals.{add-one}
-use mathlib.Core.List.{List, ◌++◌}
+use mathlib.Core.List.{List}
 use mathlib.Core.Bool.{Bool, true, false}
-use lib.ListN.{length, take, replicate}
+use Rattle.std.specs.Prelude.{Some, None}
 use Rattle.tree_check.specs.Found.{word_at}
-use Rattle.tree_runs.specs.Ran.{not_run, refusal}
-use Rattle.tree_run.specs.declared.Ran.{Ran}
-use Rattle.tree_run.specs.Holds.{not_run_from, outcome_of}
+use Rattle.tree_runs.specs.Ran.{not_run}
+use Rattle.tree_run.specs.Holds.{not_run_from}
 
 module _ (words : List ℕ) (rows : ℕ) where
   -- what is left to look at gives what all rows give
@@ -25,26 +24,20 @@ module _ (words : List ℕ) (rows : ℕ) where
     one_more h = omega arith
 
     module _ (h : row < rows) {op : ℕ} {yes_no : Bool} (is : op ≡ word_at words row 0) (asked : yes_no ≡ not_run op) where
-      here : (y : Bool) → yes_no ≡ y → not_run_from words 0 rows ≡ elim y [ true ↦ row | false ↦ not_run_from words (suc row) (rows - (row + 1)) ]
+      here : (y : Bool) → yes_no ≡ y → not_run_from words 0 rows ≡ elim y [ true ↦ Some row | false ↦ not_run_from words (suc row) (rows - (row + 1)) ]
       here y e =
           s.rest
           ∙ (ap (not_run_from words row) (one_more h)
-          ∙ (unfold not_run_from in ap (λ (z : Bool). elim z [ true ↦ row | false ↦ not_run_from words (suc row) (rows - (row + 1)) ]) (sym (asked ∙ ap not_run is) ∙ e)))
+          ∙ (unfold not_run_from in ap (λ (z : Bool). elim z [ true ↦ Some row | false ↦ not_run_from words (suc row) (rows - (row + 1)) ]) (sym (asked ∙ ap not_run is) ∙ e)))
 
-      pub seek_found : yes_no ≡ true → row ≡ not_run_from words 0 rows
+      pub seek_found : yes_no ≡ true → Some row ≡ not_run_from words 0 rows
       seek_found e = sym (here true e)
 
       pub seek_on : yes_no ≡ false → Seeking (row + 1)
       seek_on e = record { rest = here false e ∙ ap (λ (r : ℕ). not_run_from words r (rows - (row + 1))) (sym (add-one row)); most = omega arith }
 
-    pub seek_end : rows ≤ row → rows ≡ not_run_from words 0 rows
+    pub seek_end : rows ≤ row → None ≡ not_run_from words 0 rows
     unfolding not_run_from
     seek_end h =
         let n : rows - row ≡ 0 = omega arith in
-        let e : row ≡ rows = omega (arith, s.most) in
-        sym (s.rest ∙ (ap (not_run_from words row) n ∙ e))
-
-pub refuse_is : {r : Ran} {code at : ℕ} {b' : List ℕ} (b : List ℕ) → r ≡ record { code = code; at = at; number = 0; reason = 0 } → b' ≡ take 0 b ++ replicate (length b - 0) 0
-    → outcome_of r b' ≡ refusal code at (length b)
-unfolding refusal
-refuse_is b e q = let z : length b - 0 ≡ length b = omega arith in rw (e, q, z) refl
+        sym (s.rest ∙ ap (not_run_from words row) n)

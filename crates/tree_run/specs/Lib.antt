@@ -1,3 +1,4 @@
+pub mod Answer
 pub mod Abstraction
 pub mod Holds
 pub mod Given

@@ -3,6 +3,7 @@ use Rattle.std.specs.Prelude.{◌≡◌, refl, [], ◌∷◌}
 use Rattle.text.specs.Ascii.{ascii}
 use Rattle.text.specs.Decimal.{digits_of, decimal}
 use Rattle.text.specs.Line.{line, lines}
+use Rattle.text.specs.Reading.{is_digit, may_follow}
 use Rattle.tree_check.specs.Scan.{first_digit, in_number, stepped, scanned, alike, table_words}
 use Rattle.convert.specs.Cut.{cut}
 use Rattle.tree_runs.specs.Ran.{refusal}
@@ -22,7 +23,7 @@ pub the_files :
     × (file_given (ascii "op a b c d e\n9 0 0 0 0 0\nanswer\n1 0\n") ≡ stopped 33)
     × (file_given (ascii "op a b c d e\n9 0 0 0 0 0\nanswer\n1\nanswer\n") ≡ stopped 34)
     × (file_given (ascii "op a b c d e\n9 0 0 0 0 0\nanswer\n1") ≡ stopped 33)
-unfolding file_given answers_from table_words alike scanned stepped in_number first_digit
+unfolding file_given answers_from table_words alike scanned stepped in_number first_digit may_follow is_digit
 the_files = (refl, refl, refl, refl, refl, refl, refl, refl, refl, refl, refl, refl)
 
 pub the_texts :

@@ -1,86 +1,76 @@
 // ECMA-262's operations on completions, as the runner has them.
 ghost use Rattle.std.specs.Prelude.{◌≡◌};
-ghost use Rattle.table.specs.Table.{unless_none};
-ghost use Rattle.definition.specs.Completion.{normal, label_set, loop_continues, breakable, labelled};
-ghost use Rattle.tree_run.specs.Abstraction.{completion_of};
+ghost use Rattle.definition.specs.Completion.{label_set, loop_continues, breakable, labelled};
+ghost use Rattle.tree_run.specs.Abstraction.{if_any, completion_of, stops};
 
-pub const NONE: u32 = 65535;
-
-pub const NORMAL: u32 = 0;
-
-pub const BREAK: u32 = 1;
-
-pub const CONTINUE: u32 = 2;
-
-// The completions that stop the run: RETURN and THROW, with value and id in target and jump; an answer that is due but missing; and a row that is not run.
-pub const RETURNED: u32 = 3;
-
-pub const THREW: u32 = 4;
-
-pub const UNANSWERED: u32 = 5;
-
-pub const NOT_RUN: u32 = 6;
-
-// In a break or continue NONE is the empty target, and `jump` is the jump's row.
-#[derive(Clone, Copy, Drop)]
-pub struct Completion {
-    pub kind: u32,
-    pub target: u32,
-    pub jump: u32,
-}
-
-pub fn complete(kind: u32, target: u32, jump: u32) -> Completion
-    ensures { result ≡ record { kind = kind; target = target; jump = jump } }
-{
-    Completion { kind, target, jump }
+// How a part of the tree ended. A break or a continue without label has the empty target, and `jump` is its row.
+#[derive(Clone, Copy, Debug, Drop, PartialEq, Eq)]
+pub enum Completion {
+    Normal,
+    Break { target: Option<u32>, jump: u32 },
+    Continue { target: Option<u32>, jump: u32 },
+    Return { value: u32, id: u32 },
+    Throw { value: u32, id: u32 },
+    // An answer is due, and none is left.
+    Unanswered,
+    // The row is one that is not run.
+    NotRun,
 }
 
 // Whether a loop with this label goes on after its body completed so: ECMA-262, LoopContinues(completion, labelSet), step by step.
-#[tactic(auto, using(crate::proofs::CompletionLaws::continues_bare, crate::proofs::CompletionLaws::continues_label, crate::proofs::CompletionLaws::continues_other))]
-pub fn loop_continues(completion: Completion, label: u32) -> bool
-    ensures { result ≡ loop_continues (completion_of completion) (label_set (unless_none label)) }
+#[tactic(auto, unfolding(definition::specs::Completion::loop_continues))]
+pub fn loop_continues(completion: Completion, label: Option<u32>) -> bool
+    ensures { result ≡ loop_continues (completion_of completion) (label_set (if_any label)) }
 {
     // 1. If completion is a normal completion, return true.
-    if completion.kind == NORMAL {
+    if matches!(completion, Completion::Normal) {
         return true;
     }
     // 2. If completion is not a continue completion, return false.
-    if completion.kind != CONTINUE {
+    let Completion::Continue { target, .. } = completion else {
         return false;
-    }
+    };
     // 3. If completion.[[Target]] is empty, return true.
-    if completion.target == NONE {
+    if target.is_none() {
         return true;
     }
     // 4. If labelSet contains completion.[[Target]], return true. 5. Return false.
-    completion.target == label
+    target == label
 }
 
-// A loop or a SWITCH takes a break without label.
-pub fn breakable(c: Completion) -> Completion
-    ensures { completion_of result ≡ breakable (completion_of c) }
-{
-    if c.kind != BREAK {
-        return c;
+impl Completion {
+    // A loop or a SWITCH takes a break without label.
+    #[tactic(auto, unfolding(definition::specs::Completion::breakable))]
+    pub fn breakable(self) -> Completion
+        ensures { completion_of result ≡ breakable (completion_of self) }
+    {
+        match self {
+            Completion::Break { target: None, .. } => Completion::Normal,
+            other => other,
+        }
     }
-    if c.target == NONE {
-        return complete(NORMAL, 0, 0);
-    }
-    c
-}
 
-// A statement takes a break with its label.
-pub fn labelled(label: u32, c: Completion) -> Completion
-    ensures { completion_of result ≡ labelled (unless_none label) (completion_of c) }
-{
-    if c.kind != BREAK {
-        return c;
+    // A statement takes a break with its label.
+    #[tactic(auto, unfolding(definition::specs::Completion::labelled))]
+    pub fn labelled(self, label: Option<u32>) -> Completion
+        ensures { completion_of result ≡ labelled (if_any label) (completion_of self) }
+    {
+        match self {
+            Completion::Break {
+                target: Some(target),
+                ..
+            } if label == Some(target) => Completion::Normal,
+            other => other,
+        }
     }
-    if c.target == NONE {
-        return c;
+
+    // Whether it stops the run.
+    pub fn stops(self) -> bool
+        ensures { result ≡ stops (completion_of self) }
+    {
+        !matches!(
+            self,
+            Completion::Normal | Completion::Break { .. } | Completion::Continue { .. }
+        )
     }
-    if c.target == label {
-        return complete(NORMAL, 0, 0);
-    }
-    c
 }

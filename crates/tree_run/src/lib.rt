@@ -1,125 +1,147 @@
 // M-103: runs a tree on paper. Which instruction rows does it perform for given answers, and why does it stop?
 #![tactic(auto)]
 
-mod cells;
 mod completions;
 pub mod file;
 mod links;
 mod row_walk;
+mod rows;
 mod turns;
 
-ghost use Rattle.std.specs.Prelude.{◌≡◌, length};
-ghost use Rattle.tree_runs.specs.Ran.{not_run, refusal};
+ghost use Rattle.std.specs.Prelude.{◌≡◌, ◌≤◌, length};
+ghost use Rattle.tree_runs.specs.Ran.{not_run};
 ghost use Rattle.tree_runs.specs.Given.{run_of};
-ghost use Rattle.tree_run.specs.Holds.{not_run_from, outcome_of};
+ghost use Rattle.tree_run.specs.declared.RunError.TheVariants.{NotATree};
+ghost use Rattle.tree_run.specs.Answer.{reason_number, code_of, at_of};
+ghost use Rattle.tree_run.specs.Holds.{not_run_from, kept, number_of, outcome_of};
 
-use crate::cells::word;
 use crate::links::link_rows;
 use crate::row_walk::walk;
-use tree_check::read_tree;
-use values::rows::clear;
+use crate::rows::{Tree, word};
+use tree_check::{TreeError, read_tree};
+use values::rows::{COND, FORIN, FOROF, LOGICAL, OPTIONAL, TRY, clear};
 
-// Code 0 is a run: `number` rows were performed, and `reason` is 1 for a return, 2 for a throw, 3 for the end of the tree, 4 for no answer left.
-// Else a refusal, with its row of the tree; number and reason are 0.
-#[derive(Clone, Copy)]
-pub struct Ran {
-    pub code: u32,
-    pub at: u32,
+// Why a run stopped.
+#[derive(Clone, Copy, Debug, PartialEq, Eq)]
+pub enum Reason {
+    Return,
+    Throw,
+    End,
+    NoAnswer,
+}
+
+impl Reason {
+    pub fn number(self) -> u32
+        ensures { result ≡ reason_number self }
+    {
+        match self {
+            Reason::Return => 1,
+            Reason::Throw => 2,
+            Reason::End => 3,
+            Reason::NoAnswer => 4,
+        }
+    }
+}
+
+// The run performed so many rows.
+#[derive(Clone, Copy, Debug, PartialEq, Eq)]
+pub struct Run {
     pub number: usize,
-    pub reason: u32,
+    pub reason: Reason,
 }
 
-pub(crate) fn stopped(number: usize, reason: u32) -> Ran
-    ensures { result ≡ record { code = 0; at = 0; number = number; reason = reason } }
-{
-    Ran {
-        code: 0,
-        at: 0,
-        number,
-        reason,
+// Why a tree is not run, or not to its end; with the row of the tree.
+#[derive(Clone, Copy, Debug, PartialEq, Eq)]
+pub enum RunError {
+    NotATree(TreeError),
+    NoTarget(u32),
+    NotRun(u32),
+    NoRoom(u32),
+}
+
+impl From<TreeError> for RunError {
+    ghost from_gives = { λ refused error. error ≡ NotATree refused };
+
+    fn from(refused: TreeError) -> RunError {
+        RunError::NotATree(refused)
     }
 }
 
-pub(crate) fn refused(code: u32, at: u32) -> Ran
-    ensures { result ≡ record { code = code; at = at; number = 0; reason = 0 } }
-{
-    Ran {
-        code,
-        at,
-        number: 0,
-        reason: 0,
+impl RunError {
+    pub fn code(self) -> u32
+        ensures { result ≡ code_of self }
+    {
+        match self {
+            RunError::NotATree(error) => error.code(),
+            RunError::NoTarget(_) => 63,
+            RunError::NotRun(_) => 64,
+            RunError::NoRoom(_) => 65,
+        }
+    }
+
+    pub fn place(self) -> u32
+        ensures { result ≡ at_of self }
+    {
+        match self {
+            RunError::NotATree(error) => error.place(),
+            RunError::NoTarget(row) => row,
+            RunError::NotRun(row) => row,
+            RunError::NoRoom(row) => row,
+        }
     }
 }
 
-// LOGICAL, COND, OPTIONAL, FOROF, FORIN and TRY are not run.
 fn not_run(op: u32) -> bool
     ensures { result ≡ not_run op }
 {
-    match op {
-        6 => true,
-        7 => true,
-        8 => true,
-        16 => true,
-        17 => true,
-        19 => true,
-        _ => false,
-    }
+    matches!(op, LOGICAL | COND | OPTIONAL | FOROF | FORIN | TRY)
 }
 
-// The first row that is not run, or the number of rows.
-fn first_not_run(tree: &[u32], rows: u32) -> u32
+// The first row that is not run.
+fn first_not_run(tree: &[u32], rows: u32) -> Option<u32>
     ensures { result ≡ not_run_from tree.now 0 rows }
 {
-    let mut row = 0;
-    while row < rows {
+    for row in 0..rows {
         if not_run(word(tree, row, 0)) {
-            return row;
+            return Some(row);
         }
-        row += 1;
     }
-    rows
+    None
 }
 
-// "A refused run leaves zeros and gives the number 0."
-pub fn refuse(code: u32, at: u32, performed: &mut [u32]) -> Ran
-    ensures { outcome_of result performed.new ≡ refusal code at (length performed.old) }
+// The run, before what is left of the buffer is cleared.
+fn run_rows(words: &[u32], answers: &[u32], performed: &mut [u32]) -> Result<Run, RunError>
+    ensures number { number_of result ≤ length performed.new }
+    ensures run { outcome_of result (kept (number_of result) performed.new) ≡ run_of words.now answers.now (length performed.old) }
 {
-    clear(performed, 0);
-    refused(code, at)
+    let mut begin = [0u32; 2048];
+    read_tree(words, &mut begin)?;
+    let rows = (words.len() / 6) as u32;
+    if let Some(row) = first_not_run(words, rows) {
+        return Err(RunError::NotRun(row));
+    }
+    let links = link_rows(&begin, rows);
+    let tree = Tree {
+        words,
+        begin: &begin,
+        links: &links,
+        rows,
+    };
+    walk(&tree, answers, performed)
 }
 
-// Runs the tree whose rows are in the words, which may be any words. Writes the rows performed, then zeros. The tree and the answers stay as they are.
-pub fn run_tree(tree: &[u32], answers: &[u32], performed: &mut [u32]) -> Ran
+// Runs the tree whose rows are in the words, which may be any words. Writes the rows performed, then zeros: of a refused run zeros alone. The tree and the answers
+// stay as they are.
+pub fn run_tree(tree: &[u32], answers: &[u32], performed: &mut [u32]) -> Result<Run, RunError>
     ensures { outcome_of result performed.new ≡ run_of tree.now answers.now (length performed.old) }
 {
-    let read = read_tree(tree);
-    if read.code != 0 {
-        return refuse(read.code, read.at, performed);
-    }
-    let rows = (tree.len() / 6) as u32;
-    let other = first_not_run(tree, rows);
-    if other < rows {
-        return refuse(64, other, performed);
-    }
-    let links = link_rows(&read.begin, rows);
-    let parent = links.parent;
-    let next = links.next;
-    let child = links.child;
-    let run = walk(
-        tree,
-        &read.begin,
-        &parent,
-        &next,
-        &child,
-        answers,
-        performed,
-        rows,
-    );
-    if run.code != 0 {
-        return refuse(run.code, run.at, performed);
-    }
-    clear(performed, run.number);
-    run
+    let ran = run_rows(tree, answers, performed);
+    let number = match ran {
+        Ok(run) => run.number,
+        Err(_) => 0,
+    };
+    clear(performed, number);
+    ran
 }
 
 // The same for callers in C or Rust: the code, and the other numbers behind `at`, `number` and `reason`.
@@ -133,9 +155,18 @@ pub fn tree_run(
 ) -> u32
     ensures { record { code = result; at = at.new; number = number.new; reason = reason.new; buffer = performed.new } ≡ run_of tree.now answers.now (length performed.old) }
 {
-    let run = run_tree(tree, answers, performed);
-    *at = run.at;
-    *number = run.number;
-    *reason = run.reason;
-    run.code
+    match run_tree(tree, answers, performed) {
+        Ok(run) => {
+            *at = 0;
+            *number = run.number;
+            *reason = run.reason.number();
+            0
+        }
+        Err(error) => {
+            *at = error.place();
+            *number = 0;
+            *reason = 0;
+            error.code()
+        }
+    }
 }

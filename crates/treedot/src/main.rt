@@ -2,15 +2,15 @@
 #![tactic(auto)]
 
 use dot::file::draw_file;
-use program::{drawing_bytes, read_all, table_bytes, write_printed};
+use program::{DRAWING_BYTES, TABLE_BYTES, read_all, write_printed};
+use text::lent::zeros;
 
 fn main(rt: HostRuntime) {
-    let mut file = table_bytes();
-    let input = read_all(&rt, b"treedot", &mut file);
-    if input.failed {
+    let mut file = zeros::<u8, TABLE_BYTES>();
+    let Ok(count) = read_all(&rt, b"treedot", &mut file) else {
         return;
-    }
-    let mut out = drawing_bytes();
-    let written = draw_file(&file[..input.count], &mut out);
+    };
+    let mut out = zeros::<u8, DRAWING_BYTES>();
+    let written = draw_file(&file[..count], &mut out);
     write_printed(&rt, b"treedot", &out, written);
 }

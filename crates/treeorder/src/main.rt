@@ -2,15 +2,15 @@
 #![tactic(auto)]
 
 use order::file::order_file;
-use program::{printed_bytes, read_all, table_bytes, write_printed};
+use program::{PRINTED_BYTES, TABLE_BYTES, read_all, write_printed};
+use text::lent::zeros;
 
 fn main(rt: HostRuntime) {
-    let mut file = table_bytes();
-    let input = read_all(&rt, b"treeorder", &mut file);
-    if input.failed {
+    let mut file = zeros::<u8, TABLE_BYTES>();
+    let Ok(count) = read_all(&rt, b"treeorder", &mut file) else {
         return;
-    }
-    let mut out = printed_bytes();
-    let written = order_file(&file[..input.count], &mut out);
+    };
+    let mut out = zeros::<u8, PRINTED_BYTES>();
+    let written = order_file(&file[..count], &mut out);
     write_printed(&rt, b"treeorder", &out, written);
 }

@@ -1,16 +1,16 @@
 // Reads rows of a tree and answers from standard input, runs the tree by them and prints what it performed to standard output.
 #![tactic(auto)]
 
-use program::{printed_bytes, read_all, rows_bytes, write_printed};
+use program::{PRINTED_BYTES, ROWS_BYTES, read_all, write_printed};
+use text::lent::zeros;
 use tree_run::file::run_file;
 
 fn main(rt: HostRuntime) {
-    let mut file = rows_bytes();
-    let input = read_all(&rt, b"treerun", &mut file);
-    if input.failed {
+    let mut file = zeros::<u8, ROWS_BYTES>();
+    let Ok(count) = read_all(&rt, b"treerun", &mut file) else {
         return;
-    }
-    let mut out = printed_bytes();
-    let written = run_file(&file[..input.count], &mut out);
+    };
+    let mut out = zeros::<u8, PRINTED_BYTES>();
+    let written = run_file(&file[..count], &mut out);
     write_printed(&rt, b"treerun", &out, written);
 }

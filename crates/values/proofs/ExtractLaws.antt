@@ -6,7 +6,7 @@ use mathlib.Core.Option.{none}
 use Prim.Native.Nat.{ℕ, zero, suc, ◌+◌, ◌-◌, ◌≤◌, ◌<◌}
 use native.Mathlib.Omega.{arith}
 use lib.Dec.{eqb}
-use borrow.Author.Tests.{eqb-true, eqb-false}
+use borrow.Author.Tests.{ne_eqb, eqb-true, eqb-false}
 use Rattle.table.specs.declared.columns.Span.{Span}
 use Rattle.table.specs.Words.{block_count, instruction_count, place_count, identifier_count, place_word, identifier_word, code_at, operation_code_at}
 use Rattle.table.specs.Table.{Table, Instruction, Operation, other, load_local, store_local, table_of, instruction_of, operation_of, terminal_at, block_at, instruction_at, instruction_rows_at, rows_from, is_goto}
@@ -14,7 +14,8 @@ use Rattle.table.specs.Promise.{Promise, Heads, Instructs, Operates}
 use Rattle.table.proofs.ColumnLaws.{head_rows}
 use Rattle.table.proofs.TableLaws.{instruction_at_lem, place_at, named_at}
 use Rattle.table.proofs.RangeLaws.{operation_known}
-use Rattle.table.proofs.BlockLaws.{code_at_lem, no_number, low_number}
+use Rattle.table.proofs.BlockLaws.{code_at_lem}
+use Rattle.std.specs.Prelude.{Some, None}
 use Rattle.definition.specs.Result.{Result, ok, refused}
 use Rattle.definition.specs.Tree.{PLAIN, LOAD}
 use Rattle.definition.specs.Value.{ValueBlockResult, wrap_with_sequence, final_value, final_place, stored_to_named, all_but_last, last, extract_value_block_result, extract_or_refuse, branch_value, loaded_by, is_empty, is_empty_goto}
@@ -75,15 +76,15 @@ module _ {ws : List ℕ} {i : ℕ} (p : Promise ws) (inside : i < instruction_co
       let known : place_word ws to < identifier_count ws = p.place to o.named.0 in
       rw (o.is, place_at ws to 0 o.named.0, named_at ws (place_word ws to) 0 known, n, e)
 
-  pub loads_none : {code : ℕ} → code ≡ operation_code_at ws i → (code ≡ 1 → ⊥) → Loaded ws i 65535
+  pub loads_none : {code : ℕ} → code ≡ operation_code_at ws i → (code ≡ 1 → ⊥) → Loaded ws i None
   unfolding instruction_of
   loads_none c f = record {
-    same = no_number ∙ sym (ap (λ (k : Instruction). loaded_by k.operation) (instruction_at_lem ws i inside) ∙ no_load (table_of ws) _ _ _ (λ e. f (c ∙ e)));
-    there = λ g. absurd (g refl);
+    same = sym (ap (λ (k : Instruction). loaded_by k.operation) (instruction_at_lem ws i inside) ∙ no_load (table_of ws) _ _ _ (λ e. f (c ∙ e)));
+    there = tt;
   }
 
-pub loads_place : {ws : List ℕ} {i place : ℕ} → Operates ws i (load_local place) → Loaded ws i place
-loads_place {place = place} o = record { same = low_number place (omega (arith, o.named, o.few)) ∙ sym (ap loaded_by o.is); there = λ _. o.named }
+pub loads_place : {ws : List ℕ} {i place : ℕ} → Operates ws i (load_local place) → Loaded ws i (Some place)
+loads_place {place = place} o = record { same = sym (ap loaded_by o.is); there = o.named }
 
 pub place_identifier : {ws : List ℕ} {place identifier : ℕ} → Promise ws → place < place_count ws → identifier ≡ place_word ws place → identifier < identifier_count ws
 place_identifier {place = place} p h e = rw e (p.place place h)
@@ -156,8 +157,8 @@ module _ {ws : List ℕ} {block first count id : ℕ} {span : Span} (head : Head
   branch_none test number e = rw (rows_none e)
 
 -- the value of a LOAD that the walk makes
-pub load_ends : {ws : List ℕ} {place : ℕ} → Promise ws → place < place_count ws → Ends ws (LOAD place) (loads place)
-load_ends {place = place} p h = record { sequences = refl; instructions = refl; loaded = low_number place (omega (arith, p.sized.limited.places)); there = λ _. h }
+pub load_ends : {ws : List ℕ} {place : ℕ} → place < place_count ws → Ends ws (LOAD place) (loads (Some place))
+load_ends h = record { sequences = refl; instructions = refl; loaded = refl; there = h }
 
 -- ---- an empty Goto block
 
@@ -166,8 +167,8 @@ module _ {ws : List ℕ} {block first count id : ℕ} {span : Span} (head : Head
   unfolding is_empty_goto
   goto_by rows e = ap (λ (l : List ℕ). is_empty l && is_goto (terminal_at (table_of ws) block)) (head_rows head ∙ e)
 
-  pub goto_full : (count ≡ 0 → ⊥) → false ≡ is_empty_goto (block_at (table_of ws) block)
-  goto_full f = by first count f ∙ sym (goto_by (rows_from first count) refl)
+  pub goto_full : (count ≡ 0 → ⊥) → eqb count 0 ≡ is_empty_goto (block_at (table_of ws) block)
+  goto_full f = ne_eqb count 0 f ∙ by first count f ∙ sym (goto_by (rows_from first count) refl)
     where
       by : (first count : ℕ) → (count ≡ 0 → ⊥) → false ≡ is_empty (rows_from first count) && is_goto (terminal_at (table_of ws) block)
       by first zero g = absurd (g refl)

@@ -3,15 +3,13 @@
 use mathlib.Core.Path.{◌≡◌, refl, sym, ap}
 use mathlib.Core.Bool.{Bool, true, false}
 use mathlib.Core.List.{List, [], ◌∷◌}
-use Prim.Native.Nat.{ℕ, zero, suc, ◌+◌, ◌≤◌, ◌<◌}
+use Prim.Native.Nat.{ℕ, zero, suc, ◌+◌, ◌*◌, ◌≤◌, ◌<◌}
 use native.Mathlib.Omega.{arith}
-use lib.Dec.{eqb}
 use lib.ListN.{length}
-use borrow.Author.Tests.{eq-eqb, ne_eqb, eqb-true, eqb-false}
 use Rattle.table.specs.Words.{place_count}
 use Rattle.table.specs.Table.{Table, table_of, rows_from}
 use Rattle.definition.specs.Result.{Result, ok, refused, ◌>>=◌, refuse_if}
-use Rattle.definition.specs.Tree.{Row, Value, SEQ, Instructions, no_instructions, count_instructions}
+use Rattle.definition.specs.Tree.{Row, Value, PLAIN, SEQ, Instructions, no_instructions, count_instructions}
 use Rattle.definition.specs.Value.{ValueBlockResult, instructions_of, wrap_with_sequence}
 use Rattle.values.specs.Rows.{Holds}
 use Rattle.values.specs.Stack.{push_value, push_instructions, push_instruction_rows}
@@ -20,19 +18,29 @@ use Rattle.values.proofs.StackLaws.{push_instructions_of}
 use Rattle.table.proofs.BlockLaws.{length_rows}
 use Rattle.values.specs.declared.result.Tally.{Tally}
 use Rattle.values.specs.declared.result.Trailing.{Trailing}
-use Rattle.values.specs.declared.result.ValueResult.{ValueResult}
-use Rattle.values.specs.Met.{loads, refusal, finished, block_result, ok_if, Fit, Ends, Found, Numbers, Met, RowPut, InstructionsPut, Wrapped}
+use Rattle.values.specs.declared.result.ValueBlockResult as code
+use Rattle.values.specs.declared.refusal.Refusal.{Refusal}
+use Rattle.values.specs.declared.refusal.Refused.{Refused}
+use Rattle.values.specs.Refusal.{code_of, place_of, refused_after, refused_by}
+use Rattle.std.specs.Prelude.{Ok, Err, IsErr, IsErrAnd}
+use Rattle.std.specs.Prelude as std
+use Rattle.values.specs.Met.{loads, block_result, Fit, Ends, Found, Begun, Numbers, Met, RowPut, InstructionsPut, Wrapped}
 
 -- ---- steps
 
-module _ {A B : Type 0} {ws : List ℕ} {of : ValueResult → Value → A} {o : Result A} {y : Tally} {n : ℕ} {c c' : List ℕ} {s : ValueResult} (k : A → Result B) (h : Met ws of o y n c s c') where
-  pub then_on_lem : s.code ≡ 0 → (o >>= k) ≡ k (of s h.value)
-  unfolding ◌>>=◌
-  then_on_lem e = rw (h.same, eq-eqb s.code 0 e)
+-- a `?` hands on the refusal that it meets
+pub handed_on : {T : Type 0} {r : std.Result T Refused} {e : Refused} → IsErr r × IsErrAnd r (λ y. y ≡ e) → r ≡ Err e
+handed_on {r = Ok t} h = absurd h.1
+handed_on {r = Err y} h = ap Err h.1
 
-  pub then_off : (s.code ≡ 0 → ⊥) → (o >>= k) ≡ refused s.code s.at s.tally.visits
+module _ {A B : Type 0} {ws : List ℕ} {of : code.ValueBlockResult → Value → A} {o : Result A} {y : Tally} {n : ℕ} {c c' : List ℕ} (k : A → Result B) where
+  pub then_on_lem : {s : code.ValueBlockResult} (h : Met ws of o y n c (Ok s) c') → (o >>= k) ≡ k (of s h.value)
   unfolding ◌>>=◌
-  then_off f = rw (h.same, ne_eqb s.code 0 f)
+  then_on_lem h = rw h.same refl
+
+  pub then_off : {e : Refused} → Met ws of o y n c (Err e) c' → (o >>= k) ≡ refused_by e
+  unfolding ◌>>=◌
+  then_off h = rw h.same refl
 
 pub unless_on : {B : Type 0} (b : Bool) (code at visits : ℕ) (k : Unit {0} → Result B) → b ≡ true → (refuse_if b code at visits >>= k) ≡ refused code at visits
 unfolding ◌>>=◌ refuse_if
@@ -42,49 +50,38 @@ pub unless_off : {B : Type 0} (b : Bool) (code at visits : ℕ) (k : Unit {0} �
 unfolding ◌>>=◌ refuse_if
 unless_off b code at visits k e = rw e
 
-module _ {B : Type 0} {ws : List ℕ} {of : ValueResult → Value → B} {x : Tally} {m : ℕ} {b : List ℕ} {r : ValueResult} {b' : List ℕ} where
+module _ {B : Type 0} {ws : List ℕ} {of : code.ValueBlockResult → Value → B} {x : Tally} {m : ℕ} {b b' : List ℕ} where
   -- the step refused, and so does all
-  pub pass : {A : Type 0} {of₁ : ValueResult → Value → A} {o : Result A} {y : Tally} {n : ℕ} {c c' : List ℕ} (k : A → Result B)
-      → Met ws of₁ o y n c r c' → (r.code ≡ 0 → ⊥) → Numbers x m r → Met ws of (o >>= k) x m b r b'
-  pass k h f z = record {
-    value = h.value;
-    same = rw (ne_eqb r.code 0 f) (then_off k h f);
-    found = λ e. absurd (f e);
-    numbers = z;
-  }
-
-  -- the step went on
-  pub goes : {A : Type 0} {of₁ : ValueResult → Value → A} {o : Result A} {y : Tally} {n : ℕ} {c c' : List ℕ} {s : ValueResult} (k : A → Result B)
-      → (h : Met ws of₁ o y n c s c') → s.code ≡ 0 → Met ws of (k (of₁ s h.value)) x m b r b' → Met ws of (o >>= k) x m b r b'
-  goes k h e g = rw (then_on_lem k h e) g
+  pub pass : {A : Type 0} {of₁ : code.ValueBlockResult → Value → A} {o : Result A} {y : Tally} {n : ℕ} {c c' : List ℕ} {r : std.Result code.ValueBlockResult Refused} {e : Refused}
+      (k : A → Result B) → r ≡ Err e → Met ws of₁ o y n c (Err e) c' → x.visits ≤ y.visits → Met ws of (o >>= k) x m b r b'
+  pass k q h le = rw q (record { value = h.value; same = then_off k h; found = tt; numbers = record { visits = h.numbers.visits; rises = omega (arith, h.numbers) } })
 
   -- a refusal
-  pub stops : {code at : ℕ} {y : Tally} (value : Value) → r ≡ refusal code at y → eqb code 0 ≡ false → Numbers x m (refusal code at y) → Met ws of (refused code at y.visits) x m b r b'
-  stops {code} value e f z = rw e (record { value = value; same = rw f; found = λ g. absurd (eqb-false code 0 f g); numbers = z })
+  pub stops : {e : Refused} (refusal : Refusal) (visits : ℕ) → e ≡ refused_after refusal visits → Begun x visits
+      → Met ws of (refused (code_of refusal) (place_of refusal) visits) x m b (Err e) b'
+  stops refusal visits e z = rw e (record { value = PLAIN 0; same = refl; found = tt; numbers = z })
 
-  -- a result, or an outcome, by another name
-  pub named : {o : Result B} {a : ValueResult} → r ≡ a → Met ws of o x m b a b' → Met ws of o x m b r b'
-  named e h = rw e h
+module _ {B : Type 0} {ws : List ℕ} {of : code.ValueBlockResult → Value → B} {x : Tally} {m : ℕ} {b : List ℕ} {r : std.Result code.ValueBlockResult Refused} {b' : List ℕ} where
+  -- the step went on
+  pub goes : {A : Type 0} {of₁ : code.ValueBlockResult → Value → A} {o : Result A} {y : Tally} {n : ℕ} {c c' : List ℕ} {s : code.ValueBlockResult} (k : A → Result B)
+      → (h : Met ws of₁ o y n c (Ok s) c') → Met ws of (k (of₁ s h.value)) x m b r b' → Met ws of (o >>= k) x m b r b'
+  goes k h g = rw (then_on_lem k h) g
 
+  -- an outcome by another name
   pub defined : {o p : Result B} → o ≡ p → Met ws of p x m b r b' → Met ws of o x m b r b'
   defined e h = rw e h
 
-  -- the same, of a step that began with as many rows and visits
-  pub moved : {o : Result B} {y : Tally} {n : ℕ} → Met ws of o y n b r b' → y.rows ≡ x.rows → Numbers x m r → Met ws of o x m b r b'
-  moved h e z = record {
-    value = h.value;
-    same = h.same;
-    found = λ f. let g = h.found f in record { held = λ stack q. g.held stack (rw e q); block = g.block; place = g.place; ends = g.ends; more = omega (arith, g.more, e) };
-    numbers = z;
-  }
-
--- what is known of a step that cannot refuse
-pub accepted : {A : Type 0} {ws : List ℕ} {of : ValueResult → Value → A} {a : A} {x : Tally} {m : ℕ} {b b' : List ℕ} {r : ValueResult} → Met ws of (ok a) x m b r b' → r.code ≡ 0
-accepted {of = of} {a = a} {r = r} h = by (eqb r.code 0) refl h.same
-  where
-    by : (y : Bool) → eqb r.code 0 ≡ y → ok a ≡ ok_if y (of r h.value) r → r.code ≡ 0
-    by true e q = eqb-true r.code 0 e
-    by false e q = let z : ◌≡◌ {A = ℕ} 0 1 = cc in absurd (omega arith)
+-- the same, of a step that began with as many rows and at least as many visits
+pub moved : {B : Type 0} {ws : List ℕ} {of : code.ValueBlockResult → Value → B} {x y : Tally} {n m : ℕ} {b b' : List ℕ} {o : Result B}
+    {r : std.Result code.ValueBlockResult Refused} → Met ws of o y n b r b' → y.rows ≡ x.rows → x.visits ≤ y.visits → n + 8200 * x.visits ≤ m + 8200 * y.visits
+    → Met ws of o x m b r b'
+moved {r = Ok v} h e le paid = record {
+  value = h.value;
+  same = h.same;
+  found = let g = h.found in record { held = λ stack q. g.held stack (rw e q); block = g.block; place = g.place; ends = g.ends; more = omega (arith, g.more, e) };
+  numbers = record { visits = h.numbers.visits; rises = omega (arith, h.numbers); paid = omega (arith, h.numbers) };
+}
+moved {r = Err f} h e le paid = record { value = h.value; same = h.same; found = tt; numbers = record { visits = h.numbers.visits; rises = omega (arith, h.numbers) } }
 
 -- ---- a value that is one row
 
@@ -92,15 +89,16 @@ accepted {of = of} {a = a} {r = r} h = by (eqb r.code 0) refl h.same
 pub row_kept : {b b' : List ℕ} {x y : Tally} {r : Row} → RowPut b x r b' y → (stack : List Row) → Holds b x.rows stack → Holds b' y.rows (r ∷ stack)
 row_kept put = written_held (record { words = put.words; count = put.rows })
 
-pub one_row : {ws b b' : List ℕ} {start tally : Tally} {m block place id loaded : ℕ} {t : Trailing} {r : ValueResult} {v : Row}
+pub one_row : {ws b b' : List ℕ} {start tally : Tally} {m block place id : ℕ} {loaded : std.Option ℕ} {t : Trailing} {v : Row}
     (value : Value) → ((stack : List Row) → push_value value stack ≡ v ∷ stack)
-    → Fit ws start (suc m) block → place < place_count ws → Ends ws value (loads loaded) → RowPut b start v b' tally → t ≡ loads loaded → r ≡ finished block place id tally t
-    → Met ws block_result (ok (record { block = block; place = place; value = value; id = id; visits = start.visits })) start (suc m) b r b'
-one_row value pushes fit there ends put et er =
-    rw (er, et, ← put.visits) (record {
+    → Fit ws start (suc m) block → place < place_count ws → Ends ws value (loads loaded) → RowPut b start v b' tally → t ≡ loads loaded
+    → Met ws block_result (ok (record { block = block; place = place; value = value; id = id; visits = start.visits })) start (suc m) b
+    (Ok (record { block = block; place = place; id = id; tally = tally; trailing = t })) b'
+one_row value pushes fit there ends put et =
+    rw (et, ← put.visits) (record {
       value = value;
       same = refl;
-      found = λ _. record { held = λ stack h. rw (pushes stack) (row_kept put stack h); block = fit.at; place = there; ends = ends; more = omega (arith, put.rows) };
+      found = record { held = λ stack h. rw (pushes stack) (row_kept put stack h); block = fit.at; place = there; ends = ends; more = omega (arith, put.rows) };
       numbers = omega (arith, put.rows, put.visits, fit.visits);
     })
 
@@ -115,7 +113,7 @@ pub count_rows : (t : Table) (first count : ℕ) (more : Instructions) → count
 count_rows t first count more = omega (arith, count_of t (rows_from first count) more, length_rows first count)
 
 -- a SEQ over instructions whose rows are out
-pub found_seq : {ws : List ℕ} {start x : Tally} {value : Value} {b b₁ b₂ b₃ : List ℕ} {v r : ValueResult} (is : Instructions) (n : ℕ) → count_instructions is ≡ n → (n ≡ 0 → ⊥)
+pub found_seq : {ws : List ℕ} {start x : Tally} {value : Value} {b b₁ b₂ b₃ : List ℕ} {v r : code.ValueBlockResult} (is : Instructions) (n : ℕ) → count_instructions is ≡ n → (n ≡ 0 → ⊥)
     → ((stack : List Row) → Holds b start.rows stack → Holds b₁ x.rows (push_instructions is stack)) → start.rows + n ≤ x.rows
     → Found ws x value b₁ v b₂ → Wrapped n v b₂ r b₃ → Found ws start (SEQ is v.id value) b r b₃
 unfolding push_value
@@ -138,7 +136,7 @@ found_seq {value = value} {v = v} {r = r} is n e nz kept le f w =
     }
 
 -- wrap_with_sequence: no SEQ where there is no instruction
-pub found_wrap : {ws : List ℕ} {start x : Tally} {value : Value} {b b₁ b₂ b₃ : List ℕ} {v r : ValueResult} (first count : ℕ)
+pub found_wrap : {ws : List ℕ} {start x : Tally} {value : Value} {b b₁ b₂ b₃ : List ℕ} {v r : code.ValueBlockResult} (first count : ℕ)
     → InstructionsPut ws first count b start.rows b₁ x.rows → Found ws x value b₁ v b₂ → Wrapped count v b₂ r b₃
     → Found ws start (wrap_with_sequence (table_of ws) (rows_from first count) v.id value) b r b₃
 unfolding wrap_with_sequence
@@ -161,13 +159,13 @@ wrap ws first count final = record {
   visits = final.visits;
 }
 
-pub met_wrap : {ws : List ℕ} {start x : Tally} {o : Result ValueBlockResult} {m n : ℕ} {b b₁ b₂ b₃ : List ℕ} {v r : ValueResult} (first count : ℕ)
-    → InstructionsPut ws first count b start.rows b₁ x.rows → Met ws block_result o x n b₁ v b₂ → v.code ≡ 0 → Wrapped count v b₂ r b₃ → Numbers start m r
-    → Met ws block_result (o >>= λ final. ok (wrap ws first count final)) start m b r b₃
-met_wrap {ws} {x = x} {r = r} first count i h e w z =
-    goes (λ final. ok (wrap ws first count final)) h e (record {
+pub met_wrap : {ws : List ℕ} {start x : Tally} {o : Result ValueBlockResult} {m n : ℕ} {b b₁ b₂ b₃ : List ℕ} {v r : code.ValueBlockResult} (first count : ℕ)
+    → InstructionsPut ws first count b start.rows b₁ x.rows → Met ws block_result o x n b₁ (Ok v) b₂ → Wrapped count v b₂ r b₃ → Numbers start m r.tally
+    → Met ws block_result (o >>= λ final. ok (wrap ws first count final)) start m b (Ok r) b₃
+met_wrap {ws} {x = x} first count i h w z =
+    goes (λ final. ok (wrap ws first count final)) h (record {
       value = wrap_with_sequence (table_of ws) (rows_from first count) (_) h.value;
-      same = rw (eq-eqb r.code 0 w.code) (ap ok (sym (w.same _)));
-      found = λ _. found_wrap {x = x} first count i (h.found e) w;
+      same = ap ok (sym (w.same _));
+      found = found_wrap {x = x} first count i h.found w;
       numbers = z;
     })

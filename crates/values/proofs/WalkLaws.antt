@@ -2,30 +2,37 @@
 use mathlib.Core.Path.{◌≡◌, refl, sym, ap, ◌∙◌}
 use mathlib.Core.Bool.{Bool, true, false}
 use mathlib.Core.List.{List}
-use mathlib.Core.Option.{Option, none, some}
+use mathlib.Core.Option.{Option, none}
 use Prim.Native.Nat.{ℕ, zero, suc, ◌+◌, ◌-◌, ◌≤◌, ◌<◌}
 use native.Mathlib.Numerals.{add-one}
 use native.Mathlib.Omega.{arith}
 use lib.Dec.{eqb, leb}
-use borrow.Author.Tests.{eq-eqb, ne_eqb, eqb-true, lt-leb}
+use borrow.Author.Tests.{eq-eqb, ne_eqb, lt-leb}
 use Rattle.table.specs.declared.columns.Span.{Span}
-use Rattle.table.specs.Words.{block_count, code_at, largest}
-use Rattle.table.specs.Table.{Table, Block, Terminal, absent, unreachable, throw, return, goto, if, branch, switch, do_while, while, for, for_of, for_in, logical, ternary, optional, label, sequence, maybe_throw, try, scope, table_of, terminal_of, terminal_at, block_at, instruction_rows_at, code_of, is_absent, unless_none}
+use Rattle.table.specs.Words.{block_count, code_at}
+use Rattle.table.specs.Table.{Table, Block, Terminal, absent, unreachable, throw, return, goto, if, branch, switch, do_while, while, for, for_of, for_in, logical, ternary, optional, label, sequence, maybe_throw, try, scope, table_of, terminal_of, terminal_at, block_at, instruction_rows_at, code_of, is_absent}
 use Rattle.table.specs.Promise.{Promise, Ends, Heads}
-use Rattle.table.proofs.BlockLaws.{end_by, code_at_lem, low_number}
+use Rattle.table.proofs.BlockLaws.{end_by, code_at_lem}
 use Rattle.table.proofs.ColumnLaws.{head_rows}
-use Rattle.definition.specs.Tree.{PLAIN}
 use Rattle.definition.specs.Result.{Result, ok, refused, ◌>>=◌, refuse_if}
-use Rattle.definition.specs.Value.{ValueBlockResult, ValueTerminalResult, TestBlockResult, VisitValueBlock, visit_value_block, visit_value_block_at, visit_value_block_terminal, then_fallthrough, begin_visit, extract_or_refuse, branch_value, maybe_throw_value, is_empty_goto, is_fallthrough, Ways, branch_ways, test_block_ended}
+use Rattle.definition.specs.Value as definition
+use Rattle.definition.specs.Value.{ValueTerminalResult, TestBlockResult, VisitValueBlock, visit_value_block, visit_value_block_at, visit_value_block_terminal, then_fallthrough, begin_visit, extract_or_refuse, branch_value, maybe_throw_value, is_empty_goto, is_fallthrough, Ways, branch_ways, test_block_ended}
 use Rattle.values.specs.declared.result.Tally.{Tally}
-use Rattle.values.specs.declared.result.ValueResult.{ValueResult}
-use Rattle.values.specs.Met.{refusal, block_result, Fit, Met}
+use Rattle.values.specs.declared.result.ValueBlockResult.{ValueBlockResult}
+use Rattle.values.specs.declared.refusal.Refusal.TheVariants.{TooManyVisits}
+use Rattle.values.specs.declared.refusal.Refused.{Refused}
+use Rattle.table.specs.Columns.{maybe_of}
+use Rattle.values.specs.Refusal.{refused_after}
+use Rattle.std.specs.Prelude.{Some, None, Err}
+use Rattle.std.specs.Option.{option_eq}
+use Rattle.std.specs.Prelude as std
+use Rattle.values.specs.Met.{block_result, Fit, Met}
 use Rattle.values.specs.WalkOutcome.{visit, block_outcome, terminal_outcome}
 use Rattle.values.proofs.MetLaws.{wrap, unless_on, unless_off, defined, moved, stops}
 
 -- ---- a visit
 
-abbrev begun : Table → VisitValueBlock → (block : ℕ) → Option ℕ → (span : Span) → Result ℕ → Result ValueBlockResult
+abbrev begun : Table → VisitValueBlock → (block : ℕ) → Option ℕ → (span : Span) → Result ℕ → Result definition.ValueBlockResult
 begun t deeper block fallthrough span begin =
     begin >>= λ visits. refuse_if (is_fallthrough fallthrough block) 23 block visits >>= λ _. visit_value_block_at t deeper (terminal_at t block) block (block_at t block) fallthrough span visits
 
@@ -41,27 +48,23 @@ unfolding begin_visit
 begin_by t block visits full missing e f = ap (λ (y : Bool). refuse_if y 31 block visits >>= λ _. refuse_if (is_absent (terminal_at t block)) 10 block (suc visits) >>= λ _. ok (suc visits)) e
     ∙ ap (λ (y : Bool). refuse_if full 31 block visits >>= λ _. refuse_if y 10 block (suc visits) >>= λ _. ok (suc visits)) f
 
-this_is : (fallthrough block : ℕ) → block < 65535 → is_fallthrough (unless_none fallthrough) block ≡ eqb fallthrough block
-unfolding unless_none
-this_is fallthrough block h = by (eqb fallthrough largest) refl
-  where
-    by : (y : Bool) → eqb fallthrough largest ≡ y → is_fallthrough (elim y [ true ↦ none | false ↦ some fallthrough ]) block ≡ eqb fallthrough block
-    by true e = sym (ne_eqb fallthrough block (λ q. omega (arith, eqb-true fallthrough largest e)))
-    by false e = refl
+this_is : (fallthrough : std.Option ℕ) (block : ℕ) → is_fallthrough (maybe_of fallthrough) block ≡ option_eq eqb fallthrough (Some block)
+this_is None block = refl
+this_is (Some fallthrough) block = refl
 
 -- the tally once the visit has begun
 abbrev pub begun_tally : Tally → Tally
 begun_tally tally = record { rows = tally.rows; visits = tally.visits + 1 }
 
-module _ {ws : List ℕ} {tally : Tally} {block : ℕ} (fit : Fit ws tally 0 block) (levels fallthrough : ℕ) (span : Span) where
+module _ {ws : List ℕ} {tally : Tally} {block : ℕ} (fit : Fit ws tally 0 block) (levels : ℕ) (fallthrough : std.Option ℕ) (span : Span) where
   abbrev t : Table
   t = table_of ws
 
   abbrev visits : ℕ
   visits = tally.visits
 
-  abbrev outcome : Result ValueBlockResult
-  outcome = visit ws levels block (unless_none fallthrough) span visits
+  abbrev outcome : Result definition.ValueBlockResult
+  outcome = visit ws levels block (maybe_of fallthrough) span visits
 
   missing_at : is_absent (terminal_at t block) ≡ eqb (code_at ws block) 0
   missing_at = ap (λ (k : ℕ). eqb k 0) (code_at_lem ws block fit.promise fit.at)
@@ -72,8 +75,8 @@ module _ {ws : List ℕ} {tally : Tally} {block : ℕ} (fit : Fit ws tally 0 blo
   visit_30 e = rw e
 
   module _ (more : levels ≡ 0 → ⊥) where
-    begin : (begins : Result ℕ) → begin_visit t block visits ≡ begins → outcome ≡ begun t (visit ws (levels - 1)) block (unless_none fallthrough) span begins
-    begin begins e = visit_more t more block (unless_none fallthrough) span visits ∙ ap (begun t (visit ws (levels - 1)) block (unless_none fallthrough) span) e
+    begin : (begins : Result ℕ) → begin_visit t block visits ≡ begins → outcome ≡ begun t (visit ws (levels - 1)) block (maybe_of fallthrough) span begins
+    begin begins e = visit_more t more block (maybe_of fallthrough) span visits ∙ ap (begun t (visit ws (levels - 1)) block (maybe_of fallthrough) span) e
 
     pub visit_31 : visits ≡ 8192 → outcome ≡ refused 31 block visits
     unfolding ◌>>=◌ refuse_if
@@ -81,7 +84,7 @@ module _ {ws : List ℕ} {tally : Tally} {block : ℕ} (fit : Fit ws tally 0 blo
 
     module _ (few : visits ≡ 8192 → ⊥) {code : ℕ} (known : code ≡ code_at ws block) where
       begins : (missing : Bool) → eqb (code_at ws block) 0 ≡ missing
-          → outcome ≡ begun t (visit ws (levels - 1)) block (unless_none fallthrough) span (refuse_if missing 10 block (suc visits) >>= λ _. ok (suc visits))
+          → outcome ≡ begun t (visit ws (levels - 1)) block (maybe_of fallthrough) span (refuse_if missing 10 block (suc visits) >>= λ _. ok (suc visits))
       unfolding ◌>>=◌ refuse_if
       begins missing e = begin _ (begin_by t block visits false missing (lt-leb 8192 visits (omega (arith, fit.visits))) (missing_at ∙ e))
 
@@ -91,36 +94,36 @@ module _ {ws : List ℕ} {tally : Tally} {block : ℕ} (fit : Fit ws tally 0 blo
 
       module _ (there : code ≡ 0 → ⊥) where
         -- what the visit gives once it has begun, and the fallthrough is not reached
-        at_end : Result ValueBlockResult
-        at_end = visit_value_block_at t (visit ws (levels - 1)) (terminal_at t block) block (block_at t block) (unless_none fallthrough) span (suc visits)
+        at_end : Result definition.ValueBlockResult
+        at_end = visit_value_block_at t (visit ws (levels - 1)) (terminal_at t block) block (block_at t block) (maybe_of fallthrough) span (suc visits)
 
-        reaches : (this : Bool) → eqb fallthrough block ≡ this → outcome ≡ (refuse_if this 23 block (suc visits) >>= λ _. at_end)
+        reaches : (this : Bool) → is_fallthrough (maybe_of fallthrough) block ≡ this → outcome ≡ (refuse_if this 23 block (suc visits) >>= λ _. at_end)
         unfolding ◌>>=◌ refuse_if at_end
         reaches this e =
-            let small : block < 65535 = omega (arith, fit.at, fit.promise.sized.limited.blocks) in
-            begins false (ne_eqb (code_at ws block) 0 (λ q. there (known ∙ q))) ∙ ap (λ (y : Bool). refuse_if y 23 block (suc visits) >>= λ _. at_end) (this_is fallthrough block small ∙ e)
+            begins false (ne_eqb (code_at ws block) 0 (λ q. there (known ∙ q))) ∙ ap (λ (y : Bool). refuse_if y 23 block (suc visits) >>= λ _. at_end) e
 
-        pub visit_23 : block ≡ fallthrough → outcome ≡ refused 23 block (visits + 1)
+        pub visit_23 : option_eq eqb fallthrough (Some block) ≡ true → outcome ≡ refused 23 block (visits + 1)
         unfolding ◌>>=◌ refuse_if
-        visit_23 e = rw (add-one visits) (reaches true (eq-eqb fallthrough block (sym e)))
+        visit_23 e = rw (add-one visits) (reaches true (this_is fallthrough block ∙ e))
 
-        pub visit_on : (block ≡ fallthrough → ⊥) → outcome ≡ block_outcome ws (levels - 1) block fallthrough span (visits + 1)
+        pub visit_on : option_eq eqb fallthrough (Some block) ≡ false → outcome ≡ block_outcome ws (levels - 1) block fallthrough span (visits + 1)
         unfolding ◌>>=◌ refuse_if at_end
-        visit_on f = rw (add-one visits) (reaches false (ne_eqb fallthrough block (λ e. f (sym e))))
+        visit_on e = rw (add-one visits) (reaches false (this_is fallthrough block ∙ e))
 
 -- the visit has begun, and its fallthrough is not reached: the value is what the block's end gives
-pub visit_begun : {ws : List ℕ} {tally : Tally} {block code n : ℕ} {b b' : List ℕ} {r : ValueResult} (fit : Fit ws tally 0 block) (levels fallthrough : ℕ) (span : Span)
-    → (levels ≡ 0 → ⊥) → (tally.visits ≡ 8192 → ⊥) → code ≡ code_at ws block → (code ≡ 0 → ⊥) → (block ≡ fallthrough → ⊥)
+pub visit_begun : {ws : List ℕ} {tally : Tally} {block code n : ℕ} {b b' : List ℕ} {r : std.Result ValueBlockResult Refused} (fit : Fit ws tally 0 block) (levels : ℕ)
+    (fallthrough : std.Option ℕ) (span : Span) → (levels ≡ 0 → ⊥) → (tally.visits ≡ 8192 → ⊥) → code ≡ code_at ws block → (code ≡ 0 → ⊥) → option_eq eqb fallthrough (Some block) ≡ false
     → Met ws block_result (block_outcome ws (levels - 1) block fallthrough span (tally.visits + 1)) (begun_tally tally) n b r b' → n ≤ 8200
-    → Met ws block_result (visit ws levels block (unless_none fallthrough) span tally.visits) tally 0 b r b'
+    → Met ws block_result (visit ws levels block (maybe_of fallthrough) span tally.visits) tally 0 b r b'
 visit_begun fit levels fallthrough span more few known there passed met most =
-    defined (visit_on fit levels fallthrough span more few known there passed) (moved met refl (omega (arith, met.numbers, most)))
+    defined (visit_on fit levels fallthrough span more few known there passed) (moved met refl (omega arith) (omega arith))
 
 -- the end for 31
-pub visit_full : {ws : List ℕ} {tally : Tally} {block : ℕ} {b b' : List ℕ} {r : ValueResult} → Fit ws tally 0 block → (levels fallthrough : ℕ) (span : Span)
-    → (levels ≡ 0 → ⊥) → tally.visits ≡ 8192 → r ≡ refusal 31 block tally
-    → Met ws block_result (visit ws levels block (unless_none fallthrough) span tally.visits) tally 0 b r b'
-visit_full fit levels fallthrough span more full e = defined (visit_31 fit levels fallthrough span more full) (stops (PLAIN 0) e refl (omega (arith, fit.visits)))
+pub visit_full : {ws : List ℕ} {tally : Tally} {block : ℕ} {b b' : List ℕ} {e : Refused} → Fit ws tally 0 block → (levels : ℕ) (fallthrough : std.Option ℕ) (span : Span)
+    → (levels ≡ 0 → ⊥) → tally.visits ≡ 8192 → e ≡ refused_after (TooManyVisits block) tally.visits
+    → Met ws block_result (visit ws levels block (maybe_of fallthrough) span tally.visits) tally 0 b (Err e) b'
+visit_full {block = block} fit levels fallthrough span more full e =
+    defined (visit_31 fit levels fallthrough span more full) (stops (TooManyVisits block) _ e (record { visits = fit.visits; rises = omega arith }))
 
 -- neither absent nor one of the three ends that a value block treats by themselves
 pub record OtherEnd (code : ℕ) : Type 0 where
@@ -128,10 +131,6 @@ pub record OtherEnd (code : ℕ) : Type 0 where
   pub not_4 : code ≡ 4 → ⊥
   pub not_6 : code ≡ 6 → ⊥
   pub not_18 : code ≡ 18 → ⊥
-
--- a block is never none
-pub some_block : (ws : List ℕ) {block : ℕ} → block < block_count ws → block_count ws ≤ 1024 → unless_none block ≡ some block
-some_block ws {block} h few = low_number block (omega arith)
 
 -- ---- by the block's code
 
@@ -213,11 +212,11 @@ module _ (ws : List ℕ) (block levels : ℕ) where
   abbrev table : Table
   table = table_of ws
 
-  module _ (fallthrough : ℕ) (span : Span) (visits : ℕ) where
-    abbrev by_end : Terminal → Result ValueBlockResult
-    by_end m = visit_value_block_at table (visit ws levels) m block (block_at table block) (unless_none fallthrough) span visits
+  module _ (fallthrough : std.Option ℕ) (span : Span) (visits : ℕ) where
+    abbrev by_end : Terminal → Result definition.ValueBlockResult
+    by_end m = visit_value_block_at table (visit ws levels) m block (block_at table block) (maybe_of fallthrough) span visits
 
-    abbrev ends_so : Result ValueBlockResult
+    abbrev ends_so : Result definition.ValueBlockResult
     ends_so = block_outcome ws levels block fallthrough span visits
 
     pub at_goto : block < block_count ws → code_at ws block ≡ 4 → ends_so ≡ extract_or_refuse table block (instruction_rows_at table block) visits 24 block
@@ -233,7 +232,7 @@ module _ (ws : List ℕ) (block levels : ℕ) where
         → ends_so ≡ then_fallthrough table (visit ws levels) (block_at table block) span (terminal_outcome ws levels block visits)
     at_other p h known other =
         let c = known ∙ sym (code_at_lem ws block p h) in
-        other_end table (visit ws levels) (terminal_at table block) block (block_at table block) (unless_none fallthrough) span visits
+        other_end table (visit ws levels) (terminal_at table block) block (block_at table block) (maybe_of fallthrough) span visits
         (λ e. other.not_4 (c ∙ e)) (λ e. other.not_6 (c ∙ e)) (λ e. other.not_18 (c ∙ e))
 
     -- MaybeThrow, by its continuation. "That continuation is looked up first, before any visit: 10 if missing."
@@ -246,20 +245,20 @@ module _ (ws : List ℕ) (block levels : ℕ) where
       maybe_throw_missing e = ap by_end ends.is ∙ unless_on _ 10 next visits _ (missing_is true (eq-eqb code 0 e))
 
       module _ (there : code ≡ 0 → ⊥) {empty : Bool} (asked : empty ≡ is_empty_goto (block_at table next)) where
-        goes_on : (y : Bool) → empty ≡ y → ends_so ≡ maybe_throw_value table (visit ws levels) block next (instruction_rows_at table block) (unless_none fallthrough) span visits y
+        goes_on : (y : Bool) → empty ≡ y → ends_so ≡ maybe_throw_value table (visit ws levels) block next (instruction_rows_at table block) (maybe_of fallthrough) span visits y
         unfolding visit_value_block_at
         goes_on y e = ap by_end ends.is ∙ unless_off _ 10 next visits _ (missing_is false (ne_eqb code 0 there))
-            ∙ ap (maybe_throw_value table (visit ws levels) block next (instruction_rows_at table block) (unless_none fallthrough) span visits) (sym asked ∙ e)
+            ∙ ap (maybe_throw_value table (visit ws levels) block next (instruction_rows_at table block) (maybe_of fallthrough) span visits) (sym asked ∙ e)
 
         pub maybe_throw_own : empty ≡ true → ends_so ≡ extract_or_refuse table next (instruction_rows_at table block) visits 28 block
         unfolding maybe_throw_value
         maybe_throw_own e = goes_on true e
 
         pub maybe_throw_visits : {first count id : ℕ} {own : Span} → Heads ws block first count id own → empty ≡ false
-            → ends_so ≡ (visit ws levels next (unless_none fallthrough) span visits >>= λ final. ok (wrap ws first count final))
+            → ends_so ≡ (visit ws levels next (maybe_of fallthrough) span visits >>= λ final. ok (wrap ws first count final))
         unfolding maybe_throw_value
         maybe_throw_visits head e = goes_on false e
-            ∙ ap (λ (rows : List ℕ). maybe_throw_value table (visit ws levels) block next rows (unless_none fallthrough) span visits false) (head_rows head)
+            ∙ ap (λ (rows : List ℕ). maybe_throw_value table (visit ws levels) block next rows (maybe_of fallthrough) span visits false) (head_rows head)
 
   -- the value terminal at the end of a block
   module _ (visits : ℕ) where
@@ -285,7 +284,7 @@ module _ (ws : List ℕ) (block levels : ℕ) where
 
 -- ---- a test, by its end
 
-module _ (ws : List ℕ) (test : ValueBlockResult) (at : ℕ) where
+module _ (ws : List ℕ) (test : definition.ValueBlockResult) (at : ℕ) where
   abbrev ended : Result TestBlockResult
   ended = test_block_ended test (branch_ways (terminal_at (table_of ws) test.block)) at
 

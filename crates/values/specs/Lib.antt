@@ -1,4 +1,5 @@
 pub mod Rows
+pub mod Refusal
 pub mod Stack
 pub mod Met
 pub mod Outcome

@@ -1,44 +1,38 @@
 -- What the functions of the value walk promise: the definition's result or refusal, and the rows of its value in the buffer.
-use Rattle.std.specs.Prelude.{◌≡◌, Bool, true, false, List, ◌∷◌, ℕ, suc, ◌+◌, ◌*◌, ◌≤◌, ◌<◌, eqb}
+use Rattle.std.specs.Prelude.{◌≡◌, Bool, List, ◌∷◌, ℕ, suc, ◌+◌, ◌*◌, ◌≤◌, ◌<◌, eqb, Ok, Err, None, IfOk, IfSome, MatchResult}
+use Rattle.std.specs.Prelude as std
 use Rattle.table.specs.declared.columns.Span.{Span}
-use Rattle.table.specs.Words.{block_count, place_count, largest}
-use Rattle.table.specs.Table.{table_of, instruction_at, unless_none, rows_from}
+use Rattle.table.specs.Words.{block_count, place_count}
+use Rattle.table.specs.Table.{table_of, instruction_at, rows_from}
 use Rattle.table.specs.Promise.{Promise}
-use Rattle.definition.specs.Result.{Result, ok, refused}
+use Rattle.definition.specs.Result.{Result, ok}
 use Rattle.definition.specs.Tree.{Row, row, Value, PLAIN, LOAD, UNDEF, SEQ, LOGICAL, COND, OPTIONAL, count_instructions}
 use Rattle.definition.specs.Value.{ValueBlockResult, ValueTerminalResult, stored_to_named, innermost_value, loaded_place, loaded_by, value_block_result_to_sequence}
+use Rattle.table.specs.Columns.{maybe_of}
+use Rattle.values.specs.Refusal.{refused_by}
 use Rattle.values.specs.Rows.{placed, Holds}
 use Rattle.values.specs.Stack.{push_value, push_instruction_rows}
 use Rattle.values.specs.declared.result.Tally.{Tally}
 use Rattle.values.specs.declared.result.Trailing.{Trailing}
-use Rattle.values.specs.declared.result.ValueResult.{ValueResult}
+use Rattle.values.specs.declared.result.ValueBlockResult as code
+use Rattle.values.specs.declared.refusal.Refused.{Refused}
 
 -- ---- the code's results, and the definition's
 
 -- the end of a value that is one row: the place that it loads, or none
-abbrev pub loads : ℕ → Trailing
+abbrev pub loads : std.Option ℕ → Trailing
 loads place = record { sequences = 0; instructions = 0; loaded = place }
 
-abbrev pub refusal : (code at : ℕ) → Tally → ValueResult
-refusal code at tally = record { code = code; at = at; block = 0; place = 0; id = 0; tally = tally; trailing = loads largest }
-
-abbrev pub finished : (block place id : ℕ) → Tally → Trailing → ValueResult
-finished block place id tally trailing = record { code = 0; at = 0; block = block; place = place; id = id; tally = tally; trailing = trailing }
-
 -- of a value block and of a value terminal: the definition's result with the code's numbers
-abbrev pub block_result : ValueResult → Value → ValueBlockResult
+abbrev pub block_result : code.ValueBlockResult → Value → ValueBlockResult
 block_result r value = record { block = r.block; place = r.place; value = value; id = r.id; visits = r.tally.visits }
 
-abbrev pub terminal_result : ValueResult → Value → ValueTerminalResult
+abbrev pub terminal_result : code.ValueBlockResult → Value → ValueTerminalResult
 terminal_result r value = record { value = value; place = r.place; fallthrough = r.block; id = r.id; visits = r.tally.visits }
 
-abbrev pub ok_if : {A : Type 0} → Bool → A → ValueResult → Result A
-ok_if true found r = ok found
-ok_if false found r = refused r.code r.at r.tally.visits
-
--- "Code (0 accepted)"
-abbrev pub answered : {A : Type 0} → (ValueResult → Value → A) → ValueResult → Value → Result A
-answered of r value = ok_if (eqb r.code 0) (of r value) r
+abbrev pub answered : {A : Type 0} → (code.ValueBlockResult → Value → A) → std.Result code.ValueBlockResult Refused → Value → Result A
+answered of (Ok r) value = ok (of r value)
+answered of (Err e) value = refused_by e
 
 -- ---- contracts
 
@@ -73,29 +67,35 @@ trailing_instructions (OPTIONAL flag value) = 0
 pub record Ends (words : List ℕ) (value : Value) (trailing : Trailing) : Type 0 where
   pub sequences : trailing.sequences ≡ trailing_sequences value
   pub instructions : trailing.instructions ≡ trailing_instructions value
-  pub loaded : unless_none trailing.loaded ≡ loaded_place (table_of words) (innermost_value value)
-  pub there : (trailing.loaded ≡ largest → ⊥) → trailing.loaded < place_count words
+  pub loaded : maybe_of trailing.loaded ≡ loaded_place (table_of words) (innermost_value value)
+  pub there : IfSome trailing.loaded (λ p. p < place_count words)
 
--- what a result with code 0 says: whatever rows the buffer held, it holds them and the value's
-pub record Found (words : List ℕ) (start : Tally) (value : Value) (buffer : List ℕ) (r : ValueResult) (buffer' : List ℕ) : Type 0 where
+-- what a value that is found says: whatever rows the buffer held, it holds them and the value's
+pub record Found (words : List ℕ) (start : Tally) (value : Value) (buffer : List ℕ) (r : code.ValueBlockResult) (buffer' : List ℕ) : Type 0 where
   pub held : (stack : List Row) → Holds buffer start.rows stack → Holds buffer' r.tally.rows (push_value value stack)
   pub block : r.block < block_count words
   pub place : r.place < place_count words
   pub ends : Ends words value r.trailing
   pub more : start.rows + r.trailing.sequences + r.trailing.instructions < r.tally.rows
 
+-- visits only rise, to at most 8,192
+pub record Begun (start : Tally) (begun : ℕ) : Type 0 where
+  pub visits : begun ≤ 8192
+  pub rises : start.visits ≤ begun
+
 -- at most `unpaid` rows are not paid for by the visits begun
-pub record Numbers (start : Tally) (unpaid : ℕ) (r : ValueResult) : Type 0 where
-  pub visits : r.tally.visits ≤ 8192
-  pub rises : start.visits ≤ r.tally.visits
-  pub paid : r.tally.rows + 8200 * start.visits ≤ start.rows + 8200 * r.tally.visits + unpaid
+pub record Numbers (start : Tally) (unpaid : ℕ) (tally : Tally) : Type 0 where
+  pub visits : tally.visits ≤ 8192
+  pub rises : start.visits ≤ tally.visits
+  pub paid : tally.rows + 8200 * start.visits ≤ start.rows + 8200 * tally.visits + unpaid
 
 -- the code's result is the definition's, `outcome`, and the buffer holds its value's rows. Nothing is said of a refused buffer: it is cleared later
-pub record Met {A : Type 0} (words : List ℕ) (of : ValueResult → Value → A) (outcome : Result A) (start : Tally) (unpaid : ℕ) (buffer : List ℕ) (r : ValueResult) (buffer' : List ℕ) : Type 0 where
+pub record Met {A : Type 0} (words : List ℕ) (of : code.ValueBlockResult → Value → A) (outcome : Result A) (start : Tally) (unpaid : ℕ) (buffer : List ℕ)
+    (r : std.Result code.ValueBlockResult Refused) (buffer' : List ℕ) : Type 0 where
   pub value : Value
   pub same : outcome ≡ answered of r value
-  pub found : r.code ≡ 0 → Found words start value buffer r buffer'
-  pub numbers : Numbers start unpaid r
+  pub found : IfOk r (λ v. Found words start value buffer v buffer')
+  pub numbers : MatchResult r (λ v. Numbers start unpaid v.tally) (λ e. Begun start e.visits)
 
 -- ---- the helpers
 
@@ -114,14 +114,12 @@ pub record InstructionsPut (words : List ℕ) (first count : ℕ) (buffer : List
 abbrev pub wrap_trailing : Trailing → ℕ → Trailing
 wrap_trailing trailing count = record { sequences = trailing.sequences + 1; instructions = trailing.instructions + count; loaded = trailing.loaded }
 
-pub record Wrappable (count : ℕ) (v : ValueResult) : Type 0 where
-  pub code : v.code ≡ 0
+pub record Wrappable (count : ℕ) (v : code.ValueBlockResult) : Type 0 where
   pub few : count ≤ 4097
   pub more : v.trailing.sequences + v.trailing.instructions < v.tally.rows
   pub room : v.tally.rows < 3000000000
 
-pub record Wrapped (count : ℕ) (v : ValueResult) (buffer : List ℕ) (r : ValueResult) (buffer' : List ℕ) : Type 0 where
-  pub code : r.code ≡ 0
+pub record Wrapped (count : ℕ) (v : code.ValueBlockResult) (buffer : List ℕ) (r : code.ValueBlockResult) (buffer' : List ℕ) : Type 0 where
   pub same : (value : Value) → block_result r value ≡ block_result v value
   pub none : count ≡ 0 → (r ≡ v) × (buffer' ≡ buffer)
   pub some : (count ≡ 0 → ⊥) → (r.trailing ≡ wrap_trailing v.trailing count) × (r.tally.rows ≡ v.tally.rows + 1)
@@ -130,24 +128,24 @@ pub record Wrapped (count : ℕ) (v : ValueResult) (buffer : List ℕ) (r : Valu
   pub most : r.tally.rows ≤ v.tally.rows + 1
 
 -- the place that an instruction loads, if it is a LoadLocal
-pub record Loaded (words : List ℕ) (i place : ℕ) : Type 0 where
-  pub same : unless_none place ≡ loaded_by (instruction_at (table_of words) i).operation
-  pub there : (place ≡ largest → ⊥) → place < place_count words
+pub record Loaded (words : List ℕ) (i : ℕ) (place : std.Option ℕ) : Type 0 where
+  pub same : maybe_of place ≡ loaded_by (instruction_at (table_of words) i).operation
+  pub there : IfSome place (λ p. p < place_count words)
 
 -- whether an instruction stores to an identifier that is not named
 abbrev pub unnamed_store : List ℕ → ℕ → Bool
 unnamed_store words i = eqb (stored_to_named (table_of words) (instruction_at (table_of words) i).operation) 0
 
 -- what value_block_result_to_sequence requires of a result; `Found` gives it
-pub record Flattens (words : List ℕ) (result : ValueResult) : Type 0 where
+pub record Flattens (words : List ℕ) (result : code.ValueBlockResult) : Type 0 where
   pub promise : Promise words
   pub place : result.place < place_count words
-  pub there : (result.trailing.loaded ≡ largest → ⊥) → result.trailing.loaded < place_count words
+  pub there : IfSome result.trailing.loaded (λ p. p < place_count words)
   pub more : result.trailing.sequences + result.trailing.instructions < result.tally.rows
   pub room : result.tally.rows < 3000000000
 
 -- the buffer held the rows of the result's value, and holds those of the flattened value
-pub record Flattened (words : List ℕ) (result : ValueResult) (span : Span) (buffer : List ℕ) (buffer' : List ℕ) (rows' : ℕ) : Type 0 where
+pub record Flattened (words : List ℕ) (result : code.ValueBlockResult) (span : Span) (buffer : List ℕ) (buffer' : List ℕ) (rows' : ℕ) : Type 0 where
   pub held : (value : Value) → Ends words value result.trailing → (stack : List Row) → Holds buffer result.tally.rows (push_value value stack)
       → Holds buffer' rows' (push_value (value_block_result_to_sequence (table_of words) (block_result result value) span) stack)
   pub most : rows' ≤ result.tally.rows + 3

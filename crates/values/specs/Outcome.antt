@@ -8,9 +8,9 @@ use Rattle.definition.specs.Value.{ValueBlockResult, extract_value_block_result,
 abbrev pub run_outcome : List ℕ → (block first more visits : ℕ) → Result ValueBlockResult
 run_outcome words block first more visits = ok (extract_value_block_result (table_of words) block first (rows_from (suc first) more) visits)
 
--- the same of the block's own instructions, in a value that ends in `endsIn`; refused with the code where there are none
-abbrev pub extract_outcome : List ℕ → (block ends_in code visits : ℕ) → Result ValueBlockResult
-extract_outcome words block ends_in code visits = extract_or_refuse (table_of words) ends_in (instruction_rows_at (table_of words) block) visits code block
+-- the same of the block's own instructions, in a value that ends in `ends_in`; refused with the code, at the place, where there are none
+abbrev pub extract_outcome : List ℕ → (block ends_in code at visits : ℕ) → Result ValueBlockResult
+extract_outcome words block ends_in code at visits = extract_or_refuse (table_of words) ends_in (instruction_rows_at (table_of words) block) visits code at
 
 abbrev pub branch_outcome : List ℕ → (block test visits : ℕ) → Result ValueBlockResult
 branch_outcome words block test visits = branch_value (table_of words) block test (block_at (table_of words) block).id (instruction_rows_at (table_of words) block) visits

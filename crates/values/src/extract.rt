@@ -1,16 +1,18 @@
 // The value of a block's instructions: the last of them, with the others in a sequence before it.
-ghost use Rattle.std.specs.Prelude.{◌≡◌, ◌+◌, ◌<◌};
+ghost use Rattle.std.specs.Prelude.{◌≡◌, ◌+◌, ◌<◌, Ok};
 ghost use Rattle.table.specs.Words.{block_count, instruction_count, place_count};
 ghost use Rattle.table.specs.Table.{table_of, block_at};
 ghost use Rattle.table.specs.Promise.{Promise};
 ghost use Rattle.definition.specs.Value.{is_empty_goto};
+ghost use Rattle.values.specs.Refusal.{code_of, place_of};
 ghost use Rattle.values.specs.Met.{block_result, Fit, Met, Wrappable, Wrapped, Loaded, unnamed_store};
 ghost use Rattle.values.specs.Outcome.{run_outcome, extract_outcome, branch_outcome};
 
 use crate::instructions::put_instructions;
-use crate::result::{NONE, Tally, Trailing, ValueResult};
+use crate::refusal::{Refusal, Refused};
+use crate::result::{Tally, Trailing, ValueBlockResult};
 use crate::rows::{LOAD, PLAIN, SEQ};
-use crate::steps::{found, loading, put_row, refused};
+use crate::steps::{loading, put_row};
 use table::columns::{
     block_at, code_at, instruction_at, load_local_at, operation_code_at, store_local_at,
 };
@@ -29,44 +31,60 @@ fn stores_to_unnamed(words: &[u32], i: u32) -> bool
     identifier_word(words, identifier) == 0
 }
 
-// The place that a LoadLocal loads; NONE for any other instruction.
-fn loaded_by(words: &[u32], i: u32) -> u32
+// The place that a LoadLocal loads.
+fn loaded_by(words: &[u32], i: u32) -> Option<u32>
     requires promise { Promise words.now }
     requires i_bound { i < instruction_count words.now }
     ensures { Loaded words.now i result }
 {
     if operation_code_at(words, i) != 1 {
-        return NONE;
+        return None;
     }
-    load_local_at(words, i).place
+    Some(load_local_at(words, i).place)
 }
 
 // The value of one instruction, the last of its block. "Last instruction StoreLocal to an unnamed identifier: the value is a LOAD of the place
 // whose value is stored (q), and the result's place is the one stored to (p)."
-fn final_value(words: &[u32], buffer: &mut [u32], tally: Tally, i: u32, block: u32) -> ValueResult
+fn final_value(
+    words: &[u32],
+    buffer: &mut [u32],
+    tally: Tally,
+    i: u32,
+    block: u32,
+) -> ValueBlockResult
     requires fit { Fit words.now tally 1 block }
     requires i_bound { i < instruction_count words.now }
-    ensures { Met words.now block_result (run_outcome words.now block i 0 tally.visits) tally 1 buffer.old result buffer.new }
+    ensures { Met words.now block_result (run_outcome words.now block i 0 tally.visits) tally 1 buffer.old (Ok result) buffer.new }
 {
     let head = instruction_at(words, i);
     if stores_to_unnamed(words, i) {
         let store = store_local_at(words, i);
         let load = put_row(buffer, tally, LOAD, store.stored_value, 0);
-        return found(
+        return ValueBlockResult {
             block,
-            store.stored_to,
-            head.id,
-            load,
-            loading(store.stored_value),
-        );
+            place: store.stored_to,
+            id: head.id,
+            tally: load,
+            trailing: loading(Some(store.stored_value)),
+        };
     }
     let loaded = loaded_by(words, i);
     let plain = put_row(buffer, tally, PLAIN, i, 0);
-    found(block, head.lvalue, head.id, plain, loading(loaded))
+    ValueBlockResult {
+        block,
+        place: head.lvalue,
+        id: head.id,
+        tally: plain,
+        trailing: loading(loaded),
+    }
 }
 
 // A SEQ row over `count` instructions that stand before a value; nothing where there are none.
-pub fn wrap_with_sequence(buffer: &mut [u32], count: u32, value: ValueResult) -> ValueResult
+pub fn wrap_with_sequence(
+    buffer: &mut [u32],
+    count: u32,
+    value: ValueBlockResult,
+) -> ValueBlockResult
     requires { Wrappable count value }
     ensures { Wrapped count value buffer.old result buffer.new }
 {
@@ -74,12 +92,17 @@ pub fn wrap_with_sequence(buffer: &mut [u32], count: u32, value: ValueResult) ->
         return value;
     }
     let seq = put_row(buffer, value.tally, SEQ, count, value.id);
+    let end = value.trailing;
     let trailing = Trailing {
-        sequences: value.trailing.sequences + 1,
-        instructions: value.trailing.instructions + count,
-        loaded: value.trailing.loaded,
+        sequences: end.sequences + 1,
+        instructions: end.instructions + count,
+        ..end
     };
-    found(value.block, value.place, value.id, seq, trailing)
+    ValueBlockResult {
+        tally: seq,
+        trailing,
+        ..value
+    }
 }
 
 // The value of the instruction `first` and the `more` ones after it: the last, with the others in a sequence before it.
@@ -90,57 +113,65 @@ fn extract_value_block_result(
     block: u32,
     first: u32,
     more: u32,
-) -> ValueResult
+) -> ValueBlockResult
     requires fit { Fit words.now tally 8192 block }
     requires more_bound { first + more < instruction_count words.now }
-    ensures { Met words.now block_result (run_outcome words.now block first more tally.visits) tally 8192 buffer.old result buffer.new }
+    ensures { Met words.now block_result (run_outcome words.now block first more tally.visits) tally 8192 buffer.old (Ok result) buffer.new }
 {
     let rows = put_instructions(words, buffer, tally.rows, first, more);
-    let after = Tally {
-        rows,
-        visits: tally.visits,
-    };
+    let after = Tally { rows, ..tally };
     let value = final_value(words, buffer, after, first + more, block);
     wrap_with_sequence(buffer, more, value)
 }
 
-// The value of the instructions of `block`; a refusal where it has none. The result's block is `ends_in`.
-pub fn extract_or_refuse(
+// The value of the instructions of `block`; the refusal where it has none. The result's block is `ends_in`.
+#[inline(always)]
+pub(crate) fn extract_or_refuse(
     words: &[u32],
     buffer: &mut [u32],
     tally: Tally,
     block: u32,
     ends_in: u32,
-    code: u32,
-) -> ValueResult
+    refusal: Refusal,
+) -> Result<ValueBlockResult, Refused>
     requires fit { Fit words.now tally 8192 block }
     requires ends_in_bound { ends_in < block_count words.now }
-    requires code_nonzero { 0 < code }
-    ensures { Met words.now block_result (extract_outcome words.now block ends_in code tally.visits) tally 8192 buffer.old result buffer.new }
+    ensures { Met words.now block_result (extract_outcome words.now block ends_in (code_of refusal) (place_of refusal) tally.visits) tally 8192 buffer.old result buffer.new }
 {
     let head = block_at(words, block);
     if head.count == 0 {
-        return refused(code, block, tally);
+        return Err(Refused {
+            refusal,
+            visits: tally.visits,
+        });
     }
-    extract_value_block_result(words, buffer, tally, ends_in, head.first, head.count - 1)
+    let more = head.count - 1;
+    Ok(extract_value_block_result(words, buffer, tally, ends_in, head.first, more))
 }
 
 // A Branch on `test`: its last instruction, or a LOAD of the test where it has none.
+#[inline(always)]
 pub fn branch_value(
     words: &[u32],
     buffer: &mut [u32],
     tally: Tally,
     block: u32,
     test: u32,
-) -> ValueResult
+) -> ValueBlockResult
     requires fit { Fit words.now tally 8192 block }
     requires test_bound { test < place_count words.now }
-    ensures { Met words.now block_result (branch_outcome words.now block test tally.visits) tally 8192 buffer.old result buffer.new }
+    ensures { Met words.now block_result (branch_outcome words.now block test tally.visits) tally 8192 buffer.old (Ok result) buffer.new }
 {
     let head = block_at(words, block);
     if head.count == 0 {
         let load = put_row(buffer, tally, LOAD, test, 0);
-        return found(block, test, head.id, load, loading(test));
+        return ValueBlockResult {
+            block,
+            place: test,
+            id: head.id,
+            tally: load,
+            trailing: loading(Some(test)),
+        };
     }
     extract_value_block_result(words, buffer, tally, block, head.first, head.count - 1)
 }
@@ -151,8 +182,5 @@ pub fn is_empty_goto(words: &[u32], block: u32) -> bool
     requires block_bound { block < block_count words.now }
     ensures { result ≡ is_empty_goto (block_at (table_of words.now) block) }
 {
-    if block_at(words, block).count != 0 {
-        return false;
-    }
-    code_at(words, block) == 4
+    block_at(words, block).count == 0 && code_at(words, block) == 4
 }

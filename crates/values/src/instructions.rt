@@ -15,9 +15,7 @@ pub fn put_instructions(words: &[u32], buffer: &mut [u32], rows: u32, first: u32
     ensures { InstructionsPut words.now first count buffer.old rows buffer.new result }
 {
     let mut out = rows;
-    let mut k: u32 = 0;
-    while k < count {
-        let i = first + k;
+    for i in first..first + count {
         let head = instruction_at(words, i);
         out = put(buffer, out, PLAIN, i, 0, 0, 0, 0);
         out = put(
@@ -30,7 +28,6 @@ pub fn put_instructions(words: &[u32], buffer: &mut [u32], rows: u32, first: u32
             head.span.to,
             0,
         );
-        k += 1;
     }
     out
 }

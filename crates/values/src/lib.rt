@@ -7,6 +7,8 @@ pub mod rows;
 pub mod steps;
 // What the steps of the value walk take and give.
 pub mod result;
+// What a value walk refuses.
+pub mod refusal;
 // A block's instructions: their rows.
 pub mod instructions;
 // The value of a block's instructions: the last of them, with the others in a sequence before it.

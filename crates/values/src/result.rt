@@ -1,8 +1,5 @@
 // What the steps of the value walk take and give.
 
-// 65,535: no fallthrough, no place.
-pub const NONE: u32 = 65535;
-
 // The rows that are out, and the visits begun.
 #[derive(Clone, Copy, Drop)]
 pub struct Tally {
@@ -16,14 +13,12 @@ pub struct Tally {
 pub struct Trailing {
     pub sequences: u32,
     pub instructions: u32,
-    pub loaded: u32,
+    pub loaded: Option<u32>,
 }
 
-// A refusal's code and place; or code 0 and what was found. `block` is the one that the value ends in; for a value terminal it is the fallthrough.
+// A value whose rows are out. `block` is the one that it ends in; for a value terminal it is the fallthrough.
 #[derive(Clone, Copy, Drop)]
-pub struct ValueResult {
-    pub code: u32,
-    pub at: u32,
+pub struct ValueBlockResult {
     pub block: u32,
     pub place: u32,
     pub id: u32,

@@ -69,7 +69,7 @@ fn put_at(buffer: &mut [u32], n: usize, op: u32, a: u32, b: u32, c: u32, d: u32,
     }
 }
 
-// Writes the next row, if it fits, and counts it.
+// Writes the next row, if it fits, and counts it. (Six words and no array: `[SEQ, n, id, 0, 0, 0]` at a call is no plainer, and a call stores them in place.)
 pub fn put(buffer: &mut [u32], rows: u32, op: u32, a: u32, b: u32, c: u32, d: u32, e: u32) -> u32
     requires { rows < 4000000000 }
     ensures { Written buffer.old rows (row op a b c d e) buffer.new result }
@@ -83,9 +83,5 @@ pub fn clear(buffer: &mut [u32], from: usize)
     requires { from ≤ length buffer.old }
     ensures { buffer.new ≡ take from buffer.old ++ replicate (length buffer.old - from) 0 }
 {
-    let mut i = from;
-    while i < buffer.len() {
-        buffer[i] = 0;
-        i += 1;
-    }
+    buffer[from..].fill(0);
 }

@@ -1,29 +1,28 @@
 // Flattening: a value of a For, ForOf or ForIn as one sequence that ends in UNDEF.
-ghost use Rattle.std.specs.Prelude.{◌≡◌, ◌+◌, ◌<◌};
-ghost use Rattle.table.specs.Words.{place_count, largest};
-ghost use Rattle.table.specs.Table.{table_of, unless_none};
+ghost use Rattle.std.specs.Prelude.{◌≡◌, ◌+◌, ◌<◌, IfSome};
+ghost use Rattle.table.specs.Words.{place_count};
+ghost use Rattle.table.specs.Table.{table_of};
 ghost use Rattle.table.specs.Promise.{Promise};
 ghost use Rattle.definition.specs.Value.{same_identifier};
+ghost use Rattle.table.specs.Columns.{maybe_of};
 ghost use Rattle.values.specs.Met.{Flattens, Flattened};
 
-use crate::result::{NONE, ValueResult};
+use crate::result::ValueBlockResult;
 use crate::rows::{INSTR, SEQ, UNDEF, put};
 use table::columns::Span;
 use table::words::place_word;
 
 // Whether a value loads a place that has the identifier of `place`. Identifiers are compared, not places.
-fn loads_same_identifier(words: &[u32], place: u32, loaded: u32) -> bool
+fn loads_same_identifier(words: &[u32], place: u32, loaded: Option<u32>) -> bool
     requires promise { Promise words.now }
     requires place_bound { place < place_count words.now }
-    requires loaded_bound { (loaded ≡ largest → ⊥) → loaded < place_count words.now }
-    ensures { result ≡ same_identifier (table_of words.now) place (unless_none loaded) }
+    requires loaded_bound { IfSome loaded (λ p. p < place_count words.now) }
+    ensures { result ≡ same_identifier (table_of words.now) place (maybe_of loaded) }
 {
-    if loaded == NONE {
-        return false;
+    match loaded {
+        None => false,
+        Some(loaded) => place_word(words, loaded) == place_word(words, place),
     }
-    let loaded_identifier = place_word(words, loaded);
-    let own_identifier = place_word(words, place);
-    loaded_identifier == own_identifier
 }
 
 // The Rust's value_block_result_to_sequence, for a value whose rows are the last in the buffer. It takes back the closing SEQ rows. It takes
@@ -32,7 +31,7 @@ fn loads_same_identifier(words: &[u32], place: u32, loaded: u32) -> bool
 pub fn value_block_result_to_sequence(
     words: &[u32],
     buffer: &mut [u32],
-    res: ValueResult,
+    res: ValueBlockResult,
     span: Span,
 ) -> u32
     requires { Flattens words.now res }

@@ -3,273 +3,137 @@
 // number of each vector that differs, then how many there are, how many differ, and how many bytes are left.
 #![tactic(auto)]
 
-ghost use Rattle.std.specs.Prelude.{◌≤◌, ◌<◌, ◌≡◌, length};
-
 use build::build_reactive_function;
-use program::read_input;
+use program::read_part;
 use std::fs::File;
 use std::io;
+use text::lent::zeros;
 use walk::Outcome;
 
-// A number, and where the next one begins.
-#[derive(Clone, Copy)]
-struct Number {
-    value: u32,
-    next: usize,
+// The bytes that are left.
+#[derive(Drop)]
+struct Reader<'a> {
+    rest: &'a [u8],
 }
 
-// Whether a vector came out as it should, and where the next one begins.
-#[derive(Clone, Copy)]
-struct Replayed {
-    same: bool,
-    next: usize,
-}
-
-// A byte; 0 past the end.
-fn byte_at(bytes: &[u8], at: usize) -> u32
-    ensures { result < 256 }
-{
-    if at < bytes.len() { wide(bytes[at]) } else { 0 }
-}
-
-fn wide(byte: u8) -> u32
-    ensures { result < 256 }
-{
-    byte as u32
-}
-
-// Reads a number: groups of seven bits, the lowest first, at most five.
-fn number_at(bytes: &[u8], at: usize) -> Number {
-    if 1000000 < at {
-        return Number { value: 0, next: at };
-    }
-    let a = byte_at(bytes, at);
-    if a < 128 {
-        return Number {
-            value: a,
-            next: at + 1,
-        };
-    }
-    let b = byte_at(bytes, at + 1);
-    if b < 128 {
-        return Number {
-            value: a - 128 + b * 128,
-            next: at + 2,
-        };
-    }
-    let c = byte_at(bytes, at + 2);
-    if c < 128 {
-        return Number {
-            value: a - 128 + (b - 128) * 128 + c * 16384,
-            next: at + 3,
-        };
-    }
-    let d = byte_at(bytes, at + 3);
-    if d < 128 {
-        return Number {
-            value: a - 128 + (b - 128) * 128 + (c - 128) * 16384 + d * 2097152,
-            next: at + 4,
-        };
-    }
-    let e = byte_at(bytes, at + 4) % 16;
-    Number {
-        value: a - 128 + (b - 128) * 128 + (c - 128) * 16384 + (d - 128) * 2097152 + e * 268435456,
-        next: at + 5,
-    }
-}
-
-// A number if there is one more, else 0.
-fn word_at(bytes: &[u8], at: usize, more: bool) -> Number {
-    if more {
-        return number_at(bytes, at);
-    }
-    Number { value: 0, next: at }
-}
-
-// Reads `count` numbers into the words, and clears the words after them. Gives where the next number begins.
-fn read_words(bytes: &[u8], start: usize, count: u32, words: &mut [u32; 16384]) -> usize {
-    let mut at = start;
-    let mut i: usize = 0;
-    while i < 16384 {
-        let word = word_at(bytes, at, i < count as usize);
-        words[i] = word.value;
-        at = word.next;
-        i += 1;
-    }
-    at
-}
-
-fn soil(words: &mut [u32; 16384]) {
-    let mut i: usize = 0;
-    while i < 16384 {
-        words[i] = 7;
-        i += 1;
-    }
-}
-
-// Whether the first `count` words are the same.
-fn same_words(left: &[u32; 16384], right: &[u32; 16384], count: u32) -> bool {
-    let mut i: usize = 0;
-    while i < count as usize {
-        if 16384 <= i {
-            return false;
+impl<'a> Reader<'a> {
+    // A byte; 0 past the end.
+    fn byte(&mut self) -> u8 {
+        match self.rest.split_first() {
+            Some((byte, rest)) => {
+                self.rest = rest;
+                *byte
+            }
+            None => 0,
         }
-        if left[i] != right[i] {
-            return false;
+    }
+
+    // A number: groups of seven bits, the lowest first, at most five.
+    fn number(&mut self) -> u32 {
+        let mut value = 0;
+        for group in 0u32..5 {
+            let byte = self.byte() as u32;
+            value |= (byte % 128) << (group * 7);
+            if byte < 128 {
+                break;
+            }
         }
-        i += 1;
+        value
     }
-    true
-}
 
-// The number of words, at most the length.
-fn within(count: u32, length: usize) -> usize
-    ensures { result ≤ length }
-{
-    if (count as usize) < length {
-        count as usize
-    } else {
-        length
+    // Reads `count` numbers into the words, as far as there are places for them, and clears the words after them.
+    fn words(&mut self, count: u32, words: &mut [u32]) {
+        words.fill(0);
+        for word in words.iter_mut().take(count as usize) {
+            *word = self.number();
+        }
     }
 }
 
-// An index with room for the lines of any table (M-101): the Rust has none to compare.
-fn lent_lines() -> [u32; 3072]
-    ensures { 3072 ≡ length result }
-{
-    [7; 3072]
+// What the Rust answers.
+#[derive(Clone, Copy)]
+struct Answer {
+    code: u32,
+    at: u32,
+    rows: u32,
+    visits: u32,
 }
 
-// Builds the table in the first `count` words, with `lent` words lent.
+impl Answer {
+    fn is(&self, got: &Outcome) -> bool {
+        got.code == self.code
+            && got.at == self.at
+            && got.rows == self.rows
+            && got.visits == self.visits
+    }
+
+    // The number of words that the rows take: 0 where the build refuses.
+    fn held(&self) -> u32 {
+        if self.code == 0 {
+            self.rows.saturating_mul(6)
+        } else {
+            0
+        }
+    }
+}
+
+// Builds the table in the first `count` words, with `lent` words lent. The index has room for the lines of any table (M-101): the Rust has none to compare.
 fn build_part(words: &[u32], count: u32, tree: &mut [u32], lent: u32) -> Outcome {
-    let end = within(count, words.len());
-    let room = within(lent, tree.len());
-    let mut index = lent_lines();
+    let end = words.len().min(count as usize);
+    let room = tree.len().min(lent as usize);
+    let mut index = zeros::<u32, 3072>();
+    index.fill(7);
     build_reactive_function(&words[..end], &mut tree[..room], &mut index)
 }
 
-// The number of words that the rows take: 0 where the build refuses.
-fn held(code: u32, rows: u32) -> u32 {
-    if code != 0 {
-        return 0;
-    }
-    if 100000 < rows {
-        return 600000;
-    }
-    rows * 6
+// Whether the first `count` words are the same.
+fn same_words(left: &[u32], right: &[u32], count: u32) -> bool {
+    let count = count as usize;
+    count <= left.len() && count <= right.len() && left[..count] == right[..count]
 }
 
-fn same_outcome(got: Outcome, code: u32, at: u32, rows: u32, visits: u32) -> bool {
-    if got.code != code {
-        return false;
-    }
-    if got.at != at {
-        return false;
-    }
-    if got.rows != rows {
-        return false;
-    }
-    got.visits == visits
-}
-
+// Whether the next vector comes out as it should.
 fn replay(
-    bytes: &[u8],
-    start: usize,
-    words: &mut [u32; 16384],
-    tree: &mut [u32; 16384],
-    expected: &mut [u32; 16384],
-) -> Replayed {
-    let count = number_at(bytes, start);
-    let after = read_words(bytes, count.next, count.value, words);
-    let lent = number_at(bytes, after);
-    let code = number_at(bytes, lent.next);
-    let at = number_at(bytes, code.next);
-    let rows = number_at(bytes, at.next);
-    let visits = number_at(bytes, rows.next);
-    let next = read_words(bytes, visits.next, held(code.value, rows.value), expected);
-    soil(tree);
-    let got = build_part(words, count.value, tree, lent.value);
-    let same = same_outcome(got, code.value, at.value, rows.value, visits.value);
-    if !same {
-        return Replayed {
-            same: false,
-            next: next,
-        };
-    }
-    Replayed {
-        same: same_words(tree, expected, lent.value),
-        next: next,
-    }
+    reader: &mut Reader<'_>,
+    words: &mut [u32],
+    tree: &mut [u32],
+    expected: &mut [u32],
+) -> bool {
+    let count = reader.number();
+    reader.words(count, words);
+    let lent = reader.number();
+    let answer = Answer {
+        code: reader.number(),
+        at: reader.number(),
+        rows: reader.number(),
+        visits: reader.number(),
+    };
+    reader.words(answer.held(), expected);
+    tree.fill(7);
+    let got = build_part(words, count, tree, lent);
+    answer.is(&got) && same_words(tree, expected, lent)
 }
 
-// The number of differences, this vector's included. A vector that differs is printed.
-fn counted(rt: &impl Print, differences: u32, number: u32, same: bool) -> io::Result<u32> {
-    if same {
-        return Ok(differences);
-    }
-    println!(rt; "differs: {number}")?;
-    if differences < 4000000000 {
-        return Ok(differences + 1);
-    }
-    Ok(differences)
-}
-
-fn print_counts(
-    rt: &impl Print,
-    vectors: u32,
-    differences: u32,
-    length: usize,
-    at: usize,
-) -> io::Result<()> {
-    let left = if length < at { 0 } else { length - at };
-    println!(rt; "{vectors} vectors, {differences} differences, {left} bytes left")
-}
-
-fn replay_all(
-    rt: &impl Print,
-    bytes: &[u8],
-    words: &mut [u32; 16384],
-    tree: &mut [u32; 16384],
-    expected: &mut [u32; 16384],
-) -> io::Result<()> {
-    let count = number_at(bytes, 0);
-    let mut at = count.next;
+fn replay_all(rt: &impl Print, bytes: &[u8]) -> io::Result<()> {
+    let mut words = zeros::<u32, 16384>();
+    let mut tree = zeros::<u32, 16384>();
+    let mut expected = zeros::<u32, 16384>();
+    let mut reader = Reader { rest: bytes };
+    let vectors = reader.number();
     let mut differences: u32 = 0;
-    let mut i: u32 = 0;
-    while i < count.value {
-        let replayed = replay(bytes, at, words, tree, expected);
-        differences = counted(rt, differences, i, replayed.same)?;
-        at = replayed.next;
-        i += 1;
+    for number in 0..vectors {
+        if !replay(&mut reader, &mut words, &mut tree, &mut expected) {
+            println!(rt; "differs: {number}")?;
+            differences = differences.saturating_add(1);
+        }
     }
-    print_counts(rt, i, differences, bytes.len(), at)
-}
-
-// Each array comes from a function whose contract tells its length alone: a proof that sees the zeros would count them.
-fn file_bytes() -> [u8; 700000]
-    ensures { 700000 ≡ length result }
-{
-    [0; 700000]
-}
-
-fn no_words() -> [u32; 16384]
-    ensures { 16384 ≡ length result }
-{
-    [0; 16384]
+    let left = reader.rest.len();
+    println!(rt; "{vectors} vectors, {differences} differences, {left} bytes left")
 }
 
 fn main(rt: HostRuntime) -> io::Result<()> {
     let mut opened = File::open(&rt, "vectors.bin")?;
-    let mut bytes = file_bytes();
-    let input = read_input(&mut opened, &mut bytes);
-    let mut words = no_words();
-    let mut tree = no_words();
-    let mut expected = no_words();
-    replay_all(
-        &rt,
-        &bytes[..input.count],
-        &mut words,
-        &mut tree,
-        &mut expected,
-    )
+    let mut bytes = zeros::<u8, 700000>();
+    let count = read_part(&mut opened, &mut bytes);
+    replay_all(&rt, &bytes[..count])
 }

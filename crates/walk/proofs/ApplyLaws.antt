@@ -1,12 +1,12 @@
 -- A plan, applied to the Context: what it asks, and what it does to the definition's Context. For the loop of the walk.
+use Rattle.std.specs.Prelude.{None, Some}
+use Rattle.std.specs.Prelude as std
 use Prim.Native.Nat.{ℕ, ◌-◌, ◌<◌}
 use native.Mathlib.Omega.{arith}
 use mathlib.Core.Path.{◌≡◌, refl, sym, ap, ◌∙◌, subst}
 use mathlib.Core.Bool.{Bool, true, false}
 use mathlib.Core.Option.{Option, none, some}
 use lib.ListN.{length, get_or, set, length-set}
-use lib.Dec.{eqb}
-use borrow.Author.Tests.{eq-eqb, ne_eqb}
 use Rattle.table.specs.Table.{unless_none}
 use Rattle.table.proofs.BlockLaws.{no_number, some_number}
 use Rattle.definition.specs.Context.{Flags, add, emit, remove, block_asked, scheduled_by, schedule_catch_handler, mark_scope_fallthrough, unscheduled_by}
@@ -16,12 +16,14 @@ use Rattle.definition.specs.Result.{ok, refused}
 use Rattle.control.specs.declared.ControlFlowTarget as code
 use Rattle.control.specs.declared.Context.{Context}
 use Rattle.control.specs.declared.Entry.{Entry}
-use Rattle.control.specs.Abstraction.{target_of, no_entry, context_of, entered_of, result_of, stored}
+use Rattle.control.specs.declared.Blocked as control
+use Rattle.control.specs.declared.Blocked.TheVariants as reason
+use Rattle.control.specs.Abstraction.{target_of, no_entry, context_of, blocked_number, result_by, stored}
 use Rattle.control.specs.Contract.{Named, Room, Bounded, Last, Scheduled, Unscheduled}
 use Rattle.control.proofs.ContextLaws.{stores}
 use Rattle.machine.specs.Framed.{Below}
 use Rattle.statements.specs.declared.plan.Change.{Change}
-use Rattle.statements.specs.declared.plan.Change.TheVariants.{Nothing, Schedule, Unschedule}
+use Rattle.statements.specs.declared.plan.Change.TheVariants.{Schedule, Unschedule}
 use Rattle.statements.specs.declared.plan.Plan.{Plan}
 use Rattle.statements.specs.Plans.{changed, handled, scoped}
 use Rattle.walk.specs.Driver.{marked}
@@ -63,10 +65,10 @@ pub marks_as : (visited handler fallthrough asked : ℕ) (cx : Context) (emitted
 marks_as visited handler fallthrough asked cx emitted handlers scopes v e h f = rw (e, h, f, v) refl
 
 -- what a change asks of the Context
-abbrev pub Changeable : Change → Context → Type 0
-Changeable Nothing cx = Unit {0}
-Changeable (Schedule target) cx = Named target × Room cx
-Changeable Unschedule cx = 0 < cx.len
+abbrev pub Changeable : std.Option Change → Context → Type 0
+Changeable None cx = Unit {0}
+Changeable (Some (Schedule target)) cx = Named target × Room cx
+Changeable (Some Unschedule) cx = 0 < cx.len
 
 -- what the walk carries along: the stack's bound, the blocks of its entries, and the arrays' lengths
 pub record Whole (cx : Context) : Type 0 where
@@ -74,12 +76,12 @@ pub record Whole (cx : Context) : Type 0 where
   pub wide : length cx.scheduled ≡ 1024
   pub tall : length cx.stack ≡ 1152
 
-pub record Changed (change : Change) (cx r : Context) : Type 0 where
+pub record Changed (change : std.Option Change) (cx r : Context) : Type 0 where
   pub context : (visits : ℕ) → changed change (context_of visits cx) ≡ ok (context_of visits r)
   pub whole : Whole r
 
 -- a change that `schedule` refuses
-pub record Blocked (change : Change) (cx : Context) (code at : ℕ) : Type 0 where
+pub record Blocked (change : std.Option Change) (cx : Context) (code at : ℕ) : Type 0 where
   pub context : (visits : ℕ) → changed change (context_of visits cx) ≡ refused code at visits
   pub refuses : code ≡ 0 → ⊥
 
@@ -96,7 +98,7 @@ pub record Applied (visited : ℕ) (plan : Plan) (cx r : Context) : Type 0 where
 
 -- ---- the stack
 
-pub nothing_changed : (cx : Context) → Whole cx → Changed Nothing cx cx
+pub nothing_changed : (cx : Context) → Whole cx → Changed None cx cx
 nothing_changed cx w = record { context = λ visits. refl; whole = w }
 
 length_scheduled : (target : ControlFlowTarget) (flags : Flags) → length (scheduled_by target flags) ≡ length flags
@@ -106,27 +108,28 @@ length_scheduled (target_switch b) s = length-set s b true
 length_scheduled (target_case b) s = length-set s b true
 length_scheduled (target_loop b c l) s = length-set (set (set s b true) c true) l true ∙ length-set (set s b true) c true ∙ length-set s b true
 
+-- no refusal of `schedule` has the number 0
+refuses : (reason : control.Blocked) → blocked_number reason ≡ 0 → ⊥
+refuses reason.ContinueBlock e = omega (arith, e)
+refuses reason.Block e = omega (arith, e)
+
 -- whether the target that went on is refused, as `schedule` tells
 module _ (target : code.ControlFlowTarget) (cx r : Context) (h : Scheduled target cx r) (w : Whole cx) where
-  result_by : (visits : ℕ) (y : Bool) → eqb r.refused 0 ≡ y
-      → result_of visits r ≡ elim y [ true ↦ ok (entered_of visits r) | false ↦ refused r.refused (block_asked (target_of r.pushed.target)) visits ]
-  result_by visits y e = ap (λ (z : Bool). elim z [ true ↦ ok (entered_of visits r) | false ↦ refused r.refused (block_asked (target_of r.pushed.target)) visits ]) e
-
   asked_of : block_asked (target_of r.pushed.target) ≡ block_asked (target_of target)
   asked_of = ap (λ (z : Context). block_asked (target_of z.pushed.target)) h.state
 
-  pub schedule_blocked : (r.refused ≡ 0 → ⊥) → Blocked (Schedule target) cx r.refused (block_asked (target_of target))
-  schedule_blocked b = record {
-    context = λ visits. h.context visits ∙ result_by visits false (ne_eqb r.refused 0 b) ∙ ap (λ (at : ℕ). refused r.refused at visits) asked_of;
-    refuses = b;
+  pub schedule_blocked : {reason : control.Blocked} → r.refused ≡ Some reason → Blocked (Some (Schedule target)) cx (blocked_number reason) (block_asked (target_of target))
+  schedule_blocked {reason} b = record {
+    context = λ visits. h.context visits ∙ ap (λ (o : std.Option control.Blocked). result_by o visits r) b ∙ ap (λ (at : ℕ). refused (blocked_number reason) at visits) asked_of;
+    refuses = refuses reason;
   }
 
   long : length r.stack ≡ 1152
   long = ap (λ (z : Context). length z.stack) h.state ∙ w.tall
 
-  pub schedule_changed : r.refused ≡ 0 → cx.len < 1152 → Changed (Schedule target) cx (stored r)
+  pub schedule_changed : r.refused ≡ None → cx.len < 1152 → Changed (Some (Schedule target)) cx (stored r)
   schedule_changed b small = record {
-    context = λ visits. h.context visits ∙ result_by visits true (eq-eqb r.refused 0 b) ∙ ap ok (sym (stores visits r (omega (arith, h.len)) (omega (arith, h.len, long))));
+    context = λ visits. h.context visits ∙ ap (λ (o : std.Option control.Blocked). result_by o visits r) b ∙ ap ok (sym (stores visits r (omega (arith, h.len)) (omega (arith, h.len, long))));
     whole = unfold stored in record {
       bounded = h.bounded w.bounded;
       wide = ap (λ (z : Context). length z.scheduled) h.state ∙ length_scheduled (target_of target) cx.scheduled ∙ w.wide;
@@ -142,7 +145,7 @@ length_removed (target_case b) o s = length-set s b false
 length_removed (target_loop b c l) false s = length-set (set s b false) c false ∙ length-set s b false
 length_removed (target_loop b c l) true s = length-set (set (set s b false) c false) l false ∙ length-set (set s b false) c false ∙ length-set s b false
 
-pub unschedule_changed : (last : Entry) (cx r : Context) → Unscheduled last cx r → Whole cx → Changed Unschedule cx r
+pub unschedule_changed : (last : Entry) (cx r : Context) → Unscheduled last cx r → Whole cx → Changed (Some Unschedule) cx r
 unschedule_changed last cx r h w = record {
   context = λ visits. ap ok (sym (h.pops visits));
   whole = record {
@@ -179,10 +182,10 @@ pub marks : (visited handler fallthrough : ℕ) (cx : Context) (visits : ℕ)
     → context_of visits (with_marks visited handler fallthrough cx) ≡ scoped (unless_none fallthrough) (handled (unless_none handler) (emitted (unless_none visited) (context_of visits cx)))
 marks visited handler fallthrough cx visits = marks_by (unless_none visited) (unless_none handler) (unless_none fallthrough) cx visits
 
-pub changeable_marked : (change : Change) (visited handler fallthrough : ℕ) (cx : Context) → Changeable change cx → Changeable change (with_marks visited handler fallthrough cx)
-changeable_marked Nothing visited handler fallthrough cx h = tt
-changeable_marked (Schedule target) visited handler fallthrough cx (n, r) = (n, record { len = r.len; id = r.id })
-changeable_marked Unschedule visited handler fallthrough cx h = h
+pub changeable_marked : (change : std.Option Change) (visited handler fallthrough : ℕ) (cx : Context) → Changeable change cx → Changeable change (with_marks visited handler fallthrough cx)
+changeable_marked None visited handler fallthrough cx h = tt
+changeable_marked (Some (Schedule target)) visited handler fallthrough cx (n, r) = (n, record { len = r.len; id = r.id })
+changeable_marked (Some Unschedule) visited handler fallthrough cx h = h
 
 pub plan_applied : (visited : ℕ) (plan : Plan) (cx m r : Context) → m ≡ with_marks visited plan.handler plan.scope cx → Changed plan.change m r → Applied visited plan cx r
 plan_applied visited plan cx m r e h = record { context = λ visits. ap (λ (z : Context). changed plan.change (context_of visits z)) (sym e) ∙ h.context visits; whole = h.whole }

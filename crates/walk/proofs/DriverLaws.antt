@@ -1,4 +1,6 @@
 -- The loop of the walk: what a turn needs, and what it leaves.
+use Rattle.std.specs.Prelude.{None, Some, Ok, Err}
+use Rattle.std.specs.Prelude as std
 use Prim.Native.Nat.{ℕ, zero, suc, ◌+◌, ◌-◌, ◌≤◌, ◌<◌}
 use native.Mathlib.Omega.{arith}
 use mathlib.Core.Path.{◌≡◌, refl, sym, ap, ◌∙◌, subst}
@@ -8,7 +10,7 @@ use mathlib.Core.Option.{Option, none, some}
 use lib.Dec.{eqb}
 use lib.ListN.{length, drop, get_or, set, length-set, length-replicate}
 use lib.Seq.{get_or-set_same, get_or-set_other}
-use borrow.Author.Tests.{eq-eqb, ne_eqb, eqb-true, eqb-false}
+use borrow.Author.Tests.{eqb-true, eqb-false}
 use Rattle.table.specs.Words.{block_count, entry_word}
 use Rattle.table.specs.Promise.{Promise}
 use Rattle.table.specs.Table.{Table, table_of, terminal_at, unless_none}
@@ -29,11 +31,10 @@ use Rattle.machine.proofs.Invariant.{Checked, Sound, Going, going_start, going_s
 use Rattle.definition.proofs.Flags.{marks_below}
 use Rattle.machine.proofs.Invariant as invariant
 use Rattle.control.specs.declared.Context.{Context}
-use Rattle.control.specs.declared.Resolved.{Resolved}
-use Rattle.control.specs.declared.around.Aim.{Aim}
+use Rattle.control.specs.declared.Resolution as resolved
+use Rattle.control.specs.declared.around.Goal as code
 use Rattle.control.specs.AroundAbstraction.{aim_of, FoundBelow}
 use Rattle.control.specs.declared.Entry.{Entry}
-use Rattle.control.specs.declared.Resolved.TheVariants as resolved
 use Rattle.control.specs.Abstraction.{context_of, resolved_of, resolution_of, target_of, stack_of, no_entry}
 use Rattle.control.specs.Contract.{Named, Room, Created}
 use Rattle.definition.proofs.Flags.{length_none}
@@ -46,8 +47,12 @@ use Rattle.statements.specs.declared.plan.Stage.TheVariants.{Visit, Ended, Choos
 use Rattle.statements.specs.declared.plan.Position.{Position}
 use Rattle.statements.specs.declared.plan.Frame.{Frame}
 use Rattle.statements.specs.declared.plan.Change.{Change}
-use Rattle.statements.specs.declared.plan.Change.TheVariants.{Nothing, Schedule, Unschedule}
+use Rattle.statements.specs.declared.plan.Change.TheVariants.{Schedule, Unschedule}
 use Rattle.statements.specs.declared.plan.Plan.{Plan}
+use Rattle.statements.specs.declared.refusal.Refused.{Refused}
+use Rattle.statements.specs.Refusal.{refusal_code, refusal_place}
+use Rattle.statements.proofs.RefusalLaws.{numbered as refused_number}
+use Rattle.statements.proofs.PlanLaws.{refused_applied}
 use Rattle.statements.specs.declared.search.Jump.{Jump}
 use Rattle.statements.specs.declared.search.Jump.TheVariants as search
 use Rattle.statements.specs.Plans.{frame_of, no_frame, frames_of, state_at, changed, handled, scoped, within, kept, context_after, onward, lined, applied}
@@ -259,7 +264,7 @@ unfolding context_of definition.start
 scheduled_start cx e = ap (λ (C : definition.Context). length C.scheduled) e ∙ length_none
 
 -- where the jump goes
-pub found_jump : (rule : Rule) (w : List ℕ) (cx : Context) (A : List Frame) (p : Position) (jump : Jump) (aim : Aim)
+pub found_jump : (rule : Rule) (w : List ℕ) (cx : Context) (A : List Frame) (p : Position) (jump : std.Option Jump) (aim : std.Option code.Goal)
     → (p.stage ≡ Visit → Searches w cx.scheduled cx.catch_handlers p.block jump)
     → ((visits : ℕ) → aim_of aim ≡ goal_by jump (around_of rule (table_of w) (frames_of A p.depth)) (found_by jump (context_of visits cx)))
     → p.stage ≡ Visit → Resolves (terminal_at (table_of w) p.block) (around_of rule (table_of w) (frames_of A p.depth)) (context_of p.visits cx) (aim_of aim)
@@ -316,12 +321,12 @@ continue_below entries (suc n) b top above named r e =
         (arith, t, named_block (get_or entries n no_entry).target (named n (omega arith)))
     at false h again = again false (definition.loops_of (target_of (get_or entries n no_entry).target) + above) h
 
-pub found_below : (cx : Context) (jump : Jump) (found : Resolved) → Whole cx → ((visits : ℕ) → resolved_of found ≡ found_by jump (context_of visits cx)) → FoundBelow found
+pub found_below : (cx : Context) (jump : std.Option Jump) (found : std.Option resolved.Resolution) → Whole cx → ((visits : ℕ) → resolved_of found ≡ found_by jump (context_of visits cx)) → FoundBelow found
 unfolding context_of definition.get_break_target definition.get_continue_target
-found_below cx jump resolved.Nothing h e = tt
-found_below cx search.Nothing (resolved.Found r) h e = absurd (none_some (sym (e 0)))
-found_below cx (search.Break b) (resolved.Found r) h e = break_below cx.stack cx.len b true 0 h.bounded.named (resolution_of r) (sym (e 0))
-found_below cx (search.Continue b) (resolved.Found r) h e = continue_below cx.stack cx.len b true 0 h.bounded.named (resolution_of r) (sym (e 0))
+found_below cx jump None h e = tt
+found_below cx None (Some r) h e = absurd (none_some (sym (e 0)))
+found_below cx (Some (search.Break b)) (Some r) h e = break_below cx.stack cx.len b true 0 h.bounded.named (resolution_of r) (sym (e 0))
+found_below cx (Some (search.Continue b)) (Some r) h e = continue_below cx.stack cx.len b true 0 h.bounded.named (resolution_of r) (sym (e 0))
 
 module _ (rule : Rule) (w : List ℕ) (pr : Promise w) (ck : Checked (table_of w)) where
   -- where the loop begins
@@ -420,10 +425,8 @@ module _ (rule : Rule) (w : List ℕ) (pr : Promise w) (ck : Checked (table_of w
     abbrev pub inside : Around
     inside = around_of rule (table_of w) (frames_of A p.depth)
 
-    module _ (f : Frame) (read : f ≡ get_or A (p.depth - 1) no_frame) (aim : Aim) (buffer' : Lent) (plan : Plan)
-        (T : PlannedTurn w inside (Shown w cx.emitted cx.scheduled cx.catch_handlers cx.scope_fallthroughs p aim inside) p f buffer.tree plan buffer'.tree)
-        (put : LinePut buffer.index buffer.lines plan.line plan.position.rows buffer'.index buffer'.lines)
-        (J : p.stage ≡ Visit → Resolves (terminal_at (table_of w) p.block) inside C (aim_of aim)) where
+    module _ (f : Frame) (read : f ≡ get_or A (p.depth - 1) no_frame) (aim : std.Option code.Goal)
+        (J : p.stage ≡ Visit → Resolves (terminal_at (table_of w) p.block) inside C (aim_of aim)) (tree' : List ℕ) where
       shown : Shown w cx.emitted cx.scheduled cx.catch_handlers cx.scope_fallthroughs p aim inside C
       unfolding context_of
       shown = record { emitted = refl; scheduled = refl; handlers = refl; scopes = refl; visits = refl; wide = I.whole.wide; jump = J }
@@ -431,6 +434,29 @@ module _ (rule : Rule) (w : List ℕ) (pr : Promise w) (ck : Checked (table_of w
       together : in_hand p.stage p.depth f ++ rest_of A p.stage p.depth ≡ frames_of A p.depth
       together = in_hand_lem A p.stage p.depth f read
 
+      abbrev Turned : std.Result Plan Refused → Type 0
+      Turned planned = PlannedTurn w inside (Shown w cx.emitted cx.scheduled cx.catch_handlers cx.scope_fallthroughs p aim inside) p f buffer.tree planned tree'
+
+      taken : (planned : std.Result Plan Refused) (T : Turned planned)
+          → step rule (table_of w) (state_of p A I.out cx) ≡ applied planned (frames_of A p.depth) (I.out ⊕ T.out) (emitting p.stage p.block C)
+      taken planned T =
+          subst (λ (F : List machine.Frame). step rule (table_of w) (state_at p.stage p.block F I.out p.count C) ≡ applied planned F (I.out ⊕ T.out)
+          (emitting p.stage p.block C)) together
+          (T.same (rest_of A p.stage p.depth) I.out C (record { deep = ap length together ∙ frames_length A p.depth; many = row_count }) (ap (enclosings (table_of w)) together) shown)
+
+      -- a refusal
+      module _ (e : Refused) (T : Turned (Err e)) where
+        refused_report : report rule (table_of w) ≡ rejected (refusal_code e.refusal) (refusal_place e.refusal) e.visits
+        refused_report = going_halt rule (table_of w) (state_of p A I.out cx) _ I.going (taken (Err e) T ∙ refused_applied e _ _ _)
+
+        pub refused_reported : (index : List ℕ) (lines : ℕ) → Reported (report rule (table_of w)) (walked_by (Err e) lines) tree' index
+        refused_reported index lines = subst (λ (a : Report). Reported a (walked_by (Err e) lines) tree' index) (sym refused_report) (refl, refused_number e.refusal, refl, refl)
+
+    -- a plan
+    module _ (f : Frame) (read : f ≡ get_or A (p.depth - 1) no_frame) (aim : std.Option code.Goal) (buffer' : Lent) (plan : Plan)
+        (T : PlannedTurn w inside (Shown w cx.emitted cx.scheduled cx.catch_handlers cx.scope_fallthroughs p aim inside) p f buffer.tree (Ok plan) buffer'.tree)
+        (put : LinePut buffer.index buffer.lines plan.line plan.position.rows buffer'.index buffer'.lines)
+        (J : p.stage ≡ Visit → Resolves (terminal_at (table_of w) p.block) inside C (aim_of aim)) where
       -- what the plan's rows and its line leave
       between : Output
       between = I.out ⊕ T.out
@@ -441,282 +467,266 @@ module _ (rule : Rule) (w : List ℕ) (pr : Promise w) (ck : Checked (table_of w
       entering : definition.Context
       entering = emitting p.stage p.block C
 
-      stepped : step rule (table_of w) (state_of p A I.out cx) ≡ applied plan (frames_of A p.depth) between entering
+      stepped : step rule (table_of w) (state_of p A I.out cx) ≡ applied (Ok plan) (frames_of A p.depth) between entering
       unfolding between entering
-      stepped =
-          subst (λ (F : List machine.Frame). step rule (table_of w) (state_at p.stage p.block F I.out p.count C) ≡ applied plan F (I.out ⊕ T.out)
-          (emitting p.stage p.block C)) together
-          (T.same (rest_of A p.stage p.depth) I.out C (record { deep = ap length together ∙ frames_length A p.depth; many = row_count }) (ap (enclosings (table_of w)) together) shown)
+      stepped = taken f read aim J buffer'.tree (Ok plan) T
 
-      -- a refusal
-      refused_report : (plan.code ≡ 0 → ⊥) → report rule (table_of w) ≡ rejected plan.code plan.at plan.position.visits
-      unfolding applied
-      refused_report z = going_halt rule (table_of w) (state_of p A I.out cx) _ I.going (stepped ∙ rw (ne_eqb plan.code 0 z, applied))
+      ahead : applied (Ok plan) (frames_of A p.depth) between entering ≡ onward plan.position.stage plan (frames_of A p.depth) after (context_after plan entering)
+      unfolding applied after
+      ahead = refl
 
-      refused_reported : (plan.code ≡ 0 → ⊥) → Reported (report rule (table_of w)) (walked_by plan buffer'.lines) buffer'.tree buffer'.index
-      refused_reported z = subst (λ (a : Report). Reported a (walked_by plan buffer'.lines) buffer'.tree buffer'.index) (sym (refused_report z)) (refl, z, refl, refl)
+      fit : Fitting (in_hand p.stage p.depth f) p.depth plan
+      fit = T.fitting
 
-      module _ (fine : plan.code ≡ 0) where
-        ahead : applied plan (frames_of A p.depth) between entering ≡ onward plan.position.stage plan (frames_of A p.depth) after (context_after plan entering)
-        unfolding applied after
-        ahead = rw (eq-eqb plan.code 0 fine, applied)
+      rows_held : Holds buffer'.tree plan.position.rows (pushed after.rows [])
+      unfolding after between
+      rows_held = rw (lined_rows plan.line plan.position.rows between) (T.held I.out.rows I.held)
 
-        fit : Fitting (in_hand p.stage p.depth f) p.depth plan
-        fit = T.fitting fine
+      lines_held : HoldsLines buffer'.index buffer'.lines after.lines
+      unfolding after between
+      lines_held = rw (lined_lines plan.line plan.position.rows between) (put.held I.out.lines I.indexed)
 
-        rows_held : Holds buffer'.tree plan.position.rows (pushed after.rows [])
-        unfolding after between
-        rows_held = rw (lined_rows plan.line plan.position.rows between) (T.held fine I.out.rows I.held)
+      -- the end
+      accepted_report : is_halt plan.position.stage ≡ true → report rule (table_of w) ≡ accepted after.rows after.lines plan.position.visits
+      accepted_report z = going_halt rule (table_of w) (state_of p A I.out cx) _ I.going (stepped ∙ ahead ∙ at plan.position.stage z)
+        where
+          at : (s : Stage) → is_halt s ≡ true → onward s plan (frames_of A p.depth) after (context_after plan entering) ≡ halt (accepted after.rows after.lines plan.position.visits)
+          at Visit e = absurd (true_false (sym e))
+          at Ended e = absurd (true_false (sym e))
+          at Choose e = absurd (true_false (sym e))
+          at Pop e = absurd (true_false (sym e))
+          at Values e = absurd (true_false (sym e))
+          at Halt e = refl
 
-        lines_held : HoldsLines buffer'.index buffer'.lines after.lines
-        unfolding after between
-        lines_held = rw (lined_lines plan.line plan.position.rows between) (put.held I.out.lines I.indexed)
+      accepted_reported : is_halt plan.position.stage ≡ true → Reported (report rule (table_of w)) (walked_by (Ok plan) buffer'.lines) buffer'.tree buffer'.index
+      accepted_reported z = subst (λ (a : Report). Reported a (walked_by (Ok plan) buffer'.lines) buffer'.tree buffer'.index) (sym (accepted_report z)) (refl, refl, rows_held, lines_held)
 
-        -- the end
-        accepted_report : is_halt plan.position.stage ≡ true → report rule (table_of w) ≡ accepted after.rows after.lines plan.position.visits
-        accepted_report z = going_halt rule (table_of w) (state_of p A I.out cx) _ I.going (stepped ∙ ahead ∙ at plan.position.stage z)
+      -- the turn leads on
+      module _ (on : is_halt plan.position.stage ≡ false) where
+        K : List machine.Frame
+        K = kept plan.keep plan.frame plan.position.depth (frames_of A p.depth)
+
+        kept_deep : length K ≡ plan.position.depth
+        unfolding K
+        kept_deep = kept_length A p.depth plan.position.depth plan.keep plan.frame fit.deep fit.next
+
+        next_live : Live plan.position.stage plan.position.depth
+        next_live = at plan.position.stage on fit.nested
           where
-            at : (s : Stage) → is_halt s ≡ true → onward s plan (frames_of A p.depth) after (context_after plan entering) ≡ halt (accepted after.rows after.lines plan.position.visits)
-            at Visit e = absurd (true_false (sym e))
-            at Ended e = absurd (true_false (sym e))
-            at Choose e = absurd (true_false (sym e))
-            at Pop e = absurd (true_false (sym e))
-            at Values e = absurd (true_false (sym e))
-            at Halt e = refl
+            at : (s : Stage) → is_halt s ≡ false → Nested s plan.keep → Live s plan.position.depth
+            at Visit e n = tt
+            at Ended e n = tt
+            at Choose e n = fit.deep n
+            at Pop e n = fit.deep n
+            at Values e n = fit.deep n
+            at Halt e n = absurd (true_false e)
 
-        accepted_reported : is_halt plan.position.stage ≡ true → Reported (report rule (table_of w)) (walked_by plan buffer'.lines) buffer'.tree buffer'.index
-        accepted_reported z = subst (λ (a : Report). Reported a (walked_by plan buffer'.lines) buffer'.tree buffer'.index) (sym (accepted_report z)) (fine, refl, rows_held, lines_held)
+        -- ---- the Context
 
-        -- the turn leads on
-        module _ (on : is_halt plan.position.stage ≡ false) where
-          K : List machine.Frame
-          K = kept plan.keep plan.frame plan.position.depth (frames_of A p.depth)
+        abbrev pub visited : ℕ
+        visited = visited_block p.stage p.block
 
-          kept_deep : length K ≡ plan.position.depth
-          unfolding K
-          kept_deep = kept_length A p.depth plan.position.depth plan.keep plan.frame fit.deep fit.next
+        visit_same : with_visits plan.position.visits (emit p.block C) ≡ emit p.block (context_of plan.position.visits cx)
+        unfolding with_visits emit context_of
+        visit_same = refl
 
-          next_live : Live plan.position.stage plan.position.depth
-          next_live = at plan.position.stage on fit.nested
+        none_same : with_visits plan.position.visits C ≡ context_of plan.position.visits cx
+        unfolding with_visits context_of
+        none_same = refl
+
+        marked_context : context_after plan entering ≡ changed plan.change (context_of plan.position.visits (with_marks visited plan.handler plan.scope cx))
+        unfolding entering
+        marked_context = ap (λ (D : definition.Context). changed plan.change (scoped (unless_none plan.scope) (handled (unless_none plan.handler) D))) (at p.stage visit_below)
+            ∙ sym (ap (changed plan.change) (marks (visited_block p.stage p.block) plan.handler plan.scope cx plan.position.visits))
+          where
+            visit_at : (o : Option ℕ) → o ≡ some p.block → with_visits plan.position.visits (emit p.block C) ≡ emitted o (context_of plan.position.visits cx)
+            visit_at o e = visit_same ∙ ap (λ (z : Option ℕ). emitted z (context_of plan.position.visits cx)) (sym e)
+
+            none_at : (o : Option ℕ) → o ≡ none → with_visits plan.position.visits C ≡ emitted o (context_of plan.position.visits cx)
+            none_at o e = none_same ∙ ap (λ (z : Option ℕ). emitted z (context_of plan.position.visits cx)) (sym e)
+
+            at : (s : Stage) → (s ≡ Visit → p.block < block_count w)
+                → with_visits plan.position.visits (emitting s p.block C) ≡ emitted (unless_none (visited_block s p.block))
+                (context_of plan.position.visits cx)
+            at Visit h = visit_at (unless_none p.block) (some_number p.block (λ e. let z : p.block < block_count w = h refl in omega (arith, z, pr.sized.limited.blocks)))
+            at Ended h = none_at (unless_none 65535) no_number
+            at Choose h = none_at (unless_none 65535) no_number
+            at Pop h = none_at (unless_none 65535) no_number
+            at Values h = none_at (unless_none 65535) no_number
+            at Halt h = none_at (unless_none 65535) no_number
+
+        -- ---- what applying the plan asks
+
+        changeable : Changeable plan.change cx
+        unfolding context_of
+        changeable = at plan.change fit.change
+          where
+            len : length (stack_of cx.stack cx.len) ≡ cx.len
+            len = stack_length cx.stack cx.len
+
+            room : Room cx
+            room = record { len = omega (arith, len, numbered.stack); id = omega (arith, numbered.ids) }
+
+            filled : entries_on_top (in_hand p.stage p.depth f) ≤ cx.len
+            filled =
+                let z : length (stack_of cx.stack cx.len) ≡ entries_of
+                (in_hand p.stage p.depth f ++ rest_of A p.stage p.depth) = numbered.entries ∙ ap entries_of (sym (together f read aim J buffer'.tree)) in
+                omega (arith, entries_top p.stage p.depth f (rest_of A p.stage p.depth), len, z)
+
+            at : (ch : std.Option Change) → NamedChange (entries_on_top (in_hand p.stage p.depth f)) ch → Changeable ch cx
+            at None n = tt
+            at (Some (Schedule target)) n = (n, room)
+            at (Some Unschedule) n = omega (arith, n, filled)
+
+        pub applicable : Applicable visited plan cx
+        applicable = record { block = at p.stage visit_below; handler = fit.handler; scope = fit.scope; change = changeable; whole = I.whole }
+          where
+            at : (s : Stage) → (s ≡ Visit → p.block < block_count w) → Below 1024 (unless_none (visited_block s p.block))
+            at Visit h =
+                let z : p.block < block_count w = h refl in subst (λ (o : Option ℕ). Below 1024 o)
+                (sym (some_number p.block (λ e. omega (arith, z, pr.sized.limited.blocks)))) (omega (arith, z, pr.sized.limited.blocks))
+            at Ended h = subst (λ (o : Option ℕ). Below 1024 o) (sym no_number) tt
+            at Choose h = subst (λ (o : Option ℕ). Below 1024 o) (sym no_number) tt
+            at Pop h = subst (λ (o : Option ℕ). Below 1024 o) (sym no_number) tt
+            at Values h = subst (λ (o : Option ℕ). Below 1024 o) (sym no_number) tt
+            at Halt h = subst (λ (o : Option ℕ). Below 1024 o) (sym no_number) tt
+
+        pub depth_below : plan.position.depth ≤ 129
+        depth_below = at plan.keep fit.next
+          where
+            at : (keep : Bool) → plan.position.depth ≤ deepest keep p.depth → plan.position.depth ≤ 129
+            at true h = omega (arith, shallow)
+            at false h = omega (arith, shallow)
+
+        -- ---- a change that is refused
+
+        module _ (code at : ℕ) (E : Blocked plan.change (with_marks visited plan.handler plan.scope cx) code at) where
+          blocked_report : report rule (table_of w) ≡ rejected code at plan.position.visits
+          blocked_report = going_halt rule (table_of w) (state_of p A I.out cx) _ I.going
+              (stepped ∙ ahead ∙ ap (onward plan.position.stage plan (frames_of A p.depth) after) (marked_context ∙ E.context plan.position.visits) ∙ ends plan.position.stage on)
             where
-              at : (s : Stage) → is_halt s ≡ false → Nested s plan.keep → Live s plan.position.depth
-              at Visit e n = tt
-              at Ended e n = tt
-              at Choose e n = fit.deep n
-              at Pop e n = fit.deep n
-              at Values e n = fit.deep n
-              at Halt e n = absurd (true_false e)
+              ends : (s : Stage) → is_halt s ≡ false → onward s plan (frames_of A p.depth) after (refused code at plan.position.visits) ≡ halt (rejected code at plan.position.visits)
+              ends Visit e = refl
+              ends Ended e = refl
+              ends Choose e = refl
+              ends Pop e = refl
+              ends Values e = refl
+              ends Halt e = absurd (true_false e)
 
-          -- ---- the Context
+          pub blocked_reported : Reported (report rule (table_of w)) (blocked_by code at plan.position) buffer'.tree buffer'.index
+          blocked_reported = subst (λ (a : Report). Reported a (blocked_by code at plan.position) buffer'.tree buffer'.index) (sym blocked_report) (refl, E.refuses, refl, refl)
 
-          abbrev pub visited : ℕ
-          visited = visited_block p.stage p.block
+        -- ---- and the next turn
 
-          visit_same : with_visits plan.position.visits (emit p.block C) ≡ emit p.block (context_of plan.position.visits cx)
-          unfolding with_visits emit context_of
-          visit_same = refl
+        module _ (r : Context) (E : Applied visited plan cx r) where
+          abbrev pub A' : List Frame
+          A' = stored_by plan.keep plan.position.depth plan.frame A
 
-          none_same : with_visits plan.position.visits C ≡ context_of plan.position.visits cx
-          unfolding with_visits context_of
-          none_same = refl
+          next : State
+          next = state_at plan.position.stage plan.position.block K after plan.position.count (context_of plan.position.visits r)
 
-          marked_context : context_after plan entering ≡ changed plan.change (context_of plan.position.visits (with_marks visited plan.handler plan.scope cx))
-          unfolding entering
-          marked_context = ap (λ (D : definition.Context). changed plan.change (scoped (unless_none plan.scope) (handled (unless_none plan.handler) D))) (at p.stage visit_below)
-              ∙ sym (ap (changed plan.change) (marks (visited_block p.stage p.block) plan.handler plan.scope cx plan.position.visits))
+          leads : step rule (table_of w) (state_of p A I.out cx) ≡ going next
+          unfolding next K
+          leads =
+              stepped ∙ ahead ∙ ap (onward plan.position.stage plan (frames_of A p.depth) after) (marked_context ∙ E.context plan.position.visits)
+              ∙ at plan.position.stage on next_live
             where
-              visit_at : (o : Option ℕ) → o ≡ some p.block → with_visits plan.position.visits (emit p.block C) ≡ emitted o (context_of plan.position.visits cx)
-              visit_at o e = visit_same ∙ ap (λ (z : Option ℕ). emitted z (context_of plan.position.visits cx)) (sym e)
+              D : definition.Context
+              D = context_of plan.position.visits r
 
-              none_at : (o : Option ℕ) → o ≡ none → with_visits plan.position.visits C ≡ emitted o (context_of plan.position.visits cx)
-              none_at o e = none_same ∙ ap (λ (z : Option ℕ). emitted z (context_of plan.position.visits cx)) (sym e)
+              choose_same : (F : List machine.Frame) → 1 ≤ length F → state_at Choose 0 F after 0 D ≡ state_at Choose plan.position.block F after plan.position.count D
+              choose_same [] h = absurd (omega arith)
+              choose_same (g ∷ F) h = refl
 
-              at : (s : Stage) → (s ≡ Visit → p.block < block_count w)
-                  → with_visits plan.position.visits (emitting s p.block C) ≡ emitted (unless_none (visited_block s p.block))
-                  (context_of plan.position.visits cx)
-              at Visit h = visit_at (unless_none p.block) (some_number p.block (λ e. let z : p.block < block_count w = h refl in omega (arith, z, pr.sized.limited.blocks)))
-              at Ended h = none_at (unless_none 65535) no_number
-              at Choose h = none_at (unless_none 65535) no_number
-              at Pop h = none_at (unless_none 65535) no_number
-              at Values h = none_at (unless_none 65535) no_number
-              at Halt h = none_at (unless_none 65535) no_number
+              pop_same : (F : List machine.Frame) → 1 ≤ length F → state_at Pop 0 F after 0 D ≡ state_at Pop plan.position.block F after plan.position.count D
+              pop_same [] h = absurd (omega arith)
+              pop_same (g ∷ F) h = refl
 
-          -- ---- what applying the plan asks
+              values_same : (F : List machine.Frame) → 1 ≤ length F → state_at Values plan.position.block F after 0 D ≡ state_at Values plan.position.block F after plan.position.count D
+              values_same [] h = absurd (omega arith)
+              values_same (g ∷ F) h = refl
 
-          changeable : Changeable plan.change cx
-          unfolding context_of
-          changeable = at plan.change fit.change
-            where
-              len : length (stack_of cx.stack cx.len) ≡ cx.len
-              len = stack_length cx.stack cx.len
+              at : (s : Stage) → is_halt s ≡ false → Live s plan.position.depth
+                  → onward s plan (frames_of A p.depth) after (ok D) ≡ going (state_at s plan.position.block K after plan.position.count D)
+              at Visit e l = refl
+              at Ended e l = refl
+              at Choose e l = ap going (choose_same K (omega (arith, kept_deep)))
+              at Pop e l = ap going (pop_same K (omega (arith, kept_deep)))
+              at Values e l = ap going (values_same K (omega (arith, kept_deep)))
+              at Halt e l = absurd (true_false e)
 
-              room : Room cx
-              room = record { len = omega (arith, len, numbered.stack); id = omega (arith, numbered.ids) }
+          next_going : Going rule (table_of w) next
+          next_going = going_step rule (table_of w) ck (state_of p A I.out cx) next I.going leads
 
-              filled : entries_on_top (in_hand p.stage p.depth f) ≤ cx.len
-              filled =
-                  let z : length (stack_of cx.stack cx.len) ≡ entries_of
-                  (in_hand p.stage p.depth f ++ rest_of A p.stage p.depth) = numbered.entries ∙ ap entries_of (sym together) in
-                  omega (arith, entries_top p.stage p.depth f (rest_of A p.stage p.depth), len, z)
+          arrived : next ≡ state_of plan.position A' after r
+          unfolding next K
+          arrived = ap (λ (F : List machine.Frame). state_at plan.position.stage plan.position.block F after plan.position.count (context_of plan.position.visits r))
+              (frames_kept A p.depth plan.position.depth plan.keep plan.frame fit.deep fit.next (rw I.frames depth_below))
 
-              at : (ch : Change) → NamedChange (entries_on_top (in_hand p.stage p.depth f)) ch → Changeable ch cx
-              at Nothing n = tt
-              at (Schedule target) n = (n, room)
-              at Unschedule n = omega (arith, n, filled)
+          pub walking_again : Walking rule w buffer' r A' plan.position
+          walking_again = record {
+            out = after;
+            going = subst (λ (z : State). Going rule (table_of w) z) arrived next_going;
+            held = rows_held;
+            indexed = lines_held;
+            live = next_live;
+            whole = E.whole;
+            frames = stored_length plan.keep plan.position.depth plan.frame A ∙ I.frames;
+          }
 
-          pub applicable : Applicable visited plan cx
-          applicable = record { block = at p.stage visit_below; handler = fit.handler; scope = fit.scope; change = changeable; whole = I.whole }
-            where
-              at : (s : Stage) → (s ≡ Visit → p.block < block_count w) → Below 1024 (unless_none (visited_block s p.block))
-              at Visit h =
-                  let z : p.block < block_count w = h refl in subst (λ (o : Option ℕ). Below 1024 o)
-                  (sym (some_number p.block (λ e. omega (arith, z, pr.sized.limited.blocks)))) (omega (arith, z, pr.sized.limited.blocks))
-              at Ended h = subst (λ (o : Option ℕ). Below 1024 o) (sym no_number) tt
-              at Choose h = subst (λ (o : Option ℕ). Below 1024 o) (sym no_number) tt
-              at Pop h = subst (λ (o : Option ℕ). Below 1024 o) (sym no_number) tt
-              at Values h = subst (λ (o : Option ℕ). Below 1024 o) (sym no_number) tt
-              at Halt h = subst (λ (o : Option ℕ). Below 1024 o) (sym no_number) tt
-
-          pub depth_below : plan.position.depth ≤ 129
-          depth_below = at plan.keep fit.next
-            where
-              at : (keep : Bool) → plan.position.depth ≤ deepest keep p.depth → plan.position.depth ≤ 129
-              at true h = omega (arith, shallow)
-              at false h = omega (arith, shallow)
-
-          -- ---- a change that is refused
-
-          module _ (code at : ℕ) (E : Blocked plan.change (with_marks visited plan.handler plan.scope cx) code at) where
-            blocked_report : report rule (table_of w) ≡ rejected code at plan.position.visits
-            blocked_report = going_halt rule (table_of w) (state_of p A I.out cx) _ I.going
-                (stepped ∙ ahead ∙ ap (onward plan.position.stage plan (frames_of A p.depth) after) (marked_context ∙ E.context plan.position.visits) ∙ ends plan.position.stage on)
-              where
-                ends : (s : Stage) → is_halt s ≡ false → onward s plan (frames_of A p.depth) after (refused code at plan.position.visits) ≡ halt (rejected code at plan.position.visits)
-                ends Visit e = refl
-                ends Ended e = refl
-                ends Choose e = refl
-                ends Pop e = refl
-                ends Values e = refl
-                ends Halt e = absurd (true_false e)
-
-            pub blocked_reported : Reported (report rule (table_of w)) (blocked_by code at plan.position) buffer'.tree buffer'.index
-            blocked_reported = subst (λ (a : Report). Reported a (blocked_by code at plan.position) buffer'.tree buffer'.index) (sym blocked_report) (refl, E.refuses, refl, refl)
-
-          -- ---- and the next turn
-
-          module _ (r : Context) (E : Applied visited plan cx r) where
-            abbrev pub A' : List Frame
-            A' = stored_by plan.keep plan.position.depth plan.frame A
-
-            next : State
-            next = state_at plan.position.stage plan.position.block K after plan.position.count (context_of plan.position.visits r)
-
-            leads : step rule (table_of w) (state_of p A I.out cx) ≡ going next
-            unfolding next K
-            leads =
-                stepped ∙ ahead ∙ ap (onward plan.position.stage plan (frames_of A p.depth) after) (marked_context ∙ E.context plan.position.visits)
-                ∙ at plan.position.stage on next_live
-              where
-                D : definition.Context
-                D = context_of plan.position.visits r
-
-                choose_same : (F : List machine.Frame) → 1 ≤ length F → state_at Choose 0 F after 0 D ≡ state_at Choose plan.position.block F after plan.position.count D
-                choose_same [] h = absurd (omega arith)
-                choose_same (g ∷ F) h = refl
-
-                pop_same : (F : List machine.Frame) → 1 ≤ length F → state_at Pop 0 F after 0 D ≡ state_at Pop plan.position.block F after plan.position.count D
-                pop_same [] h = absurd (omega arith)
-                pop_same (g ∷ F) h = refl
-
-                values_same : (F : List machine.Frame) → 1 ≤ length F → state_at Values plan.position.block F after 0 D ≡ state_at Values plan.position.block F after plan.position.count D
-                values_same [] h = absurd (omega arith)
-                values_same (g ∷ F) h = refl
-
-                at : (s : Stage) → is_halt s ≡ false → Live s plan.position.depth
-                    → onward s plan (frames_of A p.depth) after (ok D) ≡ going (state_at s plan.position.block K after plan.position.count D)
-                at Visit e l = refl
-                at Ended e l = refl
-                at Choose e l = ap going (choose_same K (omega (arith, kept_deep)))
-                at Pop e l = ap going (pop_same K (omega (arith, kept_deep)))
-                at Values e l = ap going (values_same K (omega (arith, kept_deep)))
-                at Halt e l = absurd (true_false e)
-
-            next_going : Going rule (table_of w) next
-            next_going = going_step rule (table_of w) ck (state_of p A I.out cx) next I.going leads
-
-            arrived : next ≡ state_of plan.position A' after r
-            unfolding next K
-            arrived = ap (λ (F : List machine.Frame). state_at plan.position.stage plan.position.block F after plan.position.count (context_of plan.position.visits r))
-                (frames_kept A p.depth plan.position.depth plan.keep plan.frame fit.deep fit.next (rw I.frames depth_below))
-
-            pub walking_again : Walking rule w buffer' r A' plan.position
-            walking_again = record {
-              out = after;
-              going = subst (λ (z : State). Going rule (table_of w) z) arrived next_going;
-              held = rows_held;
-              indexed = lines_held;
-              live = next_live;
-              whole = E.whole;
-              frames = stored_length plan.keep plan.position.depth plan.frame A ∙ I.frames;
-            }
-
-            pub turns_lower : turns_left plan.position A' r < turns_left p A cx
-            turns_lower =
-                let lower : potential (state_of plan.position A' after r) < potential (state_of p A I.out cx) = going_lower rule (table_of w) ck
-                (state_of p A I.out cx) _ I.going (leads ∙ ap going arrived) in
-                omega (
-                  arith,
-                  lower,
-                  no_rows plan.position.stage plan.position.block (frames_of A' plan.position.depth) after plan.position.count (context_of plan.position.visits r),
-                  no_rows p.stage p.block (frames_of A p.depth) I.out p.count C,
-                )
+          pub turns_lower : turns_left plan.position A' r < turns_left p A cx
+          turns_lower =
+              let lower : potential (state_of plan.position A' after r) < potential (state_of p A I.out cx) = going_lower rule (table_of w) ck
+              (state_of p A I.out cx) _ I.going (leads ∙ ap going arrived) in
+              omega (
+                arith,
+                lower,
+                no_rows plan.position.stage plan.position.block (frames_of A' plan.position.depth) after plan.position.count (context_of plan.position.visits r),
+                no_rows p.stage p.block (frames_of A p.depth) I.out p.count C,
+              )
 
 -- ---- a turn that is planned, in one piece
 
-pub record AtTurn (rule : Rule) (w : List ℕ) (buffer : Lent) (cx : Context) (A : List Frame) (p : Position) (buffer' : Lent) (plan : Plan) : Type 0 where
+-- what a turn is shown
+pub record AtTurn (rule : Rule) (w : List ℕ) (buffer : Lent) (cx : Context) (A : List Frame) (p : Position) (tree' : List ℕ) (planned : std.Result Plan Refused) : Type 0 where
   pub promise : Promise w
   pub walking : Walking rule w buffer cx A p
   pub frame : Frame
   pub read : frame ≡ get_or A (p.depth - 1) no_frame
-  pub aim : Aim
-  pub planned : (around : Around) → PlannedTurn w around (Shown w cx.emitted cx.scheduled cx.catch_handlers cx.scope_fallthroughs p aim around) p frame buffer.tree plan buffer'.tree
-  pub put : LinePut buffer.index buffer.lines plan.line plan.position.rows buffer'.index buffer'.lines
+  pub aim : std.Option code.Goal
+  pub turned : (around : Around) → PlannedTurn w around (Shown w cx.emitted cx.scheduled cx.catch_handlers cx.scope_fallthroughs p aim around) p frame buffer.tree planned tree'
   pub jump : p.stage ≡ Visit → Resolves (terminal_at (table_of w) p.block) (around_of rule (table_of w) (frames_of A p.depth)) (context_of p.visits cx) (aim_of aim)
 
-module _ {rule : Rule} {w : List ℕ} {buffer : Lent} {cx : Context} {A : List Frame} {p : Position} {buffer' : Lent} {plan : Plan} (t : AtTurn rule w buffer cx A p buffer' plan) where
+-- refused
+pub turn_refused : {rule : Rule} {w : List ℕ} {buffer : Lent} {cx : Context} {A : List Frame} {p : Position} {tree' : List ℕ} {e : Refused} → AtTurn rule w buffer cx A p tree' (Err e)
+    → (index : List ℕ) (lines : ℕ) → Reported (report rule (table_of w)) (walked_by (Err e) lines) tree' index
+turn_refused {rule} {w} {buffer} {cx} {A} {p} {tree'} {e} t =
+    refused_reported rule w t.promise (checked_table w t.promise) buffer cx A p t.walking t.frame t.read t.aim t.jump tree' e (t.turned _)
+
+module _ {rule : Rule} {w : List ℕ} {buffer : Lent} {cx : Context} {A : List Frame} {p : Position} {buffer' : Lent} {plan : Plan} (t : AtTurn rule w buffer cx A p buffer'.tree (Ok plan))
+    (put : LinePut buffer.index buffer.lines plan.line plan.position.rows buffer'.index buffer'.lines) where
   ck : Checked (table_of w)
   ck = checked_table w t.promise
 
-  -- refused, or accepted
-  pub turn_ends : plan_ends plan ≡ true → Reported (report rule (table_of w)) (walked_by plan buffer'.lines) buffer'.tree buffer'.index
-  turn_ends e = at (eqb plan.code 0) refl e
-    where
-      at : (y : Bool) → eqb plan.code 0 ≡ y → elim y [ true ↦ is_halt plan.position.stage | false ↦ true ] ≡ true → Reported (report rule (table_of w)) (walked_by plan buffer'.lines) buffer'.tree buffer'.index
-      at true q h = accepted_reported rule w t.promise ck buffer cx A p t.walking t.frame t.read t.aim buffer' plan (t.planned _) t.put t.jump (eqb-true _ _ q) h
-      at false q h = refused_reported rule w t.promise ck buffer cx A p t.walking t.frame t.read t.aim buffer' plan (t.planned _) t.put t.jump (eqb-false _ _ q)
+  -- accepted
+  pub turn_ends : plan_ends (Ok plan) ≡ true → Reported (report rule (table_of w)) (walked_by (Ok plan) buffer'.lines) buffer'.tree buffer'.index
+  turn_ends e = accepted_reported rule w t.promise ck buffer cx A p t.walking t.frame t.read t.aim buffer' plan (t.turned _) put t.jump e
 
   -- or the walk goes on
-  module _ (on : plan_ends plan ≡ false) where
-    fine_on : (plan.code ≡ 0) × (is_halt plan.position.stage ≡ false)
-    fine_on = at (eqb plan.code 0) refl on
-      where
-        at : (y : Bool) → eqb plan.code 0 ≡ y → elim y [ true ↦ is_halt plan.position.stage | false ↦ true ] ≡ false → (plan.code ≡ 0) × (is_halt plan.position.stage ≡ false)
-        at true q h = (eqb-true _ _ q, h)
-        at false q h = absurd (true_false h)
-
+  module _ (on : plan_ends (Ok plan) ≡ false) where
     pub turn_applicable : Applicable (visited_block p.stage p.block) plan cx
-    turn_applicable = applicable rule w t.promise ck buffer cx A p t.walking t.frame t.read t.aim buffer' plan (t.planned _) t.put t.jump fine_on.0 fine_on.1
+    turn_applicable = applicable rule w t.promise ck buffer cx A p t.walking t.frame t.read t.aim buffer' plan (t.turned _) put t.jump on
 
     pub turn_shallow : plan.position.depth ≤ 129
-    turn_shallow = depth_below rule w t.promise ck buffer cx A p t.walking t.frame t.read t.aim buffer' plan (t.planned _) t.put t.jump fine_on.0 fine_on.1
+    turn_shallow = depth_below rule w t.promise ck buffer cx A p t.walking t.frame t.read t.aim buffer' plan (t.turned _) put t.jump on
 
     pub turn_blocked : {code at : ℕ} → Blocked plan.change (with_marks (visited_block p.stage p.block) plan.handler plan.scope cx) code at
         → Reported (report rule (table_of w)) (blocked_by code at plan.position) buffer'.tree buffer'.index
-    turn_blocked {code} {at} E = blocked_reported rule w t.promise ck buffer cx A p t.walking t.frame t.read t.aim buffer' plan (t.planned _) t.put t.jump fine_on.0 fine_on.1 code at E
+    turn_blocked {code} {at} E = blocked_reported rule w t.promise ck buffer cx A p t.walking t.frame t.read t.aim buffer' plan (t.turned _) put t.jump on code at E
 
     module _ {r : Context} (E : Applied (visited_block p.stage p.block) plan cx r) {frames : List Frame} (stored : frames ≡ stored_by plan.keep plan.position.depth plan.frame A) where
       pub turn_again : Walking rule w buffer' r frames plan.position
-      turn_again = rw stored (walking_again rule w t.promise ck buffer cx A p t.walking t.frame t.read t.aim buffer' plan (t.planned _) t.put t.jump fine_on.0 fine_on.1 r E)
+      turn_again = rw stored (walking_again rule w t.promise ck buffer cx A p t.walking t.frame t.read t.aim buffer' plan (t.turned _) put t.jump on r E)
 
       pub turn_lower : turns_left plan.position frames r < turns_left p A cx
-      turn_lower = rw stored (turns_lower rule w t.promise ck buffer cx A p t.walking t.frame t.read t.aim buffer' plan (t.planned _) t.put t.jump fine_on.0 fine_on.1 r E)
+      turn_lower = rw stored (turns_lower rule w t.promise ck buffer cx A p t.walking t.frame t.read t.aim buffer' plan (t.turned _) put t.jump on r E)

@@ -1,4 +1,6 @@
 -- Lines in the index: one more is held behind those that are.
+use Rattle.std.specs.Prelude.{None, Some}
+use Rattle.std.specs.Prelude as std
 use mathlib.Core.Path.{◌≡◌, refl, sym, ap, ◌∙◌}
 use Prim.Native.Nat.{ℕ, ◌+◌, ◌*◌, ◌-◌, ◌/◌, ◌≤◌, ◌<◌}
 use native.Mathlib.Omega.{arith}
@@ -11,7 +13,6 @@ use borrow.Author.Tests.{lt-ltb, le-ltb}
 use Rattle.definition.specs.Index.{Line, line_words}
 use Rattle.definition.specs.Output.{Output}
 use Rattle.statements.specs.declared.plan.Line as plan
-use Rattle.statements.specs.declared.plan.Line.TheVariants as line
 use Rattle.statements.specs.Plans.{lines_by, lined}
 use Rattle.walk.specs.Lined.{line_placed, HoldsLines, LinePut}
 
@@ -59,22 +60,22 @@ module _ (index : List ℕ) (n label first closing : ℕ) where
 
 -- ---- what `put_line` promises
 
-pub no_line_put : {index : List ℕ} {n rows : ℕ} {own : plan.Line} → own ≡ line.Nothing → LinePut index n own rows index n
+pub no_line_put : {index : List ℕ} {n rows : ℕ} {own : std.Option plan.Line} → own ≡ None → LinePut index n own rows index n
 no_line_put {index} {n} {rows} e = rw e (record { held = λ lines h. rw (append-nil lines) h })
 
-pub line_put : {index index' : List ℕ} {n rows label first closing : ℕ} {own : plan.Line} → own ≡ line.Put label first → closing ≡ rows - 1
-    → index' ≡ line_placed index n label first closing → LinePut index n own rows index' (n + 1)
-line_put {index} {n = n} {rows} {label} {first} e c p = rw (e, p, c) (record { held = λ lines h. line_held index n label first (rows - 1) lines h })
+pub line_put : {index index' : List ℕ} {n rows closing : ℕ} {own : std.Option plan.Line} {line : plan.Line} → own ≡ Some line → closing ≡ rows - 1
+    → index' ≡ line_placed index n line.label line.first closing → LinePut index n own rows index' (n + 1)
+line_put {index} {n = n} {rows} {line = line} e c p = rw (e, p, c) (record { held = λ lines h. line_held index n line.label line.first (rows - 1) lines h })
 
 -- ---- a plan's line behind what is out
 
-pub lined_rows : (own : plan.Line) (rows : ℕ) (out : Output) → (lined own rows out).rows ≡ out.rows
-lined_rows line.Nothing rows out = refl
-lined_rows (line.Put label first) rows out = refl
+pub lined_rows : (own : std.Option plan.Line) (rows : ℕ) (out : Output) → (lined own rows out).rows ≡ out.rows
+lined_rows None rows out = refl
+lined_rows (Some line) rows out = refl
 
-pub lined_lines : (own : plan.Line) (rows : ℕ) (out : Output) → (lined own rows out).lines ≡ out.lines ++ lines_by own rows
-lined_lines line.Nothing rows out = sym (append-nil out.lines)
-lined_lines (line.Put label first) rows out = refl
+pub lined_lines : (own : std.Option plan.Line) (rows : ℕ) (out : Output) → (lined own rows out).lines ≡ out.lines ++ lines_by own rows
+lined_lines None rows out = sym (append-nil out.lines)
+lined_lines (Some line) rows out = refl
 
 pub no_lines : (index : List ℕ) → HoldsLines index 0 []
 unfolding line_words

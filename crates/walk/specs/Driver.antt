@@ -1,5 +1,6 @@
 -- The parts of a plan that the walk applies, and the whole walk.
-use Rattle.std.specs.Prelude.{ℕ, ◌≡◌, Bool, true, false, List, [], eqb}
+use Rattle.std.specs.Prelude as std
+use Rattle.std.specs.Prelude.{ℕ, ◌≡◌, Bool, true, false, List, [], Ok, Err}
 use Rattle.std.proofs.Math.Option.{Option, none, some}
 use Rattle.definition.specs.Build.{Report, accepted, rejected}
 use Rattle.definition.specs.Context.{Flags, add}
@@ -10,6 +11,8 @@ use Rattle.statements.specs.declared.plan.Stage.{Stage}
 use Rattle.statements.specs.declared.plan.Stage.TheVariants.{Visit, Ended, Choose, Pop, Values, Halt}
 use Rattle.statements.specs.declared.plan.Position.{Position}
 use Rattle.statements.specs.declared.plan.Plan.{Plan}
+use Rattle.statements.specs.declared.refusal.Refused.{Refused}
+use Rattle.statements.specs.Refusal.{refusal_code, refusal_place}
 use Rattle.walk.specs.declared.Outcome.{Outcome}
 
 -- ---- a plan
@@ -36,16 +39,18 @@ is_halt Values = false
 is_halt Halt = true
 
 -- refused, or accepted
-abbrev pub plan_ends : Plan → Bool
-plan_ends plan = elim (eqb plan.code 0) [ true ↦ is_halt plan.position.stage | false ↦ true ]
+abbrev pub plan_ends : std.Result Plan Refused → Bool
+plan_ends (Ok plan) = is_halt plan.position.stage
+plan_ends (Err e) = true
 
 -- ---- the whole walk
 
 abbrev pub starting_at : (entry : ℕ) → Position
 starting_at entry = record { block = entry; depth = 0; count = 0; rows = 0; visits = 0; stage = Visit }
 
-abbrev pub walked_by : Plan → (lines : ℕ) → Outcome
-walked_by plan lines = record { code = plan.code; at = plan.at; rows = plan.position.rows; visits = plan.position.visits; lines = lines }
+abbrev pub walked_by : std.Result Plan Refused → (lines : ℕ) → Outcome
+walked_by (Ok plan) lines = record { code = 0; at = 0; rows = plan.position.rows; visits = plan.position.visits; lines = lines }
+walked_by (Err e) lines = record { code = refusal_code e.refusal; at = refusal_place e.refusal; rows = 0; visits = e.visits; lines = lines }
 
 -- what `schedule` refused
 abbrev pub blocked_by : (code at : ℕ) → Position → Outcome

@@ -1,3 +1,2 @@
 pub mod Driver
-pub mod FrameWords
 pub mod Lined

@@ -1,4 +1,5 @@
 -- M-101: the lines of the index in a second lent buffer, three words each.
+use Rattle.std.specs.Prelude as std
 use Rattle.std.specs.Prelude.{ℕ, ◌*◌, ◌/◌, ◌≤◌, ◌≡◌, true, false, List, [], ◌∷◌, ◌++◌, ltb, length, take}
 use Rattle.std.proofs.lemmas.List.Edits.{sets}
 use Rattle.definition.specs.Index.{Line, line_words}
@@ -15,5 +16,5 @@ pub record HoldsLines (index : List ℕ) (n : ℕ) (lines : List Line) : Type 0 
   pub words : n ≤ length index / 3 → take (n * 3) index ≡ line_words lines
 
 -- a plan's line was written behind n lines, if it has one, and counted
-pub record LinePut (index : List ℕ) (n : ℕ) (line : plan.Line) (rows : ℕ) (index' : List ℕ) (n' : ℕ) : Type 0 where
+pub record LinePut (index : List ℕ) (n : ℕ) (line : std.Option plan.Line) (rows : ℕ) (index' : List ℕ) (n' : ℕ) : Type 0 where
   pub held : (lines : List Line) → HoldsLines index n lines → HoldsLines index' n' (lines ++ lines_by line rows)

@@ -8,12 +8,11 @@ ghost use Rattle.control.specs.Abstraction.{resolved_of};
 ghost use Rattle.control.specs.AroundAbstraction.{rule_of, aim_of, FoundBelow, AimBelow};
 ghost use Rattle.statements.specs.Plans.{no_frame, frames_of};
 ghost use Rattle.statements.specs.Search.{goal_by};
-ghost use Rattle.walk.specs.FrameWords.{frames_in};
 
-use crate::frames::frame_at;
-use control::Resolved;
-use control::around::{Aim, pass, pass_from, target_of, unseen};
+use control::Resolution;
+use control::around::{Goal, pass, pass_from, target_of, unseen};
 use control::rule::Rule;
+use statements::plan::Frame;
 use statements::search::{Jump, aim_at, asks_around, knows};
 
 // Where to look first for the statement that owns the entry found: at the entry's own place. It is there if each statement around has one entry.
@@ -21,42 +20,38 @@ fn likely_owner(at: usize, depth: usize) -> usize
     requires { 0 < depth }
     ensures { result < depth }
 {
-    if at < depth {
-        return at;
-    }
-    0
+    if at < depth { at } else { 0 }
 }
 
 // The search ended at the entry `at`. A Labeled break asks only whether a statement around has its label: the code looks at the likely one first.
 pub fn aim_around(
     rule: Rule,
     words: &[u32],
-    frames: &[u32; 1032],
+    frames: &[Frame; 129],
     depth: u32,
     at: usize,
-    jump: Jump,
-    found: Resolved,
-) -> Aim
+    jump: Option<Jump>,
+    found: Option<Resolution>,
+) -> Option<Goal>
     requires promise { Promise words.now }
     requires depth_bound { depth ≤ 128 }
-    requires by_index { (k : ℕ) → k < depth → (get_or (frames_in frames.now) k no_frame).block < block_count words.now }
+    requires by_index { (k : ℕ) → k < depth → (get_or frames.now k no_frame).block < block_count words.now }
     requires found_below { FoundBelow found }
-    ensures { (aim_of result ≡ goal_by jump (around_of (rule_of rule) (table_of words.now) (frames_of (frames_in frames.now) depth)) (resolved_of found)) × AimBelow result }
+    ensures { (aim_of result ≡ goal_by jump (around_of (rule_of rule) (table_of words.now) (frames_of frames.now depth)) (resolved_of found)) × AimBelow result }
 {
-    let mut left = pass_from(asks_around(rule, found), depth);
+    let left = pass_from(asks_around(rule, found), depth);
     let mut seen = unseen(found);
     if left == 0 {
         return aim_at(rule, jump, found, seen); // none is asked
     }
     let target = target_of(found);
-    let owner = frame_at(frames, likely_owner(at, left));
+    let owner = frames[likely_owner(at, left)];
     let looked = pass(words, target, owner.block, owner.label, seen);
     if knows(jump, found, looked) {
         return aim_at(rule, jump, found, looked);
     }
-    while left > 0 {
-        left -= 1;
-        let around = frame_at(frames, left);
+    for from_outside in (0..left).rev() {
+        let around = frames[from_outside];
         seen = pass(words, target, around.block, around.label, seen);
     }
     aim_at(rule, jump, found, seen)

@@ -4,16 +4,6 @@ ghost use Rattle.walk.specs.Lined.{line_placed, LinePut};
 
 use statements::plan::Line;
 
-// The last of `rows` rows.
-fn last_row(rows: u32) -> u32
-    ensures { result ≡ rows - 1 }
-{
-    if rows == 0 {
-        return 0;
-    }
-    rows - 1
-}
-
 fn write_line(index: &mut [u32], lines: u32, label: u32, first: u32, closing: u32)
     ensures { index.new ≡ line_placed index.old lines label first closing }
 {
@@ -26,14 +16,15 @@ fn write_line(index: &mut [u32], lines: u32, label: u32, first: u32, closing: u3
 }
 
 // The line of a statement whose closing row is the last of the rows that are out.
-pub fn put_line(index: &mut [u32], lines: u32, line: Line, rows: u32) -> u32
+#[tactic(auto, using(crate::proofs::LinedLaws::no_line_put, crate::proofs::LinedLaws::line_put))]
+pub fn put_line(index: &mut [u32], lines: u32, line: Option<Line>, rows: u32) -> u32
     requires { lines ≤ 1024 }
     ensures { LinePut index.old lines line rows index.new result }
 {
     match line {
-        Line::Nothing => lines,
-        Line::Put(label, first) => {
-            write_line(index, lines, label, first, last_row(rows));
+        None => lines,
+        Some(line) => {
+            write_line(index, lines, line.label, line.first, rows.saturating_sub(1));
             lines + 1
         }
     }

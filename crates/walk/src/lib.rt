@@ -2,26 +2,25 @@
 #![tactic(auto)]
 
 mod around;
-mod frames;
 mod index;
 
-ghost use Rattle.std.specs.Prelude.{◌≡◌, ◌-◌};
+ghost use Rattle.std.specs.Prelude.{◌≡◌, ◌-◌, Ok, Err};
 ghost use Rattle.table.specs.Words.{entry_word};
 ghost use Rattle.table.specs.Table.{table_of, unless_none};
 ghost use Rattle.table.specs.Promise.{Promise};
 ghost use Rattle.definition.specs.Build.{report};
 ghost use Rattle.machine.specs.Framed.{Below};
 ghost use Rattle.definition.specs.Context.{block_asked};
-ghost use Rattle.control.specs.Abstraction.{target_of};
+ghost use Rattle.control.specs.Abstraction.{target_of, blocked_number};
 ghost use Rattle.control.specs.AroundAbstraction.{rule_of};
-ghost use Rattle.walk.specs.Driver.{visited_block, marked, starting_at, plan_ends, is_halt, walked_by, blocked_by, Reported};
+ghost use Rattle.walk.specs.Driver.{visited_block, marked, starting_at, plan_ends, walked_by, blocked_by, Reported};
 
 use crate::around::aim_around;
-use crate::frames::{frame_at, keep_frame};
 use crate::index::put_line;
 use control::rule::Rule;
-use control::{Context, ControlFlowTarget, Resolved, block_id, count_loop, insert};
-use statements::plan::{Change, NONE, Plan, Position, Stage};
+use control::{Blocked, Context, ControlFlowTarget, block_id, count_loop, insert};
+use statements::plan::{Change, NONE, Plan, Position, Stage, no_frame};
+use statements::refusal::Refused;
 use statements::search::{jump_at, meets, resolve, search_from};
 use statements::turn::plan_turn;
 use table::words::entry;
@@ -35,6 +34,19 @@ pub struct Outcome {
     pub rows: u32,
     pub visits: u32,
     pub lines: u32,
+}
+
+impl Outcome {
+    // For callers in C or Rust: the code, and the other four words by reference.
+    pub fn tell(self, at: &mut u32, rows: &mut u32, visits: &mut u32, lines: &mut u32) -> u32
+        ensures { record { code = result; at = at.new; rows = rows.new; visits = visits.new; lines = lines.new } ≡ self }
+    {
+        *at = self.at;
+        *rows = self.rows;
+        *visits = self.visits;
+        *lines = self.lines;
+        self.code
+    }
 }
 
 fn start(words: &[u32]) -> Position
@@ -54,73 +66,62 @@ fn start(words: &[u32]) -> Position
 fn visited_block(p: Position) -> u32
     ensures { result ≡ visited_block p.stage p.block }
 {
-    let stage = p.stage;
-    match stage {
+    match p.stage {
         Stage::Visit => p.block,
-        Stage::Ended => NONE,
-        Stage::Choose => NONE,
-        Stage::Pop => NONE,
-        Stage::Values => NONE,
-        Stage::Halt => NONE,
+        _ => NONE,
     }
 }
 
+#[tactic(auto, using(crate::proofs::ApplyLaws::marked_none, crate::proofs::ApplyLaws::marked_some, crate::proofs::ApplyLaws::below_block))]
 fn mark(set: &mut [bool; 1024], block: u32)
     requires { Below 1024 (unless_none block) }
     ensures { set.new ≡ marked (unless_none block) set.old }
 {
-    if block == NONE {
-        return;
-    }
-    insert(set, block_id(block));
-}
-
-fn halted(stage: Stage) -> bool
-    ensures { result ≡ is_halt stage }
-{
-    match stage {
-        Stage::Visit => false,
-        Stage::Ended => false,
-        Stage::Choose => false,
-        Stage::Pop => false,
-        Stage::Values => false,
-        Stage::Halt => true,
+    if block != NONE {
+        insert(set, block_id(block));
     }
 }
 
-// Whether the walk ends here: refused, or accepted.
+// Whether the table is accepted here.
 fn ends(plan: Plan) -> bool
-    ensures { result ≡ plan_ends plan }
+    ensures { result ≡ plan_ends (Ok plan) }
 {
-    if plan.code != 0 {
-        return true;
-    }
-    let position = plan.position;
-    let stage = position.stage;
-    halted(stage)
+    matches!(plan.position.stage, Stage::Halt)
 }
 
 fn answer(plan: Plan, lines: u32) -> Outcome
-    ensures { result ≡ walked_by plan lines }
+    ensures { result ≡ walked_by (Ok plan) lines }
 {
     let position = plan.position;
     Outcome {
-        code: plan.code,
-        at: plan.at,
+        code: 0,
+        at: 0,
         rows: position.rows,
         visits: position.visits,
-        lines: lines,
+        lines,
+    }
+}
+
+// The refusal of a turn.
+fn refuse(refused: Refused, lines: u32) -> Outcome
+    ensures { result ≡ walked_by (Err refused) lines }
+{
+    Outcome {
+        code: refused.refusal.code(),
+        at: refused.refusal.place(),
+        rows: 0,
+        visits: refused.visits,
+        lines,
     }
 }
 
 // The refusal of `schedule`, at the block that it tested.
-fn blocked(code: u16, target: ControlFlowTarget, p: Position) -> Outcome
-    ensures { result ≡ blocked_by code (block_asked (target_of target)) p }
+fn blocked(reason: Blocked, target: ControlFlowTarget, p: Position) -> Outcome
+    ensures { result ≡ blocked_by (blocked_number reason) (block_asked (target_of target)) p }
 {
-    let at = target.block_asked() as u32;
     Outcome {
-        code: code as u32,
-        at: at,
+        code: reason.code(),
+        at: target.block_asked() as u32,
         rows: p.rows,
         visits: p.visits,
         lines: 0,
@@ -131,10 +132,7 @@ fn blocked(code: u16, target: ControlFlowTarget, p: Position) -> Outcome
 fn innermost(depth: u32) -> usize
     ensures { result ≡ depth - 1 }
 {
-    if depth == 0 {
-        return 0;
-    }
-    (depth - 1) as usize
+    depth.saturating_sub(1) as usize
 }
 
 // Plans each turn and applies its plan. The search of the stack (the Rust's `get_break_target` and `get_continue_target`) and the store of an entry stand
@@ -144,29 +142,28 @@ pub fn walk(rule: Rule, words: &[u32], tree: &mut [u32], index: &mut [u32]) -> O
     ensures { Reported (report (rule_of rule) (table_of words.now)) result tree.new index.new }
 {
     let mut cx = Context::new();
-    let mut frames = [0; 1032];
+    let mut frames = [no_frame(); 129]; // fixed memory: 128 frames, and one that is read where there is none
     let mut p = start(words);
     let mut lines: u32 = 0;
     loop {
-        let frame = frame_at(&frames, innermost(p.depth));
+        let frame = frames[innermost(p.depth)];
         let jump = jump_at(words, &cx.scheduled, &cx.catch_handlers, p);
         let mut at = search_from(jump, cx.len);
         let mut loops: u32 = 0;
         let found = loop {
             if at == 0 {
-                break Resolved::Nothing;
+                break None;
             }
             let top = at == cx.len;
             at -= 1;
             let entry = cx.stack[at];
-            let target = entry.target;
-            if meets(jump, target) {
+            if meets(jump, entry.target) {
                 break resolve(jump, entry, top, loops);
             }
-            loops = count_loop(loops, target);
+            loops = count_loop(loops, entry.target);
         };
         let aim = aim_around(rule, words, &frames, p.depth, at, jump, found);
-        let plan = plan_turn(
+        let planned = plan_turn(
             words,
             tree,
             &cx.emitted,
@@ -177,9 +174,12 @@ pub fn walk(rule: Rule, words: &[u32], tree: &mut [u32], index: &mut [u32]) -> O
             frame,
             aim,
         );
+        let plan = match planned {
+            Err(refused) => return refuse(refused, lines),
+            Ok(plan) => plan,
+        };
         let next = plan.position;
-        let line = plan.line;
-        lines = put_line(index, lines, line, next.rows);
+        lines = put_line(index, lines, plan.line, next.rows);
         if ends(plan) {
             return answer(plan, lines);
         }
@@ -188,21 +188,18 @@ pub fn walk(rule: Rule, words: &[u32], tree: &mut [u32], index: &mut [u32]) -> O
         mark(&mut cx.scope_fallthroughs, plan.scope);
         p = next;
         if plan.keep {
-            let kept = plan.frame;
-            keep_frame(&mut frames, innermost(p.depth), kept);
+            frames[innermost(p.depth)] = plan.frame;
         }
-        let change = plan.change;
-        match change {
-            Change::Nothing => {}
-            Change::Schedule(target) => {
+        match plan.change {
+            None => {}
+            Some(Change::Schedule(target)) => {
                 cx = cx.schedule(target);
-                if cx.refused != 0 {
-                    return blocked(cx.refused, target, p);
+                if let Some(reason) = cx.refused {
+                    return blocked(reason, target, p);
                 }
-                let entry = cx.pushed;
-                cx.stack[cx.len - 1] = entry; // the stack's last, in its place
+                cx.stack[cx.len - 1] = cx.pushed; // the stack's last, in its place
             }
-            Change::Unschedule => {
+            Some(Change::Unschedule) => {
                 let last = cx.stack[cx.len - 1];
                 cx = cx.unschedule(last);
             }

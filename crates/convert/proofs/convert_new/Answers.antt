@@ -1,37 +1,24 @@
 -- `convert::convert_new` meets its contract. Three ends: the check refuses, two ends of a span differ (52), or the old text is written.
 -- One law of ConvertLaws for each.
-use mathlib.Core.Path.{ap}
-use mathlib.Core.Bool.{not}
-use mathlib.Core.Path.{sym, ◌∙◌}
-use mathlib.Core.List.{[]}
-use borrow.Author.Tests.{not-true, not-false}
-use Rattle.text.proofs.LentLaws.{holds_none}
-use Rattle.convert.proofs.TextLaws.{accepted_promise}
+use mathlib.Core.Path.{refl, sym}
+use Rattle.std.proofs.lemmas.Result.{err_from_is_err_and}
+use Rattle.table.proofs.PromiseLaws.{promised}
 use Rattle.convert.proofs.ConvertLaws.{new_refused, new_apart, new_written}
 use Rattle.convert.proofs.convert_new.Goals as goal
 
-pub returns-then-not-is_accepted : goal.returns-then-not-is_accepted
-returns-then-not-is_accepted c =
-    new_refused _ _ c.check-checked.ensures _ _ (sym c.is_accepted.ensures ∙ not-true _ (ap not c.if-not-is_accepted.true))
-    (rw (c.place.ensures, c.code.ensures) at c.refuse.ensures)
+pub returns-in_err-check : goal.returns-in_err-check
+returns-in_err-check c =
+    let p = err_from_is_err_and c.from_residual.result c.from_residual.ensures.1 in
+    rw (p.1, p.2) (new_refused _ _ _ refl _ c.in_err-check.ensures)
 
-pub first_apart-apart-requires : goal.first_apart-apart-requires
-first_apart-apart-requires c =
-    let accepted = sym c.is_accepted.ensures ∙ not-false _ (ap not c.if-not-is_accepted.false) in
-    (accepted_promise _ _ c.check-checked.ensures accepted).sized
+pub first_apart-requires : goal.first_apart-requires
+first_apart-requires c = (promised _ (sym c.in_ok-check.ensures)).sized
 
-pub returns-then-apart-ne0 : goal.returns-then-apart-ne0
-returns-then-apart-ne0 c =
-    let accepted = sym c.is_accepted.ensures ∙ not-false _ (ap not c.if-not-is_accepted.false) in
-    new_apart _ _ c.check-checked.ensures _ _ _ accepted c.first_apart-apart.ensures c.if-apart-ne0.true c.refuse-then-apart-ne0.ensures
+pub returns-in-Some : goal.returns-in-Some
+returns-in-Some c = new_apart _ _ _ refl c.in_ok-check.ensures c.in-Some.ensures
 
-pub write_tables-end-requires : goal.write_tables-end-requires
-write_tables-end-requires c =
-    let accepted = sym c.is_accepted.ensures ∙ not-false _ (ap not c.if-not-is_accepted.false) in
-    (accepted_promise _ _ c.check-checked.ensures accepted).sized
+pub write_tables-requires : goal.write_tables-requires
+write_tables-requires c = (promised _ (sym c.in_ok-check.ensures)).sized
 
-pub returns : goal.returns
-returns c =
-    let accepted = sym c.is_accepted.ensures ∙ not-false _ (ap not c.if-not-is_accepted.false) in
-    let held = c.write_tables-end.ensures.holds [] (holds_none _) in
-    new_written _ _ c.check-checked.ensures _ _ _ _ accepted c.first_apart-apart.ensures c.if-apart-ne0.false c.write_tables-end.auto.text (c.finish.ensures _ held)
+pub returns-in-None : goal.returns-in-None
+returns-in-None c = new_written _ _ _ c.write_tables.auto.text c.in_ok-check.ensures c.in-None.ensures c.write_tables.ensures

@@ -1,22 +1,18 @@
-use mathlib.Core.Path.{sym, ◌∙◌}
-use mathlib.Core.List.{[]}
-use Rattle.text.proofs.LentLaws.{holds_none}
-use Rattle.convert.proofs.TextLaws.{accepted_promise}
+use mathlib.Core.Path.{refl, sym}
+use Rattle.table.proofs.PromiseLaws.{promised}
 use Rattle.convert.proofs.ConvertLaws.{wide_bound, wide_accepted, wide_refused}
 use Rattle.convert.proofs.write_wide.Goals as goal
 
-pub write_tables-end-requires : goal.write_tables-end-requires
-write_tables-end-requires c = (accepted_promise _ _ c.check-checked.ensures (sym c.is_accepted.ensures ∙ c.if-is_accepted.true)).sized
+pub write_tables-requires : goal.write_tables-requires
+write_tables-requires c = (promised _ (sym c.in-Ok.ensures)).sized
 
-pub returns-then-is_accepted : goal.returns-then-is_accepted
-returns-then-is_accepted c =
-    let held = c.write_tables-end.ensures.holds [] (holds_none _) in
-    wide_accepted _ _ c.check-checked.ensures _ _ _ (sym c.is_accepted.ensures ∙ c.if-is_accepted.true) c.write_tables-end.auto.text (c.finish.ensures _ held)
+pub returns-in-Ok : goal.returns-in-Ok
+returns-in-Ok c = wide_accepted _ _ _ c.write_tables.auto.text c.in-Ok.ensures c.write_tables.ensures
 
-pub old_place-requires : goal.old_place-requires
-old_place-requires c = record { in_bounds = (wide_bound _ c.requires.shaped c.requires.wide_len_bound).0; wide_bound = (wide_bound _ c.requires.shaped c.requires.wide_len_bound).1 }
+pub in_old_form-requires : goal.in_old_form-requires
+in_old_form-requires c =
+    let bound = wide_bound _ c.requires.shaped c.requires.wide_len_bound in
+    record { in_bounds = bound.0; wide_bound = bound.1 }
 
-pub returns : goal.returns
-returns c =
-    wide_refused _ _ c.check-checked.ensures _ _ (sym c.is_accepted.ensures ∙ c.if-is_accepted.false)
-    (rw (c.old_place.ensures, c.place.ensures, c.code.ensures) at c.refuse.ensures)
+pub returns-in-Err : goal.returns-in-Err
+returns-in-Err c = wide_refused _ _ _ refl _ _ c.in-Err.ensures c.in_old_form.ensures.code c.in_old_form.ensures.place

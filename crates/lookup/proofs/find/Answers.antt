@@ -1,15 +1,15 @@
--- `lookup::find` meets its contract.
-use Rattle.lookup.proofs.LoopLaws.{count_whole, line_whole, line_found, no_line}
+use Rattle.std.proofs.Common.{◌∙◌}
+use Rattle.std.proofs.lemmas.Result.{err_from_is_err_and}
+use Rattle.lookup.proofs.LoopLaws.{line_whole, line_found, no_line}
 use Rattle.lookup.proofs.find.Goals as goal
 
-pub first_with-requires : goal.first_with-requires
-first_with-requires c = count_whole _ _ 0 0 c.lines_read-count.ensures
+pub returns-in_err-line : goal.returns-in_err-line
+returns-in_err-line c =
+    let p = err_from_is_err_and c.from_residual.result c.from_residual.ensures.1 in
+    rw (p.1, p.2) (no_line _ _ _ _ c.first_with.ensures c.in_err-line.ensures.value)
 
 pub part_at-requires : goal.part_at-requires
-part_at-requires c = line_whole _ _ _ 0 c.lines_read-count.ensures c.first_with.ensures c.in-At.is
+part_at-requires c = line_whole _ _ _ 0 c.first_with.ensures c.in_ok-line.ensures.value
 
-pub returns-in-At : goal.returns-in-At
-returns-in-At c = line_found _ _ _ _ c.lines_read-count.ensures c.first_with.ensures c.in-At.is c.part_at.ensures
-
-pub returns-in-Nowhere : goal.returns-in-Nowhere
-returns-in-Nowhere c = no_line _ _ _ _ c.lines_read-count.ensures c.first_with.ensures c.in-Nowhere.is c.refuse.ensures
+pub returns : goal.returns
+returns c = c.part_at.ensures ∙ line_found _ _ _ _ c.first_with.ensures c.in_ok-line.ensures.value

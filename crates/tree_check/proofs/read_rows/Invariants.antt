@@ -1,10 +1,5 @@
--- `tree_check::read_rows` meets its contract.
-use Prim.Native.Nat.{◌-◌}
 use Rattle.tree_check.proofs.ReadLaws.{Reading}
 use Rattle.tree_check.proofs.read_rows.Given as goal
 
 abbrev pub invariant-loop-row : goal.invariant-loop-row
 invariant-loop-row l = Reading l.tree l.begin l.rows l.row
-
-abbrev pub decreases-loop-row : goal.decreases-loop-row
-decreases-loop-row l = l.rows - l.row

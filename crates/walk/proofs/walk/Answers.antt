@@ -1,12 +1,16 @@
 -- The answers of `walk`: the search of the stack, the turn that is planned, the sets that are marked, and what each change of the stack leaves.
-use Prim.Native.Nat.{ℕ, ◌-◌, ◌*◌, ◌≤◌}
+use Rattle.std.specs.Prelude as std
+use Rattle.std.specs.Prelude.{Some, Ok}
+use Prim.Native.Nat.{ℕ, ◌-◌, ◌≤◌}
 use native.Mathlib.Omega.{arith}
 use mathlib.Core.Path.{◌≡◌, refl, sym, ap, ◌∙◌, subst}
 use mathlib.Core.List.{List}
 use mathlib.Core.Bool.{false}
 use lib.ListN.{length, get_or, length-replicate}
+use Rattle.std.proofs.lemmas.List.{get_or_default}
 use Rattle.control.specs.Abstraction.{context_of, resolved_of, stored}
 use Rattle.statements.specs.declared.plan.Plan.{Plan}
+use Rattle.statements.specs.declared.refusal.Refused.{Refused}
 use Rattle.statements.specs.declared.plan.Change.{Change}
 use Rattle.table.specs.Table.{table_of}
 use Rattle.definition.specs.Around.{Rule}
@@ -16,23 +20,23 @@ use Rattle.statements.specs.Plans.{no_frame, frames_of}
 use Rattle.definition.specs.Build.{report}
 use Rattle.statements.specs.Search.{found_by, goal_by}
 use Rattle.walk.specs.Driver.{visited_block, plan_ends, blocked_by, Reported}
+use Rattle.walk.specs.Lined.{LinePut}
 use Rattle.walk.proofs.ApplyLaws.{marks_as, with_marks, Whole, Changeable, Changed, Blocked, Applied, nothing_changed, schedule_changed}
 use Rattle.walk.proofs.ApplyLaws.{schedule_blocked, unschedule_changed, changeable_marked, whole_marked, plan_applied, last_entry}
 use Rattle.control.specs.declared.Context.{Context}
 use Rattle.statements.specs.declared.plan.Position.{Position}
 use Rattle.statements.specs.declared.plan.Frame.{Frame}
 use Rattle.walk.proofs.DriverLaws.{Lent, walking_start, found_jump, found_below, ready, shallow, few_lines, visit_below, frame_block, AtTurn}
-use Rattle.walk.proofs.DriverLaws.{stored_by, stored_kept, stored_not, turn_ends, turn_applicable, turn_shallow, turn_blocked, turn_again, turn_lower}
-use Rattle.walk.specs.FrameWords.{frame_in, frames_in}
-use Rattle.walk.proofs.FrameLaws.{frames_count, frame_in_lem, frame_kept, stored_long}
+use Rattle.walk.proofs.DriverLaws.{stored_by, stored_kept, stored_not, turn_refused, turn_ends, turn_applicable, turn_shallow, turn_blocked, turn_again, turn_lower}
 use Rattle.walk.proofs.CheckedLaws.{checked_table}
 use Rattle.statements.proofs.SearchLaws.{search_start, search_on, search_none, search_found}
-use Rattle.walk.proofs.walk.Goals.{then-at-eq0, else-at-eq0+then-meets, then-plan, else-plan, Joined-at-eq0, Joined-plan, After-put_line-lines, After-mark-in-loop-top-2}
+use Rattle.walk.proofs.walk.Goals.{then-at-eq0, else-at-eq0+then-meets, then-plan, else-plan, Joined-at-eq0, Joined-plan, After-plan_turn-planned, After-mark-in-loop-top-2}
 use Rattle.walk.proofs.walk.Goals as goal
 
 -- the innermost frame, as the code reads it
-frame_read : (words : List ℕ) (i depth : ℕ) (frame : Frame) → i ≡ depth - 1 → depth ≤ 128 → frame ≡ frame_in words (i * 8) → frame ≡ get_or (frames_in words) (depth - 1) no_frame
-frame_read words i depth frame e few read = read ∙ frame_in_lem words i (omega (arith, e, few)) ∙ ap (λ (k : ℕ). get_or (frames_in words) k no_frame) e
+frame_read : (frames : List Frame) (i depth : ℕ) (other : Frame) → i ≡ depth - 1 → depth ≤ 128 → length frames ≡ 129 → get_or frames i other ≡ get_or frames (depth - 1) no_frame
+frame_read frames i depth other e few full =
+    get_or_default frames i other no_frame (omega (arith, e, few, full)) ∙ ap (λ (k : ℕ). get_or frames k no_frame) e
 
 -- ---- the search of the stack
 
@@ -44,24 +48,28 @@ found c visits =
       | else-at-eq0+then-meets w ↦ ap resolved_of w.found-is ∙ w.resolve-found.ensures ∙ search_found _ _ _ _ c.loop-at.invariant w.if-at-eq0.false (sym w.meets.ensures ∙ w.if-meets.true) visits
     ]
 
--- ---- the turn, where it is planned, and its line is written
+-- ---- the turn, where it is planned
 
-turn : (c : After-put_line-lines) → ((visits : ℕ) → resolved_of c.if-at-eq0.found ≡ found_by c.jump_at-jump.result (context_of visits c.loop-top.cx))
-    → AtTurn (rule_of c.args.rule) c.args.words.now (record { tree = c.loop-top.tree; index = c.loop-top.index; lines = c.loop-top.lines }) c.loop-top.cx (frames_in c.loop-top.frames) c.loop-top.p
-    (record { tree = c.plan_turn-plan.new.tree; index = c.put_line-lines.new.index; lines = c.put_line-lines.result }) c.plan_turn-plan.result
+turn : (c : After-plan_turn-planned) → ((visits : ℕ) → resolved_of c.if-at-eq0.found ≡ found_by c.jump_at-jump.result (context_of visits c.loop-top.cx))
+    → AtTurn (rule_of c.args.rule) c.args.words.now (record { tree = c.loop-top.tree; index = c.loop-top.index; lines = c.loop-top.lines }) c.loop-top.cx c.loop-top.frames c.loop-top.p
+    c.plan_turn-planned.new.tree c.plan_turn-planned.result
 turn c resolved =
-    let aimed : (visits : ℕ) → aim_of c.aim_around-aim.result ≡ goal_by c.jump_at-jump.result (around_of (rule_of c.args.rule) (table_of c.args.words.now) (frames_of (frames_in c.loop-top.frames) c.loop-top.p.depth)) (found_by c.jump_at-jump.result (context_of visits c.loop-top.cx))
+    let aimed : (visits : ℕ) → aim_of c.aim_around-aim.result ≡ goal_by c.jump_at-jump.result (around_of (rule_of c.args.rule) (table_of c.args.words.now) (frames_of c.loop-top.frames c.loop-top.p.depth)) (found_by c.jump_at-jump.result (context_of visits c.loop-top.cx))
     = λ visits. c.aim_around-aim.ensures.0 ∙ ap (goal_by c.jump_at-jump.result _) (resolved visits) in
     record {
       promise = c.requires;
-      walking = c.loop-top.invariant.walking;
-      frame = c.frame_at-frame.result;
-      read = frame_read c.loop-top.frames c.innermost.result c.loop-top.p.depth c.frame_at-frame.result c.innermost.ensures (shallow _ _ c.requires (checked_table _ c.requires) _ _ _ _ c.loop-top.invariant.walking) c.frame_at-frame.ensures;
+      walking = c.loop-top.invariant;
+      frame = _;
+      read = frame_read c.loop-top.frames _ c.loop-top.p.depth _ c.innermost.ensures (shallow _ _ c.requires (checked_table _ c.requires) _ _ _ _ c.loop-top.invariant) c.loop-top.invariant.frames;
       aim = c.aim_around-aim.result;
-      planned = c.plan_turn-plan.ensures;
-      put = c.put_line-lines.ensures;
+      turned = c.plan_turn-planned.ensures;
       jump = found_jump _ _ _ _ c.loop-top.p _ c.aim_around-aim.result c.jump_at-jump.ensures aimed;
     }
+
+-- what it gave
+gave : {rule : Rule} {w : List ℕ} {buffer : Lent} {cx : Context} {A : List Frame} {p : Position} {tree' : List ℕ} {planned outcome : std.Result Plan Refused}
+    → planned ≡ outcome → AtTurn rule w buffer cx A p tree' planned → AtTurn rule w buffer cx A p tree' outcome
+gave {rule} {w} {buffer} {cx} {A} {p} {tree'} e t = subst (λ (z : std.Result Plan Refused). AtTurn rule w buffer cx A p tree' z) e t
 
 -- ---- what applying its plan leaves, where the sets are marked: the change of the stack is left
 
@@ -75,247 +83,271 @@ marked_so : (c : After-mark-in-loop-top-2) → record {
   refused = c.loop-top.cx.refused;
   next_schedule_id = c.loop-top.cx.next_schedule_id;
   stack = c.loop-top.cx.stack;
-} ≡ with_marks (visited_block c.loop-top.p.stage c.loop-top.p.block) c.plan_turn-plan.result.handler c.plan_turn-plan.result.scope c.loop-top.cx
+} ≡ with_marks (visited_block c.loop-top.p.stage c.loop-top.p.block) c.in-Ok.plan.handler c.in-Ok.plan.scope c.loop-top.cx
 marked_so c =
     marks_as _ _ _ c.visited_block.result c.loop-top.cx _ _ _ c.visited_block.ensures c.mark.ensures c.mark-in-loop-top.ensures c.mark-in-loop-top-2.ensures
 
-module _ {rule : Rule} {w : List ℕ} {buffer : Lent} {cx : Context} {A : List Frame} {p : Position} {buffer' : Lent} {plan : Plan} (t : AtTurn rule w buffer cx A p buffer' plan) (on : plan_ends plan ≡ false)
+module _ {rule : Rule} {w : List ℕ} {buffer : Lent} {cx : Context} {A : List Frame} {p : Position} {buffer' : Lent} {plan : Plan} (t : AtTurn rule w buffer cx A p buffer'.tree (Ok plan))
+    (put : LinePut buffer.index buffer.lines plan.line plan.position.rows buffer'.index buffer'.lines) (on : plan_ends (Ok plan) ≡ false)
     {m : Context} (marks_made : m ≡ with_marks (visited_block p.stage p.block) plan.handler plan.scope cx) where
   whole : Whole m
-  whole = subst Whole (sym marks_made) (whole_marked (visited_block p.stage p.block) plan.handler plan.scope cx (turn_applicable t on).whole)
+  whole = subst Whole (sym marks_made) (whole_marked (visited_block p.stage p.block) plan.handler plan.scope cx (turn_applicable t put on).whole)
 
-  module _ {change : Change} (e : plan.change ≡ change) where
+  module _ {change : std.Option Change} (e : plan.change ≡ change) where
     changeable : Changeable change m
     changeable =
         subst (λ (z : Context). Changeable change z) (sym marks_made)
-        (changeable_marked change (visited_block p.stage p.block) plan.handler plan.scope cx (subst (λ (z : Change). Changeable z cx) e (turn_applicable t on).change))
+        (changeable_marked change (visited_block p.stage p.block) plan.handler plan.scope cx (subst (λ (z : std.Option Change). Changeable z cx) e (turn_applicable t put on).change))
 
     blocks : {code at : ℕ} → Blocked change m code at → Reported (report rule (table_of w)) (blocked_by code at plan.position) buffer'.tree buffer'.index
     blocks {code} {at} E =
-        turn_blocked t on (subst (λ (z : Change). Blocked z (with_marks (visited_block p.stage p.block) plan.handler plan.scope cx) code at) (sym e)
+        turn_blocked t put on (subst (λ (z : std.Option Change). Blocked z (with_marks (visited_block p.stage p.block) plan.handler plan.scope cx) code at) (sym e)
         (subst (λ (z : Context). Blocked change z code at) marks_made E))
 
     applied : {r : Context} → Changed change m r → Applied (visited_block p.stage p.block) plan cx r
-    applied {r} E = plan_applied (visited_block p.stage p.block) plan cx m r marks_made (subst (λ (z : Change). Changed z m r) (sym e) E)
+    applied {r} E = plan_applied (visited_block p.stage p.block) plan cx m r marks_made (subst (λ (z : std.Option Change). Changed z m r) (sym e) E)
 
 -- where the frame is kept, if it is
-kept_so : (c : Joined-plan) → c.plan_turn-plan.result.position.depth ≤ 129
-    → frames_in c.if-plan.frames ≡ stored_by c.plan_turn-plan.result.keep c.plan_turn-plan.result.position.depth c.plan_turn-plan.result.frame (frames_in c.loop-top.frames)
-kept_so c deep =
+kept_so : (c : Joined-plan) → c.if-plan.frames ≡ stored_by c.in-Ok.plan.keep c.in-Ok.plan.position.depth c.in-Ok.plan.frame c.loop-top.frames
+kept_so c =
     elim c.if-plan.branch [
-      | then-plan w ↦ stored_kept _ _ _ _ (frames_in c.loop-top.frames) _ w.if-plan.true w.innermost-then-plan.ensures
-          (ap frames_in (w.frames-is ∙ w.keep_frame.ensures) ∙ frame_kept c.loop-top.frames _ c.plan_turn-plan.result.frame (omega (arith, w.innermost-then-plan.ensures, deep)) c.loop-top.invariant.full)
-      | else-plan w ↦ stored_not _ _ _ (frames_in c.loop-top.frames) _ w.if-plan.false (ap frames_in w.frames-is)
-    ]
-
-full_again : (c : Joined-plan) → length c.if-plan.frames ≡ 1032
-full_again c =
-    elim c.if-plan.branch [
-      | then-plan w ↦ ap (length {A = ℕ}) (w.frames-is ∙ w.keep_frame.ensures) ∙ stored_long c.loop-top.frames _ c.plan_turn-plan.result.frame ∙ c.loop-top.invariant.full
-      | else-plan w ↦ ap (length {A = ℕ}) w.frames-is ∙ c.loop-top.invariant.full
+      | then-plan w ↦ stored_kept _ _ _ _ c.loop-top.frames _ w.if-plan.true w.innermost-then-plan.ensures w.frames-is
+      | else-plan w ↦ stored_not _ _ _ c.loop-top.frames _ w.if-plan.false w.frames-is
     ]
 
 -- ---- the answers
 
 pub loop-top-init : goal.loop-top-init
-loop-top-init c = record { walking = walking_start _ _ c.requires (checked_table _ c.requires) _ refl _ _ _ c.new-cx.ensures (frames_count _) c.start-p.ensures; full = length-replicate {A = ℕ} 1032 0 }
+loop-top-init c = walking_start _ _ c.requires (checked_table _ c.requires) _ refl _ _ _ c.new-cx.ensures (length-replicate {A = Frame} 129 no_frame) c.start-p.ensures
 
-pub frame_at-frame-requires : goal.frame_at-frame-requires
-frame_at-frame-requires c = omega (arith, c.innermost.ensures, shallow _ _ c.requires (checked_table _ c.requires) _ _ _ _ c.loop-top.invariant.walking)
+pub offset_bounds-frames-innermost : goal.offset_bounds-frames-innermost
+offset_bounds-frames-innermost c = omega (arith, c.innermost.ensures, shallow _ _ c.requires (checked_table _ c.requires) _ _ _ _ c.loop-top.invariant)
+
+pub bounds-frames-innermost : goal.bounds-frames-innermost
+bounds-frames-innermost c = omega (arith, c.innermost.ensures, shallow _ _ c.requires (checked_table _ c.requires) _ _ _ _ c.loop-top.invariant)
 
 pub jump_at-jump-requires-clause-block_bound : goal.jump_at-jump-requires-clause-block_bound
-jump_at-jump-requires-clause-block_bound c = visit_below _ _ c.requires (checked_table _ c.requires) _ _ _ _ c.loop-top.invariant.walking
+jump_at-jump-requires-clause-block_bound c = visit_below _ _ c.requires (checked_table _ c.requires) _ _ _ _ c.loop-top.invariant
 
 pub loop-at-init : goal.loop-at-init
 loop-at-init c = search_start _ _ _ c.search_from-at.ensures
 
 pub offset_bounds-cx-at : goal.offset_bounds-cx-at
-offset_bounds-cx-at c = omega (arith, c.loop-at.invariant.within, c.loop-top.invariant.walking.whole.bounded.most)
+offset_bounds-cx-at c = omega (arith, c.loop-at.invariant.within, c.loop-top.invariant.whole.bounded.most)
 
 pub bounds-cx-at : goal.bounds-cx-at
-bounds-cx-at c = omega (arith, c.if-at-eq0.false, c.loop-at.invariant.within, c.loop-top.invariant.walking.whole.bounded.most)
+bounds-cx-at c = omega (arith, c.if-at-eq0.false, c.loop-at.invariant.within, c.loop-top.invariant.whole.bounded.most)
 
 pub count_loop-loops-requires : goal.count_loop-loops-requires
-count_loop-loops-requires c = omega (arith, c.if-at-eq0.false, c.loop-at.invariant.within, c.loop-top.invariant.walking.whole.bounded.most)
+count_loop-loops-requires c = omega (arith, c.if-at-eq0.false, c.loop-at.invariant.within, c.loop-top.invariant.whole.bounded.most)
 
 pub loop-at-preserved : goal.loop-at-preserved
 loop-at-preserved c = search_on _ _ _ _ c.loop-at.invariant c.if-at-eq0.false (sym c.meets.ensures ∙ c.if-meets.false) c.count_loop-loops.ensures
 
 pub aim_around-aim-requires-clause-depth_bound : goal.aim_around-aim-requires-clause-depth_bound
-aim_around-aim-requires-clause-depth_bound c = shallow _ _ c.requires (checked_table _ c.requires) _ _ _ _ c.loop-top.invariant.walking
+aim_around-aim-requires-clause-depth_bound c = shallow _ _ c.requires (checked_table _ c.requires) _ _ _ _ c.loop-top.invariant
 
 pub aim_around-aim-requires-clause-by_index : goal.aim_around-aim-requires-clause-by_index
-aim_around-aim-requires-clause-by_index c = frame_block _ _ c.requires (checked_table _ c.requires) _ _ _ _ c.loop-top.invariant.walking
+aim_around-aim-requires-clause-by_index c = frame_block _ _ c.requires (checked_table _ c.requires) _ _ _ _ c.loop-top.invariant
 
 pub aim_around-aim-requires-clause-found_below : goal.aim_around-aim-requires-clause-found_below
 aim_around-aim-requires-clause-found_below c =
-    found_below _ c.jump_at-jump.result c.if-at-eq0.found c.loop-top.invariant.walking.whole (found (goal.at.aim_around-aim-requires-clause-found_below c).Joined-at-eq0)
+    found_below _ c.jump_at-jump.result c.if-at-eq0.found c.loop-top.invariant.whole (found (goal.at.aim_around-aim-requires-clause-found_below c).Joined-at-eq0)
 
-pub plan_turn-plan-requires-clause-ready : goal.plan_turn-plan-requires-clause-ready
-plan_turn-plan-requires-clause-ready c =
-    ready _ _ c.requires (checked_table _ c.requires) _ _ _ _ c.loop-top.invariant.walking c.frame_at-frame.result
-    (frame_read c.loop-top.frames c.innermost.result c.loop-top.p.depth c.frame_at-frame.result c.innermost.ensures (shallow _ _ c.requires (checked_table _ c.requires) _ _ _ _ c.loop-top.invariant.walking) c.frame_at-frame.ensures)
+pub plan_turn-planned-requires-clause-ready : goal.plan_turn-planned-requires-clause-ready
+plan_turn-planned-requires-clause-ready c =
+    ready _ _ c.requires (checked_table _ c.requires) _ _ _ _ c.loop-top.invariant _
+    (frame_read c.loop-top.frames _ c.loop-top.p.depth _ c.innermost.ensures (shallow _ _ c.requires (checked_table _ c.requires) _ _ _ _ c.loop-top.invariant) c.loop-top.invariant.frames)
 
-pub plan_turn-plan-requires-clause-aim_below : goal.plan_turn-plan-requires-clause-aim_below
-plan_turn-plan-requires-clause-aim_below c = c.aim_around-aim.ensures.1
+pub plan_turn-planned-requires-clause-aim_below : goal.plan_turn-planned-requires-clause-aim_below
+plan_turn-planned-requires-clause-aim_below c = c.aim_around-aim.ensures.1
 
 pub put_line-lines-requires : goal.put_line-lines-requires
-put_line-lines-requires c = few_lines _ _ c.requires (checked_table _ c.requires) _ _ _ _ c.loop-top.invariant.walking
+put_line-lines-requires c = few_lines _ _ c.requires (checked_table _ c.requires) _ _ _ _ c.loop-top.invariant
+
+pub returns-in-Err : goal.returns-in-Err
+returns-in-Err c =
+    let g = goal.at.returns-in-Err c in
+    rw c.refuse.ensures (turn_refused (gave c.in-Err.is (turn g.After-plan_turn-planned (found g.Joined-at-eq0))) _ _)
 
 pub returns-then-ends : goal.returns-then-ends
 returns-then-ends c =
     let g = goal.at.returns-then-ends c in
-    rw c.answer.ensures (turn_ends (turn g.After-put_line-lines (found g.Joined-at-eq0)) (sym c.ends.ensures ∙ c.if-ends.true))
+    let t = gave c.in-Ok.is (turn g.After-plan_turn-planned (found g.Joined-at-eq0)) in
+    rw c.answer.ensures (turn_ends t c.put_line-lines.ensures (sym c.ends.ensures ∙ c.if-ends.true))
 
 pub mark-requires : goal.mark-requires
 mark-requires c =
     let g = goal.at.mark-requires c in
-    let t = turn g.After-put_line-lines (found g.Joined-at-eq0) in
+    let t = gave c.in-Ok.is (turn g.After-plan_turn-planned (found g.Joined-at-eq0)) in
+    let put = c.put_line-lines.ensures in
     let on = sym c.ends.ensures ∙ c.if-ends.false in
-    rw c.visited_block.ensures (turn_applicable t on).block
+    rw c.visited_block.ensures (turn_applicable t put on).block
 
 pub mark-requires-in-loop-top : goal.mark-requires-in-loop-top
 mark-requires-in-loop-top c =
     let g = goal.at.mark-requires-in-loop-top c in
-    let t = turn g.After-put_line-lines (found g.Joined-at-eq0) in
+    let t = gave c.in-Ok.is (turn g.After-plan_turn-planned (found g.Joined-at-eq0)) in
+    let put = c.put_line-lines.ensures in
     let on = sym c.ends.ensures ∙ c.if-ends.false in
-    (turn_applicable t on).handler
+    (turn_applicable t put on).handler
 
 pub mark-requires-in-loop-top-2 : goal.mark-requires-in-loop-top-2
 mark-requires-in-loop-top-2 c =
     let g = goal.at.mark-requires-in-loop-top-2 c in
-    let t = turn g.After-put_line-lines (found g.Joined-at-eq0) in
+    let t = gave c.in-Ok.is (turn g.After-plan_turn-planned (found g.Joined-at-eq0)) in
+    let put = c.put_line-lines.ensures in
     let on = sym c.ends.ensures ∙ c.if-ends.false in
-    (turn_applicable t on).scope
+    (turn_applicable t put on).scope
 
-pub keep_frame-requires : goal.keep_frame-requires
-keep_frame-requires c =
-    let g = goal.at.keep_frame-requires c in
-    let t = turn g.After-put_line-lines (found g.Joined-at-eq0) in
+pub bounds-frames-innermost-then-plan : goal.bounds-frames-innermost-then-plan
+bounds-frames-innermost-then-plan c =
+    let g = goal.at.bounds-frames-innermost-then-plan c in
+    let t = gave c.in-Ok.is (turn g.After-plan_turn-planned (found g.Joined-at-eq0)) in
+    let put = c.put_line-lines.ensures in
     let on = sym c.ends.ensures ∙ c.if-ends.false in
-    omega (arith, c.innermost-then-plan.ensures, turn_shallow t on)
+    omega (arith, c.innermost-then-plan.ensures, turn_shallow t put on)
 
-pub loop-top-smaller-in-Nothing : goal.loop-top-smaller-in-Nothing
-loop-top-smaller-in-Nothing c =
-    let g = goal.at.loop-top-smaller-in-Nothing c in
-    let t = turn g.After-put_line-lines (found g.Joined-at-eq0) in
+pub loop-top-smaller-in-None : goal.loop-top-smaller-in-None
+loop-top-smaller-in-None c =
+    let g = goal.at.loop-top-smaller-in-None c in
+    let t = gave c.in-Ok.is (turn g.After-plan_turn-planned (found g.Joined-at-eq0)) in
+    let put = c.put_line-lines.ensures in
     let on = sym c.ends.ensures ∙ c.if-ends.false in
     let m = marked_so g.After-mark-in-loop-top-2 in
-    turn_lower t on (applied t on m c.in-Nothing.is (nothing_changed _ (whole t on m))) (kept_so g.Joined-plan (turn_shallow t on))
+    turn_lower t put on (applied t put on m c.in-None.is (nothing_changed _ (whole t put on m))) (kept_so g.Joined-plan)
 
-pub loop-top-preserved-in-Nothing : goal.loop-top-preserved-in-Nothing
-loop-top-preserved-in-Nothing c =
-    let g = goal.at.loop-top-preserved-in-Nothing c in
-    let t = turn g.After-put_line-lines (found g.Joined-at-eq0) in
+pub loop-top-preserved-in-None : goal.loop-top-preserved-in-None
+loop-top-preserved-in-None c =
+    let g = goal.at.loop-top-preserved-in-None c in
+    let t = gave c.in-Ok.is (turn g.After-plan_turn-planned (found g.Joined-at-eq0)) in
+    let put = c.put_line-lines.ensures in
     let on = sym c.ends.ensures ∙ c.if-ends.false in
     let m = marked_so g.After-mark-in-loop-top-2 in
-    record { walking = turn_again t on (applied t on m c.in-Nothing.is (nothing_changed _ (whole t on m))) (kept_so g.Joined-plan (turn_shallow t on)); full = full_again g.Joined-plan }
+    turn_again t put on (applied t put on m c.in-None.is (nothing_changed _ (whole t put on m))) (kept_so g.Joined-plan)
+
+-- the change in hand, from the two steps of its match
+some_change : {o : std.Option Change} {x y : Change} → o ≡ Some x → x ≡ y → o ≡ Some y
+some_change e f = e ∙ ap (λ (z : Change). Some z) f
 
 pub schedule-cx-requires-clause-named : goal.schedule-cx-requires-clause-named
 schedule-cx-requires-clause-named c =
     let g = goal.at.schedule-cx-requires-clause-named c in
-    let t = turn g.After-put_line-lines (found g.Joined-at-eq0) in
+    let t = gave c.in-Ok.is (turn g.After-plan_turn-planned (found g.Joined-at-eq0)) in
+    let put = c.put_line-lines.ensures in
     let on = sym c.ends.ensures ∙ c.if-ends.false in
     let m = marked_so g.After-mark-in-loop-top-2 in
-    (changeable t on m c.in-Schedule.is).0
+    (changeable t put on m (some_change c.in-Some-Schedule.is (rw c.in-Some-Schedule.is at c.in-Some-Schedule.field-0-is))).0
 
 pub schedule-cx-requires-clause-room : goal.schedule-cx-requires-clause-room
 schedule-cx-requires-clause-room c =
     let g = goal.at.schedule-cx-requires-clause-room c in
-    let t = turn g.After-put_line-lines (found g.Joined-at-eq0) in
+    let t = gave c.in-Ok.is (turn g.After-plan_turn-planned (found g.Joined-at-eq0)) in
+    let put = c.put_line-lines.ensures in
     let on = sym c.ends.ensures ∙ c.if-ends.false in
     let m = marked_so g.After-mark-in-loop-top-2 in
-    (changeable t on m c.in-Schedule.is).1
+    (changeable t put on m (some_change c.in-Some-Schedule.is (rw c.in-Some-Schedule.is at c.in-Some-Schedule.field-0-is))).1
 
-pub returns-then-cx-ne0 : goal.returns-then-cx-ne0
-returns-then-cx-ne0 c =
-    let g = goal.at.returns-then-cx-ne0 c in
-    let t = turn g.After-put_line-lines (found g.Joined-at-eq0) in
+pub returns-in-Some : goal.returns-in-Some
+returns-in-Some c =
+    let g = goal.at.returns-in-Some c in
+    let t = gave c.in-Ok.is (turn g.After-plan_turn-planned (found g.Joined-at-eq0)) in
+    let put = c.put_line-lines.ensures in
     let on = sym c.ends.ensures ∙ c.if-ends.false in
     let m = marked_so g.After-mark-in-loop-top-2 in
-    rw c.blocked.ensures (blocks t on m c.in-Schedule.is (schedule_blocked _ _ _ c.schedule-cx.ensures (whole t on m) c.if-cx-ne0.true))
+    rw c.blocked.ensures (blocks t put on m (some_change c.in-Some-Schedule.is (rw c.in-Some-Schedule.is at c.in-Some-Schedule.field-0-is)) (schedule_blocked _ _ _ c.schedule-cx.ensures (whole t put on m) c.in-Some.is))
 
-pub overflow_sub-entry : goal.overflow_sub-entry
-overflow_sub-entry c = omega (arith, c.schedule-cx.ensures.len)
+pub overflow_sub-cx : goal.overflow_sub-cx
+overflow_sub-cx c = omega (arith, c.schedule-cx.ensures.len)
 
 pub offset_bounds-cx-cx : goal.offset_bounds-cx-cx
 offset_bounds-cx-cx c =
     let g = goal.at.offset_bounds-cx-cx c in
-    let t = turn g.After-put_line-lines (found g.Joined-at-eq0) in
+    let t = gave c.in-Ok.is (turn g.After-plan_turn-planned (found g.Joined-at-eq0)) in
+    let put = c.put_line-lines.ensures in
     let on = sym c.ends.ensures ∙ c.if-ends.false in
     let m = marked_so g.After-mark-in-loop-top-2 in
-    omega (arith, c.schedule-cx.ensures.len, (changeable t on m c.in-Schedule.is).1.len)
+    omega (arith, c.schedule-cx.ensures.len, (changeable t put on m (some_change c.in-Some-Schedule.is (rw c.in-Some-Schedule.is at c.in-Some-Schedule.field-0-is))).1.len)
 
 pub bounds-cx-cx : goal.bounds-cx-cx
 bounds-cx-cx c =
     let g = goal.at.bounds-cx-cx c in
-    let t = turn g.After-put_line-lines (found g.Joined-at-eq0) in
+    let t = gave c.in-Ok.is (turn g.After-plan_turn-planned (found g.Joined-at-eq0)) in
+    let put = c.put_line-lines.ensures in
     let on = sym c.ends.ensures ∙ c.if-ends.false in
     let m = marked_so g.After-mark-in-loop-top-2 in
-    omega (arith, c.schedule-cx.ensures.len, (changeable t on m c.in-Schedule.is).1.len)
+    omega (arith, c.schedule-cx.ensures.len, (changeable t put on m (some_change c.in-Some-Schedule.is (rw c.in-Some-Schedule.is at c.in-Some-Schedule.field-0-is))).1.len)
 
-pub loop-top-smaller-in-Schedule : goal.loop-top-smaller-in-Schedule
+pub loop-top-smaller-in-Some-Schedule : goal.loop-top-smaller-in-Some-Schedule
 unfolding stored
-loop-top-smaller-in-Schedule c =
-    let g = goal.at.loop-top-smaller-in-Schedule c in
-    let t = turn g.After-put_line-lines (found g.Joined-at-eq0) in
+loop-top-smaller-in-Some-Schedule c =
+    let g = goal.at.loop-top-smaller-in-Some-Schedule c in
+    let t = gave c.in-Ok.is (turn g.After-plan_turn-planned (found g.Joined-at-eq0)) in
+    let put = c.put_line-lines.ensures in
     let on = sym c.ends.ensures ∙ c.if-ends.false in
     let m = marked_so g.After-mark-in-loop-top-2 in
-    turn_lower t on (applied t on m c.in-Schedule.is (schedule_changed _ _ _ c.schedule-cx.ensures (whole t on m) c.if-cx-ne0.false (changeable t on m c.in-Schedule.is).1.len)) (kept_so g.Joined-plan (turn_shallow t on))
+    turn_lower t put on (applied t put on m (some_change c.in-Some-Schedule.is (rw c.in-Some-Schedule.is at c.in-Some-Schedule.field-0-is)) (schedule_changed _ _ _ c.schedule-cx.ensures (whole t put on m) c.in_default.is (changeable t put on m (some_change c.in-Some-Schedule.is (rw c.in-Some-Schedule.is at c.in-Some-Schedule.field-0-is))).1.len)) (kept_so g.Joined-plan)
 
-pub loop-top-preserved-in-Schedule : goal.loop-top-preserved-in-Schedule
+pub loop-top-preserved-in-Some-Schedule : goal.loop-top-preserved-in-Some-Schedule
 unfolding stored
-loop-top-preserved-in-Schedule c =
-    let g = goal.at.loop-top-preserved-in-Schedule c in
-    let t = turn g.After-put_line-lines (found g.Joined-at-eq0) in
+loop-top-preserved-in-Some-Schedule c =
+    let g = goal.at.loop-top-preserved-in-Some-Schedule c in
+    let t = gave c.in-Ok.is (turn g.After-plan_turn-planned (found g.Joined-at-eq0)) in
+    let put = c.put_line-lines.ensures in
     let on = sym c.ends.ensures ∙ c.if-ends.false in
     let m = marked_so g.After-mark-in-loop-top-2 in
-    record { walking = turn_again t on (applied t on m c.in-Schedule.is (schedule_changed _ _ _ c.schedule-cx.ensures (whole t on m) c.if-cx-ne0.false (changeable t on m c.in-Schedule.is).1.len)) (kept_so g.Joined-plan (turn_shallow t on)); full = full_again g.Joined-plan }
+    turn_again t put on (applied t put on m (some_change c.in-Some-Schedule.is (rw c.in-Some-Schedule.is at c.in-Some-Schedule.field-0-is)) (schedule_changed _ _ _ c.schedule-cx.ensures (whole t put on m) c.in_default.is (changeable t put on m (some_change c.in-Some-Schedule.is (rw c.in-Some-Schedule.is at c.in-Some-Schedule.field-0-is))).1.len)) (kept_so g.Joined-plan)
 
 pub overflow_sub-last : goal.overflow_sub-last
 overflow_sub-last c =
     let g = goal.at.overflow_sub-last c in
-    let t = turn g.After-put_line-lines (found g.Joined-at-eq0) in
+    let t = gave c.in-Ok.is (turn g.After-plan_turn-planned (found g.Joined-at-eq0)) in
+    let put = c.put_line-lines.ensures in
     let on = sym c.ends.ensures ∙ c.if-ends.false in
     let m = marked_so g.After-mark-in-loop-top-2 in
-    changeable t on m c.in-Unschedule.is
+    changeable t put on m (some_change c.in-Some-Unschedule.is (rw c.in-Some-Unschedule.is at c.in-Some-Unschedule.field-0-is))
 
-pub offset_bounds-cx-cx-in-Unschedule : goal.offset_bounds-cx-cx-in-Unschedule
-offset_bounds-cx-cx-in-Unschedule c =
-    let g = goal.at.offset_bounds-cx-cx-in-Unschedule c in
-    let t = turn g.After-put_line-lines (found g.Joined-at-eq0) in
+pub offset_bounds-cx-cx-in-Some-Unschedule : goal.offset_bounds-cx-cx-in-Some-Unschedule
+offset_bounds-cx-cx-in-Some-Unschedule c =
+    let g = goal.at.offset_bounds-cx-cx-in-Some-Unschedule c in
+    let t = gave c.in-Ok.is (turn g.After-plan_turn-planned (found g.Joined-at-eq0)) in
+    let put = c.put_line-lines.ensures in
     let on = sym c.ends.ensures ∙ c.if-ends.false in
     let m = marked_so g.After-mark-in-loop-top-2 in
-    omega (arith, (whole t on m).bounded.most)
+    omega (arith, (whole t put on m).bounded.most)
 
-pub bounds-cx-cx-in-Unschedule : goal.bounds-cx-cx-in-Unschedule
-bounds-cx-cx-in-Unschedule c =
-    let g = goal.at.bounds-cx-cx-in-Unschedule c in
-    let t = turn g.After-put_line-lines (found g.Joined-at-eq0) in
+pub bounds-cx-cx-in-Some-Unschedule : goal.bounds-cx-cx-in-Some-Unschedule
+bounds-cx-cx-in-Some-Unschedule c =
+    let g = goal.at.bounds-cx-cx-in-Some-Unschedule c in
+    let t = gave c.in-Ok.is (turn g.After-plan_turn-planned (found g.Joined-at-eq0)) in
+    let put = c.put_line-lines.ensures in
     let on = sym c.ends.ensures ∙ c.if-ends.false in
     let m = marked_so g.After-mark-in-loop-top-2 in
-    omega (arith, changeable t on m c.in-Unschedule.is, (whole t on m).bounded.most)
+    omega (arith, changeable t put on m (some_change c.in-Some-Unschedule.is (rw c.in-Some-Unschedule.is at c.in-Some-Unschedule.field-0-is)), (whole t put on m).bounded.most)
 
 pub unschedule-cx-requires : goal.unschedule-cx-requires
 unschedule-cx-requires c =
     let g = goal.at.unschedule-cx-requires c in
-    let t = turn g.After-put_line-lines (found g.Joined-at-eq0) in
+    let t = gave c.in-Ok.is (turn g.After-plan_turn-planned (found g.Joined-at-eq0)) in
+    let put = c.put_line-lines.ensures in
     let on = sym c.ends.ensures ∙ c.if-ends.false in
     let m = marked_so g.After-mark-in-loop-top-2 in
-    last_entry _ _ (changeable t on m c.in-Unschedule.is) refl (whole t on m)
+    last_entry _ _ (changeable t put on m (some_change c.in-Some-Unschedule.is (rw c.in-Some-Unschedule.is at c.in-Some-Unschedule.field-0-is))) refl (whole t put on m)
 
 pub loop-top-smaller : goal.loop-top-smaller
 loop-top-smaller c =
     let g = goal.at.loop-top-smaller c in
-    let t = turn g.After-put_line-lines (found g.Joined-at-eq0) in
+    let t = gave c.in-Ok.is (turn g.After-plan_turn-planned (found g.Joined-at-eq0)) in
+    let put = c.put_line-lines.ensures in
     let on = sym c.ends.ensures ∙ c.if-ends.false in
     let m = marked_so g.After-mark-in-loop-top-2 in
-    turn_lower t on (applied t on m c.in-Unschedule.is (unschedule_changed _ _ _ c.unschedule-cx.ensures (whole t on m))) (kept_so g.Joined-plan (turn_shallow t on))
+    turn_lower t put on (applied t put on m (some_change c.in-Some-Unschedule.is (rw c.in-Some-Unschedule.is at c.in-Some-Unschedule.field-0-is)) (unschedule_changed _ _ _ c.unschedule-cx.ensures (whole t put on m))) (kept_so g.Joined-plan)
 
 pub loop-top-preserved : goal.loop-top-preserved
 loop-top-preserved c =
     let g = goal.at.loop-top-preserved c in
-    let t = turn g.After-put_line-lines (found g.Joined-at-eq0) in
+    let t = gave c.in-Ok.is (turn g.After-plan_turn-planned (found g.Joined-at-eq0)) in
+    let put = c.put_line-lines.ensures in
     let on = sym c.ends.ensures ∙ c.if-ends.false in
     let m = marked_so g.After-mark-in-loop-top-2 in
-    record { walking = turn_again t on (applied t on m c.in-Unschedule.is (unschedule_changed _ _ _ c.unschedule-cx.ensures (whole t on m))) (kept_so g.Joined-plan (turn_shallow t on)); full = full_again g.Joined-plan }
+    turn_again t put on (applied t put on m (some_change c.in-Some-Unschedule.is (rw c.in-Some-Unschedule.is at c.in-Some-Unschedule.field-0-is)) (unschedule_changed _ _ _ c.unschedule-cx.ensures (whole t put on m))) (kept_so g.Joined-plan)

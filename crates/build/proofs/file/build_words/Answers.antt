@@ -14,7 +14,7 @@ use Rattle.build.proofs.file.build_words.Goals as goal
 pub returns-then-built-ne0 : goal.returns-then-built-ne0
 returns-then-built-ne0 c =
     let b = c.build-built in
-    let e = refusal_lines _ _ _ _ _ _ c.if-built-ne0.true ∙ built_printed (rule_of c.args.rule) c.args.words.now lent_words lent_index b.result b.new.tree b.new.index (sym c.lent_rows-tree.ensures) (sym c.lent_lines-index.ensures) b.ensures in
+    let e = refusal_lines _ _ _ _ _ _ c.if-built-ne0.true ∙ built_printed (rule_of c.args.rule) c.args.words.now lent_words lent_index b.result b.new.tree b.new.index (sym c.zeros-tree.ensures) (sym c.zeros-index.ensures) b.ensures in
     written_as e (omega arith) c.write_result.ensures
 
 pub slice_bounds-tree-end : goal.slice_bounds-tree-end
@@ -32,5 +32,5 @@ returns c =
     let b = c.build-built in
     let h = b.ensures in
     let fits : b.result.rows * 6 ≤ length b.new.tree = omega (arith, built_within _ _ _ _ _ _ _ h c.if-built-ne0.false, b.auto.tree) in
-    let e = built_printed (rule_of c.args.rule) c.args.words.now lent_words lent_index b.result b.new.tree b.new.index (sym c.lent_rows-tree.ensures) (sym c.lent_lines-index.ensures) h in
+    let e = built_printed (rule_of c.args.rule) c.args.words.now lent_words lent_index b.result b.new.tree b.new.index (sym c.zeros-tree.ensures) (sym c.zeros-index.ensures) h in
     written_as e (omega (arith, length-take-le (b.result.rows * 6) b.new.tree fits, fits)) c.write_result-2.ensures

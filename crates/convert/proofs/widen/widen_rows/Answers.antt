@@ -1,80 +1,43 @@
-use borrow.Author.Rules.{rules}
 use native.Mathlib.Omega.{arith}
+use Prim.Native.Nat.{ℕ, ◌+◌, ◌-◌, ◌≤◌, ◌<◌}
 use mathlib.Core.Path.{◌≡◌, refl, sym, ◌∙◌}
-use mathlib.Core.List.{[], ◌∷◌, ◌++◌, append-nil}
-use Prim.Native.Nat.{◌+◌, ◌-◌, ◌≤◌}
-use lib.ListN.{length, take, drop, get_or, length-take}
+use mathlib.Core.List.{List, [], ◌∷◌, ◌++◌, append-nil}
+use lib.ListN.{length, get_or, set}
+use Rattle.text.specs.Printed.{Wrote}
 use Rattle.text.proofs.WriteLaws.{wrote_none, wrote_byte, wrote_then}
-use Rattle.convert.proofs.CutLaws.{rows_left}
-use Rattle.convert.proofs.WidenLaws.{doubled_more, doubled_none}
+use Rattle.convert.proofs.CutLaws.{few_rows, rows_counted}
+use Rattle.convert.proofs.WidenLaws.{doubled_more, doubled_end_of_rows}
+use Rattle.convert.proofs.widen.widen_rows.Invariants.{Run}
 use Rattle.convert.proofs.widen.widen_rows.Goals as goal
 
-pub loop-left-init : goal.loop-left-init
-loop-left-init c = record { long = refl; room = omega arith; fit = c.requires.width_in_bounds; written = []; rest = refl; wrote = wrote_none _ _ }
+pub loop-row-init : goal.loop-row-init
+loop-row-init c =
+    rw (c.into_iter-row-iterator.ensures.into_iter_gives, c.chunks_exact-row-items.ensures.rest, c.chunks_exact-row-items.ensures.size)
+    (refl, record { room = omega (arith, few_rows 16384 _ _ c.requires.rows_bound); written = []; split = refl; wrote = wrote_none _ _ })
 
-pub overflow_add-to : goal.overflow_add-to
-overflow_add-to c =
-    let I = c.loop-left.invariant in
-    let step = rows_left c.loop-left.left c.args.width c.loop-left-test.true in
-    omega (arith, I.fit, step)
-
-pub slice_bounds-copy_words-end : goal.slice_bounds-copy_words-end
-slice_bounds-copy_words-end c =
-    let I = c.loop-left.invariant in
-    let step = rows_left c.loop-left.left c.args.width c.loop-left-test.true in
-    let fits : c.loop-left.from + c.args.width ≤ length c.args.old.now = omega (arith, I.fit, step) in
-    search rules
-
-pub copy_words-end-requires : goal.copy_words-end-requires
-copy_words-end-requires c =
-    let I = c.loop-left.invariant in
-    let step = rows_left c.loop-left.left c.args.width c.loop-left-test.true in
-    let part = length-take (c.loop-left.from + c.args.width - c.loop-left.from) (drop c.loop-left.from c.args.old.now) in
-    omega (arith, I.room, c.loop-left-test.true, part)
-
-pub overflow_sub-to : goal.overflow_sub-to
-overflow_sub-to c = omega arith
-
-pub offset_bounds-old-to : goal.offset_bounds-old-to
-offset_bounds-old-to c =
-    let I = c.loop-left.invariant in
-    let step = rows_left c.loop-left.left c.args.width c.loop-left-test.true in
-    omega (arith, I.fit, step)
-
-pub bounds-old-to : goal.bounds-old-to
-bounds-old-to c =
-    let I = c.loop-left.invariant in
-    let step = rows_left c.loop-left.left c.args.width c.loop-left-test.true in
-    omega (arith, I.fit, step)
-
-pub overflow_add-at : goal.overflow_add-at
-overflow_add-at c =
-    let I = c.loop-left.invariant in
-    let step = rows_left c.loop-left.left c.args.width c.loop-left-test.true in
-    let part = length-take (c.loop-left.from + c.args.width - c.loop-left.from) (drop c.loop-left.from c.args.old.now) in
-    omega (arith, I.room, c.loop-left-test.true, part, c.copy_words-end.ensures.long)
-
-pub loop-left-preserved : goal.loop-left-preserved
-loop-left-preserved c =
-    let I = c.loop-left.invariant in
-    let step = rows_left c.loop-left.left c.args.width c.loop-left-test.true in
-    let part = length-take (c.loop-left.from + c.args.width - c.loop-left.from) (drop c.loop-left.from c.args.old.now) in
-    let old = c.args.old.now in
-    let from = c.loop-left.from in
-    let width = c.args.width in
-    let same : from + width - from ≡ width = omega arith in
-    let row = rw same at c.copy_words-end.ensures in
+-- one row more
+run_more : {wide₀ rows wide copied rest : List ℕ} {start width at end : ℕ} (row rest' : List ℕ) → 0 < width → width ≤ 10
+    → Run wide₀ start rows width wide at rest → rest ≡ row ++ rest' → length row ≡ width → Wrote wide at row copied end
+    → Run wide₀ start rows width (set copied end (get_or row (width - 1) 0)) (end + 1) rest'
+run_more {width = width} row rest' some few I parts long put =
+    let one = rows_counted width width row rest' some long in
+    let room = rw parts at I.room in
     record {
-      long = c.put_word.auto.words ∙ c.copy_words-end.auto.wide ∙ I.long;
-      room = omega (arith, I.room, c.loop-left-test.true, part, c.copy_words-end.ensures.long);
-      fit = omega (arith, I.fit, step);
-      written = I.written ++ (take width (drop from old) ++ (get_or old (from + width - 1) 0 ∷ []));
-      rest = doubled_more width c.loop-left.left from old I.written _ c.loop-left-test.true c.requires.le_width (omega (arith, I.fit, step)) I.rest;
-      wrote = wrote_then I.wrote (wrote_then row (rw c.put_word.ensures (wrote_byte _ _ _)));
+      room = omega (arith, room, one, put.long, long);
+      written = I.written ++ (row ++ (get_or row (width - 1) 0 ∷ []));
+      split = doubled_more width row rest' I.written _ some long (rw parts at I.split);
+      wrote = wrote_then I.wrote (wrote_then put (wrote_byte _ _ _));
     }
 
-pub returns : goal.returns
-returns c =
-    let I = c.loop-left.invariant in
-    let none = doubled_none c.args.width c.loop-left.left (drop c.loop-left.from c.args.old.now) c.loop-left-test.false in
-    let all = sym (append-nil I.written) ∙ rw none at I.rest in record { wrote = rw all at I.wrote; upper_bound = omega (arith, I.room) }
+pub loop-row-preserved : goal.loop-row-preserved
+loop-row-preserved c =
+    let size = c.loop-row.invariant.0 in
+    let step = c.in-Some.ensures.steps in
+    let q = c.requires in
+    rw c.put.ensures (step.0 ∙ size, run_more _ _ q.some_words q.width_bound c.loop-row.invariant.1 step.1.0 (step.1.1 ∙ size) c.copy_words-end.ensures)
+
+pub returns-clause-wrote : goal.returns-clause-wrote
+returns-clause-wrote c =
+    let I = c.loop-row.invariant.1 in
+    let few = rw c.loop-row.invariant.0 at c.in-None.ensures.steps.1.0 in
+    rw (sym (append-nil I.written) ∙ rw (doubled_end_of_rows _ _ few) at I.split) at I.wrote

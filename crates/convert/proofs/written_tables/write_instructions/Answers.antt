@@ -1,26 +1,30 @@
 use native.Mathlib.Omega.{arith}
-use Rattle.convert.proofs.TextLaws.{sized_within}
+use mathlib.Core.Path.{ap}
+use Rattle.table.specs.Words.{instruction_count}
+use Rattle.text.specs.Layout.{Columns, instruction_columns}
+use Rattle.convert.proofs.CutLaws.{rows_between}
+use Rattle.convert.proofs.TextLaws.{sized_within, instructions_short}
 use Rattle.convert.proofs.written_tables.write_instructions.Goals as goal
 
-pub write_part-requires : goal.write_part-requires
-write_part-requires c =
-    let within = sized_within _ c.requires.sized in
-    record {
-      names_len_bound = omega (arith, c.instruction_count-rows.ensures, c.instructions_begin-first.ensures, within, c.requires.start_bound);
-      rows_bound = omega (arith, c.instruction_count-rows.ensures, c.instructions_begin-first.ensures, within, c.requires.start_bound);
-      columns_le_stride = omega (arith, c.instruction_count-rows.ensures, c.instructions_begin-first.ensures, within, c.requires.start_bound);
-      stride_bound = omega (arith, c.instruction_count-rows.ensures, c.instructions_begin-first.ensures, within, c.requires.start_bound);
-      stride_in_bounds = omega (arith, c.instruction_count-rows.ensures, c.instructions_begin-first.ensures, within, c.requires.start_bound);
-      start_bound = omega (arith, c.instruction_count-rows.ensures, c.instructions_begin-first.ensures, within, c.requires.start_bound);
-    }
+pub write_part-requires-clause-names_len_bound : goal.write_part-requires-clause-names_len_bound
+write_part-requires-clause-names_len_bound c =
+    let names = ap (λ (columns : Columns). columns.names) c.instruction_columns.ensures in
+    rw names (instructions_short c.args.version).0
 
-pub write_part-requires-in-New : goal.write_part-requires-in-New
-write_part-requires-in-New c =
-    let within = sized_within _ c.requires.sized in
-    omega (arith, c.instruction_count-rows.ensures, c.instructions_begin-first.ensures, within, c.requires.start_bound)
+pub write_part-requires-clause-columns_le_stride : goal.write_part-requires-clause-columns_le_stride
+write_part-requires-clause-columns_le_stride c =
+    let width = ap (λ (columns : Columns). columns.width) c.instruction_columns.ensures in
+    rw width (instructions_short c.args.version).1
 
-pub returns-in-Old : goal.returns-in-Old
-returns-in-Old c = record { wrote = rw c.in-Old.is (rw (c.instruction_count-rows.ensures, c.instructions_begin-first.ensures.0) at c.write_part.ensures.wrote); upper_bound = c.write_part.ensures.upper_bound }
-
-pub returns-in-New : goal.returns-in-New
-returns-in-New c = record { wrote = rw c.in-New.is (rw (c.instruction_count-rows.ensures, c.instructions_begin-first.ensures.0) at c.write_part-in-New.ensures.wrote); upper_bound = c.write_part-in-New.ensures.upper_bound }
+pub returns-clause-wrote : goal.returns-clause-wrote
+returns-clause-wrote c =
+    let words = c.args.words.now in
+    let within = sized_within words c.requires.sized in
+    let first = c.instructions_begin-first.ensures in
+    let end = c.cases_begin-end.ensures in
+    let names = ap (λ (columns : Columns). columns.names) c.instruction_columns.ensures in
+    let width = ap (λ (columns : Columns). columns.width) c.instruction_columns.ensures in
+    let rows =
+    rows_between 7 (instruction_columns c.args.version).width (instruction_count words) c.instructions_begin-first.result c.cases_begin-end.result words (omega arith) (instructions_short c.args.version).1
+    (omega (arith, first, end, within)) (omega (arith, end, within)) in
+    rw (rows, first.0) at (rw (names, width) at c.write_part.ensures.wrote)

@@ -1,27 +1,24 @@
-use mathlib.Core.List.{[]}
-use Rattle.text.proofs.ReadingLaws.{is_answered}
-use Prim.Native.Nat.{ℕ}
-use native.Mathlib.Omega.{arith}
-use mathlib.Core.Path.{sym}
-use lib.ListN.{length-replicate}
+use Rattle.std.proofs.Common.{sym, arith}
 use lib.Seq.{length-take-le}
-use Rattle.text.proofs.PrintsLaws.{words_within, refusal_some, words_printed, refusal_printed, never_short}
+use Rattle.text.proofs.PrintsLaws.{words_within, error_some, words_printed, error_printed, refusal_written}
+use Rattle.text.proofs.ReadingLaws.{is_answered}
 use Rattle.dot.proofs.file.draw_file.Goals as goal
 
 pub slice_bounds-words-end : goal.slice_bounds-words-end
-slice_bounds-words-end c = words_within _ _ _ _ _ (rw c.in-Words.is at (is_answered _ _ _ c.read-answer.ensures))
+slice_bounds-words-end c = words_within _ _ _ _ _ (is_answered _ _ _ c.in-Ok.ensures)
 
 pub slice_bounds-draw_words-end : goal.slice_bounds-draw_words-end
-slice_bounds-draw_words-end c = sym (length-take-le _ _ (words_within _ _ _ _ _ (rw c.in-Words.is at (is_answered _ _ _ c.read-answer.ensures))))
+slice_bounds-draw_words-end c = sym (length-take-le _ _ (words_within _ _ _ _ _ (is_answered _ _ _ c.in-Ok.ensures)))
 
-pub write_refusal-requires : goal.write_refusal-requires
-write_refusal-requires c = refusal_some (rw c.in-Refused.is at (is_answered _ _ _ c.read-answer.ensures)).0
+pub returns-in-Ok : goal.returns-in-Ok
+returns-in-Ok c =
+    let printed = words_printed _ _ _ 77 _ _ _ _ _ _ _ (is_answered _ _ _ c.in-Ok.ensures) c.draw_words.ensures in
+    record { out_after = printed.0; value = printed.1 }
 
-pub returns-in-Words : goal.returns-in-Words
-returns-in-Words c = record { out_after = (words_printed _ _ _ _ _ _ _ _ _ _ _ (rw c.in-Words.is at (is_answered _ _ _ c.read-answer.ensures)) c.draw_words.ensures).0; value = (words_printed _ _ _ _ _ _ _ _ _ _ _ (rw c.in-Words.is at (is_answered _ _ _ c.read-answer.ensures)) c.draw_words.ensures).1 }
-
-pub returns-in-Refused : goal.returns-in-Refused
-returns-in-Refused c = record { out_after = (refusal_printed _ _ _ _ _ _ _ _ _ _ (rw c.in-Refused.is at (is_answered _ _ _ c.read-answer.ensures)).0 c.write_refusal.ensures).0; value = (refusal_printed _ _ _ _ _ _ _ _ _ _ (rw c.in-Refused.is at (is_answered _ _ _ c.read-answer.ensures)).0 c.write_refusal.ensures).1 }
-
-pub returns-in-NoRoom : goal.returns-in-NoRoom
-returns-in-NoRoom c = record { out_after = (never_short _ _ _ 77 _ _ _ _ _ _ (omega (arith, length-replicate {A = ℕ} 16384 0)) (rw c.in-NoRoom.is at (is_answered _ _ _ c.read-answer.ensures))).0; value = (never_short _ _ _ _ _ [] _ _ _ _ (omega (arith, length-replicate {A = ℕ} 16384 0)) (rw c.in-NoRoom.is at (is_answered _ _ _ c.read-answer.ensures))).1 }
+pub returns-in-Err : goal.returns-in-Err
+returns-in-Err c =
+    let answered = is_answered _ _ _ c.in-Err.ensures in
+    let w = c.write.ensures in
+    let written = refusal_written c.code.result c.place.result _ (rw c.code.ensures (error_some _)) c.code.type_inv c.place.type_inv w.value w.out_after in
+    let printed = error_printed _ _ _ 77 _ _ _ _ _ _ _ (omega (arith, c.zeros-words.ensures)) answered (rw (c.code.ensures, c.place.ensures) at written) in
+    record { out_after = printed.0; value = printed.1 }

@@ -1,46 +1,32 @@
 use native.Mathlib.Omega.{arith}
-use mathlib.Core.Path.{refl, sym, ◌∙◌}
+use mathlib.Core.Path.{sym, ◌∙◌}
 use mathlib.Core.List.{[], ◌++◌, append-nil}
 use Rattle.table.specs.Words.{block_count}
 use Rattle.table.specs.Table.{table_of}
-use Rattle.text.proofs.WriteLaws.{wrote_none, wrote_then}
 use Rattle.table.specs.Lines.{named_at, lines_to}
+use Rattle.text.proofs.WriteLaws.{wrote_none, wrote_then}
 use Rattle.dot.specs.Dot.{lines_text}
 use Rattle.dot.proofs.DotLaws.{all_rows, rows_more, rows_done}
 use Rattle.dot.proofs.graph.write_rows.Goals as goal
 
 pub loop-row-init : goal.loop-row-init
-loop-row-init c = record { most = omega arith; long = refl; room = omega arith; written = []; rest = all_rows _; wrote = wrote_none _ _ }
-
-pub write_row-at-requires : goal.write_row-at-requires
-write_row-at-requires c =
-    let few = c.requires.promise.sized.limited.blocks in
-    let below = rw c.block_count-rows.ensures at c.loop-row-test.true in
-    record { promise = c.requires.promise; row_bound = below; start_bound = omega (arith, below, few, c.loop-row.invariant.room, c.requires.start_bound) }
-
-pub overflow_add-row : goal.overflow_add-row
-overflow_add-row c = omega (arith, c.loop-row-test.true, c.block_count-rows.ensures, c.requires.promise.sized.limited.blocks)
-
-pub loop-row-smaller : goal.loop-row-smaller
-loop-row-smaller c = omega (arith, c.loop-row-test.true)
+loop-row-init c = record { room = omega arith; written = []; rest = all_rows _; wrote = wrote_none _ _ }
 
 pub loop-row-preserved : goal.loop-row-preserved
 loop-row-preserved c =
     let I = c.loop-row.invariant in
     let t = table_of c.args.words.now in
-    let below = rw c.block_count-rows.ensures at c.loop-row-test.true in
+    let below = rw c.block_count-row-end.ensures at c.loop-row-test.true in
     record {
-      most = omega (arith, below);
-      long = c.write_row-at.auto.text ∙ I.long;
       room = omega (arith, I.room, c.write_row-at.ensures.upper_bound);
       written = I.written ++ lines_text (lines_to c.loop-row.row (named_at t c.loop-row.row));
       rest = rows_more t I.written _ _ c.loop-row.row below I.rest;
       wrote = wrote_then I.wrote c.write_row-at.ensures.wrote;
     }
 
-pub returns : goal.returns
-returns c =
+pub returns-clause-wrote : goal.returns-clause-wrote
+returns-clause-wrote c =
     let I = c.loop-row.invariant in
     let words = c.args.words.now in
-    let none = rows_done (table_of words) (block_count words) c.loop-row.row (rw c.block_count-rows.ensures at c.loop-row-test.false) in
-    let all = sym (append-nil I.written) ∙ rw none at I.rest in record { wrote = rw all at I.wrote; upper_bound = omega (arith, I.room, I.most, c.requires.promise.sized.limited.blocks) }
+    let none = rows_done (table_of words) (block_count words) c.loop-row.row (rw c.block_count-row-end.ensures at c.loop-row-test.false) in
+    rw (sym (append-nil I.written) ∙ rw none at I.rest) at I.wrote

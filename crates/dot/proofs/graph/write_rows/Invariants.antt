@@ -3,7 +3,6 @@
 use mathlib.Core.Path.{◌≡◌}
 use mathlib.Core.List.{List, ◌++◌}
 use Prim.Native.Nat.{ℕ, ◌+◌, ◌*◌, ◌-◌, ◌≤◌}
-use lib.ListN.{length}
 use Rattle.table.specs.Words.{block_count}
 use Rattle.table.specs.Table.{Table, table_of}
 use Rattle.text.specs.Printed.{Wrote}
@@ -13,8 +12,6 @@ use Rattle.dot.proofs.graph.write_rows.Given as goal
 
 -- the lines of the rows before `row` were written
 pub record Run (t : Table) (text₀ : List ℕ) (start rows : ℕ) (text : List ℕ) (at row : ℕ) : Type 0 where
-  pub most : row ≤ rows
-  pub long : length text ≡ length text₀
   pub room : at ≤ start + row * 28812
   pub written : List ℕ
   pub rest : written ++ lines_text (lines_from t row (rows - row)) ≡ lines_text (lines t)
@@ -22,6 +19,3 @@ pub record Run (t : Table) (text₀ : List ℕ) (start rows : ℕ) (text : List 
 
 abbrev pub invariant-loop-row : goal.invariant-loop-row
 invariant-loop-row l = Run (table_of l.words) l.initial.text l.start (block_count l.words) l.text l.at l.row
-
-abbrev pub decreases-loop-row : goal.decreases-loop-row
-decreases-loop-row l = l.rows - l.row

@@ -1,8 +1,23 @@
-use mathlib.Core.Path.{◌∙◌}
-use Rattle.order.proofs.WalkLaws.{in_order, order_numbers}
+use native.Mathlib.Omega.{arith}
+use mathlib.Core.Path.{◌≡◌, refl, sym, ap, ◌∙◌}
+use Rattle.std.proofs.Common.{length}
+use Rattle.order.proofs.QueueLaws.{row_named}
+use Rattle.order.proofs.WalkLaws.{in_order, order_long}
 use Rattle.order.proofs.block_walk.walking_order.Goals as goal
+
+pub loop-block-init : goal.loop-block-init
+loop-block-init c = refl
+
+pub loop-block-preserved : goal.loop-block-preserved
+loop-block-preserved c = row_named _ c.loop-block.block c.loop-block.invariant c.name.ensures
+
+pub copy_to-requires : goal.copy_to-requires
+copy_to-requires c =
+    let all : c.loop-block.block ≡ c.block_count-block-end.result = omega (arith, c.loop-block.auto.block-end, c.loop-block-test.false) in
+    let whole = in_order c.args.words.now c.walk-queue.ensures (rw (all, c.block_count-block-end.ensures) at c.loop-block.invariant) in
+    c.requires.list_len ∙ sym (ap length whole ∙ order_long _ c.requires.promise)
 
 pub returns : goal.returns
 returns c =
-    let joined = rw c.block_count.ensures at c.name_rest.ensures in
-    let long = c.walk-found.auto.list ∙ c.requires.list_len in record { list_after = in_order _ c.requires.promise joined c.walk-found.ensures.list_after long; numbers = order_numbers _ c.requires.promise joined c.walk-found.ensures.list_after long }
+    let all : c.loop-block.block ≡ c.block_count-block-end.result = omega (arith, c.loop-block.auto.block-end, c.loop-block-test.false) in
+    c.copy_to.ensures ∙ in_order c.args.words.now c.walk-queue.ensures (rw (all, c.block_count-block-end.ensures) at c.loop-block.invariant)

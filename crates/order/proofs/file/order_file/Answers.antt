@@ -1,31 +1,32 @@
-use mathlib.Core.List.{[]}
-use native.Mathlib.Omega.{arith}
-use mathlib.Core.Path.{sym}
+use Rattle.std.proofs.Common.{sym, arith}
 use lib.Seq.{length-take-le}
-use Rattle.text.proofs.PrintsLaws.{words_within, words_read, refusal_some, words_printed, refusal_printed, never_short}
+use Rattle.text.proofs.PrintsLaws.{words_within, words_read, error_some, words_printed, error_printed}
 use Rattle.text.proofs.ReadingLaws.{is_answered}
 use Rattle.order.proofs.OrderedLaws.{words_few}
 use Rattle.order.proofs.file.order_file.Goals as goal
 
 pub slice_bounds-words-end : goal.slice_bounds-words-end
-slice_bounds-words-end c = words_within _ _ _ _ _ (rw c.in-Words.is at (is_answered _ _ _ c.read-answer.ensures))
+slice_bounds-words-end c = words_within _ _ _ _ _ (is_answered _ _ _ c.in-Ok.ensures)
 
 pub slice_bounds-order_words-end : goal.slice_bounds-order_words-end
-slice_bounds-order_words-end c = sym (length-take-le _ _ (words_within _ _ _ _ _ (rw c.in-Words.is at (is_answered _ _ _ c.read-answer.ensures))))
+slice_bounds-order_words-end c = sym (length-take-le _ _ (words_within _ _ _ _ _ (is_answered _ _ _ c.in-Ok.ensures)))
 
 pub order_words-requires : goal.order_words-requires
 order_words-requires c =
-    let h = rw c.in-Words.is at (is_answered _ _ _ c.read-answer.ensures) in
-    rw (words_read _ _ _ _ _ h) (words_few _ _ _ h.1)
+    let answered = is_answered _ _ _ c.in-Ok.ensures in
+    rw (words_read _ _ _ _ _ answered) (words_few _ _ _ answered.1)
+
+pub returns-in-Ok : goal.returns-in-Ok
+returns-in-Ok c =
+    let printed = words_printed _ _ _ 180368 _ _ _ _ _ _ _ (is_answered _ _ _ c.in-Ok.ensures) c.order_words.ensures in
+    record { out_after = printed.0; value = printed.1 }
 
 pub write_refusal-requires : goal.write_refusal-requires
-write_refusal-requires c = refusal_some (rw c.in-Refused.is at (is_answered _ _ _ c.read-answer.ensures)).0
+write_refusal-requires c = rw c.code.ensures (error_some _)
 
-pub returns-in-Words : goal.returns-in-Words
-returns-in-Words c = record { out_after = (words_printed _ _ _ _ _ _ _ _ _ _ _ (rw c.in-Words.is at (is_answered _ _ _ c.read-answer.ensures)) c.order_words.ensures).0; value = (words_printed _ _ _ _ _ _ _ _ _ _ _ (rw c.in-Words.is at (is_answered _ _ _ c.read-answer.ensures)) c.order_words.ensures).1 }
-
-pub returns-in-Refused : goal.returns-in-Refused
-returns-in-Refused c = let refused = (rw c.in-Refused.is at (is_answered _ _ _ c.read-answer.ensures)).0 in record { out_after = (refusal_printed _ _ _ _ _ _ _ _ _ _ refused c.write_refusal.ensures).0; value = (refusal_printed _ _ _ _ _ _ _ _ _ _ refused c.write_refusal.ensures).1 }
-
-pub returns-in-NoRoom : goal.returns-in-NoRoom
-returns-in-NoRoom c = record { out_after = (never_short _ _ _ 180368 _ _ _ _ _ _ (omega (arith, c.lent_words-words.ensures)) (rw c.in-NoRoom.is at (is_answered _ _ _ c.read-answer.ensures))).0; value = (never_short _ _ _ _ _ [] _ _ _ _ (omega (arith, c.lent_words-words.ensures)) (rw c.in-NoRoom.is at (is_answered _ _ _ c.read-answer.ensures))).1 }
+pub returns-in-Err : goal.returns-in-Err
+returns-in-Err c =
+    let answered = is_answered _ _ _ c.in-Err.ensures in
+    let written = rw (c.code.ensures, c.place.ensures) at c.write_refusal.ensures in
+    let printed = error_printed _ _ _ 180368 _ _ _ _ _ _ _ (omega (arith, c.zeros-words.ensures)) answered written in
+    record { out_after = printed.0; value = printed.1 }

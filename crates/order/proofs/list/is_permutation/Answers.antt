@@ -1,34 +1,24 @@
-use native.Mathlib.Omega.{arith}
-use mathlib.Core.Path.{refl, sym}
-use native.Mathlib.Numerals.{add-one}
-use Rattle.definition.proofs.Steps.{true_false}
-use Rattle.order.proofs.QueueLaws.{fresh_queue, queue_next}
-use Rattle.order.proofs.ListLaws.{wrong_length, no_block, stands_twice, stands_once, all_numbers}
+use Rattle.order.proofs.QueueLaws.{queued_none}
+use Rattle.order.proofs.ListLaws.{wrong_length, no_block, stands_twice, stands_first, stands_once}
 use Rattle.order.proofs.list.is_permutation.Goals as goal
+use Rattle.order.proofs.list.is_permutation.Goals.{then-block-blocks-via-then-block-blocks, then-block-blocks-via-else-block-blocks+then-found-block}
 
-pub returns-then-list-count : goal.returns-then-list-count
-returns-then-list-count c = record { value = wrong_length _ _ c.if-list-count.true; numbers = (λ e. absurd (true_false (sym e))) }
+pub returns-then-list-blocks : goal.returns-then-list-blocks
+returns-then-list-blocks c = wrong_length _ _ c.if-list-blocks.true
 
-pub loop-i-init : goal.loop-i-init
-loop-i-init c = fresh_queue c.requires.fresh (omega (arith, c.if-list-count.false, c.requires.blocks_bound))
+pub loop-block-init : goal.loop-block-init
+loop-block-init c = queued_none _
 
 pub returns-then-block-blocks : goal.returns-then-block-blocks
-returns-then-block-blocks c = record { value = no_block _ _ c.loop-i.i c.loop-i-test.true c.if-block-blocks.true; numbers = (λ e. absurd (true_false (sym e))) }
+returns-then-block-blocks c = elim c.then-block-blocks.branch [
+  | then-block-blocks-via-then-block-blocks w ↦ no_block _ _ c.loop-block.block-index c.loop-block-test.true w.if-block-blocks.true
+  | then-block-blocks-via-else-block-blocks+then-found-block w ↦
+      stands_twice _ _ c.loop-block.block-index c.loop-block.invariant c.requires c.if-list-blocks.false c.loop-block-test.true w.if-block-blocks.false w.if-found-block.true
+]
 
-pub bounds-new-b : goal.bounds-new-b
-bounds-new-b c = omega (arith, c.if-block-blocks.false, c.loop-i.invariant.wide, c.requires.blocks_bound)
-
-pub returns-then-new-b-ne65535 : goal.returns-then-new-b-ne65535
-returns-then-new-b-ne65535 c = record { value = stands_twice c.loop-i.invariant _ c.loop-i-test.true (omega (arith, c.if-block-blocks.false, c.if-list-count.false)) c.if-new-b-ne65535.true; numbers = (λ e. absurd (true_false (sym e))) }
-
-pub overflow_cast-new : goal.overflow_cast-new
-overflow_cast-new c = omega (arith, c.loop-i-test.true, c.loop-i.invariant.few)
-
-pub bounds-new-b-in-loop-i : goal.bounds-new-b-in-loop-i
-bounds-new-b-in-loop-i c = omega (arith, c.if-block-blocks.false, c.loop-i.invariant.wide, c.requires.blocks_bound)
-
-pub loop-i-preserved : goal.loop-i-preserved
-loop-i-preserved c = rw (add-one c.loop-i.i) (queue_next c.loop-i.invariant _ c.loop-i-test.true refl (omega (arith, c.if-block-blocks.false, c.if-list-count.false)) c.if-new-b-ne65535.false)
+pub loop-block-preserved : goal.loop-block-preserved
+loop-block-preserved c =
+    stands_first _ _ c.loop-block.block-index c.loop-block.invariant c.requires c.if-list-blocks.false c.loop-block-test.true c.if-block-blocks.false c.if-found-block.false
 
 pub returns : goal.returns
-returns c = record { value = stands_once c.loop-i.invariant _ c.if-list-count.false c.loop-i-test.false; numbers = (λ e. all_numbers c.loop-i.invariant _ c.if-list-count.false c.loop-i-test.false) }
+returns c = stands_once _ _ c.loop-block.block-index c.loop-block.invariant c.requires c.if-list-blocks.false c.loop-block-test.false

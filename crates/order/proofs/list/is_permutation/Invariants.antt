@@ -1,11 +1,7 @@
--- The invariant: the words before i are blocks, none of them twice, and have their places.
-use Prim.Native.Nat.{◌-◌}
-use lib.ListN.{length}
-use Rattle.order.specs.Queue.{Queue}
+-- The invariant: the words so far are blocks, none of them twice, and have their flags.
+use Rattle.std.proofs.Common.{take}
+use Rattle.order.specs.Queue.{Queued}
 use Rattle.order.proofs.list.is_permutation.Given as goal
 
-abbrev pub invariant-loop-i : goal.invariant-loop-i
-invariant-loop-i l = Queue l.list l.new l.i
-
-abbrev pub decreases-loop-i : goal.decreases-loop-i
-decreases-loop-i l = length l.list - l.i
+abbrev pub invariant-loop-block : goal.invariant-loop-block
+invariant-loop-block l = Queued l.blocks (take l.block-index l.list) l.found

@@ -1,11 +1,8 @@
 -- The invariant: so many rows have been written.
-use Prim.Native.Nat.{◌+◌, ◌*◌, ◌-◌, ◌≤◌}
+use Prim.Native.Nat.{◌+◌, ◌*◌, ◌≤◌}
 use Rattle.table.specs.Words.{block_count}
 use Rattle.order.specs.Write.{Writing}
 use Rattle.order.proofs.write.write_blocks.Given as goal
 
 abbrev pub invariant-loop-row : goal.invariant-loop-row
 invariant-loop-row l = (l.row ≤ block_count l.words) × Writing l.words l.names l.rows l.new_words (6 + l.row * 11)
-
-abbrev pub decreases-loop-row : goal.decreases-loop-row
-decreases-loop-row l = block_count l.words - l.row

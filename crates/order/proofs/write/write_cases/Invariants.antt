@@ -1,11 +1,8 @@
 -- The invariant: so many case rows have been written.
-use Prim.Native.Nat.{◌+◌, ◌*◌, ◌-◌, ◌≤◌}
+use Prim.Native.Nat.{◌+◌, ◌*◌, ◌≤◌}
 use Rattle.table.specs.Words.{case_count, cases_begin}
 use Rattle.order.specs.Write.{Writing}
 use Rattle.order.proofs.write.write_cases.Given as goal
 
 abbrev pub invariant-loop-case : goal.invariant-loop-case
 invariant-loop-case l = (l.case ≤ case_count l.words) × Writing l.words l.names l.rows l.new_words (cases_begin l.words + l.case * 2)
-
-abbrev pub decreases-loop-case : goal.decreases-loop-case
-decreases-loop-case l = case_count l.words - l.case

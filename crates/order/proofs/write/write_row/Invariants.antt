@@ -1,10 +1,7 @@
 -- The invariant: k columns of the row have been written.
-use Prim.Native.Nat.{◌+◌, ◌*◌, ◌-◌, ◌≤◌}
+use Prim.Native.Nat.{◌+◌, ◌*◌}
 use Rattle.order.specs.Write.{Writing}
 use Rattle.order.proofs.write.write_row.Given as goal
 
 abbrev pub invariant-loop-k : goal.invariant-loop-k
-invariant-loop-k l = (l.k ≤ 11) × Writing l.words l.names l.rows l.new_words (6 + l.row * 11 + l.k)
-
-abbrev pub decreases-loop-k : goal.decreases-loop-k
-decreases-loop-k l = 11 - l.k
+invariant-loop-k l = Writing l.words l.names l.rows l.new_words (6 + l.row * 11 + l.k)

@@ -1,22 +1,13 @@
-use mathlib.Core.Path.{ap}
-use mathlib.Core.Bool.{not}
-use native.Mathlib.Omega.{arith}
+use Rattle.std.proofs.Common.{◌∙◌, refl, arith, rules}
+use Rattle.std.proofs.lemmas.Iterator.{YieldsList-from_range}
+use Rattle.std.proofs.lemmas.Iterator.Search.{all_from_yields_List}
 use Rattle.table.specs.Table.{table_of}
 use Rattle.plain.specs.Laws.{test_by}
-use Rattle.plain.proofs.EveryLaws.{yet_none, yet_more, yet_all, yet_not}
+use Rattle.plain.proofs.EveryLaws.{asked, every_block}
 use Rattle.plain.proofs.laws.every_block.Goals as goal
 
-pub loop-block-init : goal.loop-block-init
-loop-block-init c = yet_none _ c.block_count-count.ensures
-
-pub test_by-requires : goal.test_by-requires
-test_by-requires c = record { promise = c.requires; block_bound = omega (arith, c.loop-block-test.true, c.loop-block.invariant.all) }
-
-pub returns-then-not-test_by : goal.returns-then-not-test_by
-returns-then-not-test_by c = yet_not (test_by (table_of _) c.args.law) c.loop-block.invariant c.loop-block-test.true c.test_by.ensures (ap not c.if-not-test_by.true)
-
-pub loop-block-preserved : goal.loop-block-preserved
-loop-block-preserved c = yet_more (test_by (table_of _) c.args.law) c.loop-block.invariant c.loop-block-test.true c.test_by.ensures (ap not c.if-not-test_by.false)
-
 pub returns : goal.returns
-returns c = yet_all (test_by (table_of _) c.args.law) c.loop-block.invariant c.loop-block-test.false
+returns c =
+    let test = test_by (table_of c.args.words.now) c.args.law in
+    all_from_yields_List (asked c.args.words.now test) _ _ _ c.all.ensures.ran (YieldsList-from_range 0 _ c.block_count.result refl (omega arith)) (λ x b q k. search rules)
+    ∙ every_block c.args.words.now test c.block_count.ensures

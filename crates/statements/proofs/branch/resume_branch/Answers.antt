@@ -1,4 +1,4 @@
-use native.Mathlib.Omega.{arith}
+use Rattle.statements.specs.declared.refusal.Refusal.TheVariants.{BranchAlternateScheduled}
 use Rattle.statements.proofs.ResumeLaws.{closing_of, resumed_closed, resumed_seen, resumed_alternate, branch_second, branch_alternate, branch_alternate_below}
 use Rattle.statements.proofs.branch.resume_branch.Goals as goal
 
@@ -17,7 +17,7 @@ alternate-requires c = branch_alternate_below c.args.words.now c.args.p c.args.f
 
 pub returns : goal.returns
 returns c =
-    resumed_alternate c.args.words.now c.args.p c.args.frame c.args.scheduled.now c.args.catch_handlers.now _ 19 _ _
+    resumed_alternate c.args.words.now c.args.p c.args.frame c.args.scheduled.now c.args.catch_handlers.now _ (BranchAlternateScheduled c.args.frame.block) _
     c.args.tree.now (branch_alternate c.args.words.now c.args.p c.args.frame c.requires.resuming c.branch_at-terminal.ensures
-    c.if-frame.false) c.requires.resuming.depth (λ z. omega arith)
+    c.if-frame.false) c.requires.resuming.depth
     c.alternate.ensures

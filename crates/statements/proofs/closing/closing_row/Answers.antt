@@ -1,6 +1,7 @@
 -- `statements::closing::closing_row` meets its contract, by the code of the block: one law of CloseLaws for each statement that has a closing row, and
 -- `closing_none` for any other code.
-use mathlib.Core.Path.{sym, subst, ◌∙◌}
+use mathlib.Core.Path.{sym, subst, ap, ◌∙◌}
+use Rattle.definition.specs.Tree.{flag_of}
 use Rattle.statements.proofs.CloseLaws.{if_closes, branch_closes, switch_closes, for_closes, try_closes, do_while_closes, while_closes, for_of_closes, for_in_closes, label_closes}
 use Rattle.statements.proofs.CloseLaws.{scope_closes, pruned_closes, closing_none, Closes}
 use Rattle.statements.proofs.closing.closing_row.Goals as goal
@@ -21,7 +22,7 @@ pub returns-in-9 : goal.returns-in-9
 returns-in-9 c = while_closes c.args.frame c.block_at-head.ensures c.requires.block_bound c.code_at.ensures c.in-9.is c.row-in-9.ensures
 
 pub returns-in-10 : goal.returns-in-10
-returns-in-10 c = for_closes c.args.frame c.block_at-head.ensures c.for_at-terminal.ensures c.has_update.ensures c.row-in-10.ensures
+returns-in-10 c = for_closes c.args.frame c.block_at-head.ensures _ c.for_at-terminal.ensures (c.flag-in-10.ensures ∙ ap flag_of c.is_some.ensures) c.row-in-10.ensures
 
 pub returns-in-11 : goal.returns-in-11
 returns-in-11 c = for_of_closes c.args.frame c.block_at-head.ensures c.requires.block_bound c.code_at.ensures c.in-11.is c.row-in-11.ensures

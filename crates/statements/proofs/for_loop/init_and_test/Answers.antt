@@ -1,12 +1,14 @@
-use Rattle.statements.proofs.LoopLaws.{tested_made_lem, nothing_spent, first_spent, second_spent}
-use borrow.Author.Rules.{rules}
+use Rattle.statements.proofs.LoopLaws.{init_refused, tested_made_lem, second_spent}
+use Rattle.values.proofs.MetLaws.{handed_on}
 use Rattle.statements.proofs.for_loop.init_and_test.Goals as goal
 
-pub flat_value-first-requires : goal.flat_value-first-requires
-flat_value-first-requires c = search (nothing_spent, rules)
-
-pub plain_value-requires : goal.plain_value-requires
-plain_value-requires c = search (first_spent, rules)
+pub returns-in_err-first : goal.returns-in_err-first
+returns-in_err-first c =
+    let q = handed_on c.from_residual.ensures in
+    record { made = (init_refused _ _ c.args.init c.args.test c.tally_of.ensures q c.in_err-first.ensures).0; spent = rw q tt }
 
 pub returns : goal.returns
-returns c = search (tested_made_lem, second_spent)
+returns c =
+    let first = c.in_ok-first.ensures in
+    let more = c.plain_value.ensures in
+    record { made = tested_made_lem _ _ c.args.init c.args.test c.tally_of.ensures first more; spent = second_spent c.args.p _ c.tally_of.ensures first.spent more.spent }

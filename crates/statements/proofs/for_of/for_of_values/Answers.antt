@@ -1,12 +1,9 @@
-use Rattle.statements.proofs.LoopLaws.{for_of_made_lem, nothing_spent, first_spent}
-use borrow.Author.Rules.{rules}
+use Rattle.statements.proofs.LoopLaws.{init_refused, for_of_made_lem}
+use Rattle.values.proofs.MetLaws.{handed_on}
 use Rattle.statements.proofs.for_of.for_of_values.Goals as goal
 
-pub flat_value-first-requires : goal.flat_value-first-requires
-flat_value-first-requires c = search (nothing_spent, rules)
-
-pub flat_value-requires : goal.flat_value-requires
-flat_value-requires c = search (first_spent, rules)
+pub returns-in_err-first : goal.returns-in_err-first
+returns-in_err-first c = (init_refused _ _ c.args.init c.args.test c.tally_of.ensures (handed_on c.from_residual.ensures) c.in_err-first.ensures).1
 
 pub returns : goal.returns
-returns c = search for_of_made_lem
+returns c = for_of_made_lem _ _ c.args.init c.args.test c.tally_of.ensures c.in_ok-first.ensures c.flat_value-2.ensures

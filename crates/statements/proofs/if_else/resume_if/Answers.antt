@@ -1,4 +1,4 @@
-use native.Mathlib.Omega.{arith}
+use Rattle.statements.specs.declared.refusal.Refusal.TheVariants.{AlternateScheduled}
 use Rattle.statements.proofs.ResumeLaws.{closing_of, resumed_closed, resumed_seen, resumed_alternate, if_second, if_without, if_alternate, if_alternate_below}
 use Rattle.statements.proofs.if_else.resume_if.Goals as goal
 
@@ -27,7 +27,7 @@ alternate-requires c = if_alternate_below c.args.words.now c.args.p c.args.frame
 
 pub returns : goal.returns
 returns c =
-    resumed_alternate c.args.words.now c.args.p c.args.frame c.args.scheduled.now c.args.catch_handlers.now _ 13 _ _
+    resumed_alternate c.args.words.now c.args.p c.args.frame c.args.scheduled.now c.args.catch_handlers.now _ (AlternateScheduled c.if_at-terminal.result.alternate) _
     c.args.tree.now (if_alternate c.args.words.now c.args.p c.args.frame c.requires.resuming c.if_at-terminal.ensures
-    c.if-frame.false c.if-block-terminal.false) c.requires.resuming.depth (λ z. omega arith)
+    c.if-frame.false c.if-block-terminal.false) c.requires.resuming.depth
     c.alternate.ensures

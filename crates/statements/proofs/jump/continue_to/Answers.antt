@@ -3,7 +3,7 @@ use mathlib.Core.Path.{refl}
 use Rattle.statements.proofs.jump.continue_to.Goals as goal
 
 pub returns-then-goal : goal.returns-then-goal
-returns-then-goal c = continue_unnamed_lem c.args.p.block c.args.id c.args.p.rows c.args.goal _ _ c.if-goal.true c.refuse_jump.ensures
+returns-then-goal c = continue_unnamed_lem c.args.p.block c.args.id c.args.p.rows c.args.goal _ _ c.if-goal.true refl
 
 pub returns : goal.returns
 returns c =

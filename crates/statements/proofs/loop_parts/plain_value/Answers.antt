@@ -1,13 +1,19 @@
-use Rattle.statements.proofs.LoopLaws.{more_refused, plain_more}
+use Rattle.statements.proofs.LoopLaws.{more_refused, more_found}
+use Rattle.statements.specs.Loops.{plain_form}
+use Rattle.values.proofs.MetLaws.{handed_on}
 use Rattle.definition.specs.Value.{visit_value_block}
 use Rattle.table.specs.Table.{table_of}
 use Prim.Native.Nat.{◌-◌}
+use mathlib.Core.Path.{refl}
+use native.Mathlib.Omega.{arith}
 use Rattle.statements.proofs.loop_parts.plain_value.Goals as goal
 
-pub returns-then-before-ne0 : goal.returns-then-before-ne0
-returns-then-before-ne0 c = more_refused c.args.before _ c.if-before-ne0.true c.requires.spent
+pub returns-in_err-value : goal.returns-in_err-value
+returns-in_err-value c =
+    rw (← c.span_at-span.ensures) (more_refused c.args.before (visit_value_block (table_of c.args.words.now) (127 - c.args.p.depth))
+    plain_form c.args.block c.span_at-span.result (handed_on c.from_residual.ensures) c.in_err-value.ensures)
 
 pub returns : goal.returns
 returns c =
-    rw (← c.span_at-span.ensures) (plain_more c.args.before (visit_value_block (table_of c.args.words.now) (127 - c.args.p.depth))
-    c.args.block c.span_at-span.result c.if-before-ne0.false c.visit_value_block.ensures _ c.values_of.ensures)
+    rw (← c.span_at-span.ensures) (more_found c.args.before (visit_value_block (table_of c.args.words.now) (127 - c.args.p.depth))
+    plain_form c.args.block c.span_at-span.result c.in_ok-value.ensures _ _ refl (omega arith) (λ below h. h))

@@ -1,13 +1,6 @@
 use mathlib.Core.Path.{sym, ◌∙◌}
-use native.Mathlib.Omega.{arith}
 use Rattle.statements.proofs.SearchLaws.{branch_breaks, branch_goes}
 use Rattle.statements.proofs.search.branch_jump.Goals as goal
-
-pub scheduled_at-requires : goal.scheduled_at-requires
-scheduled_at-requires c = omega (arith, c.branch_at-terminal.ensures.named.1, c.branch_at-terminal.ensures.few)
-
-pub block_id-requires : goal.block_id-requires
-block_id-requires c = omega (arith, c.branch_at-terminal.ensures.named.1, c.branch_at-terminal.ensures.few)
 
 pub returns-then-scheduled_at : goal.returns-then-scheduled_at
 returns-then-scheduled_at c = branch_breaks _ _ _ _ c.branch_at-terminal.ensures _ c.block_id.ensures

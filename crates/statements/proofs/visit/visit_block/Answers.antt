@@ -4,18 +4,26 @@ use mathlib.Core.Path.{refl, sym, ◌∙◌}
 use native.Mathlib.Omega.{arith}
 use Rattle.definition.specs.Context.{has}
 use Rattle.statements.proofs.TerminalLaws.{absent_planned, emitted_planned, entered_planned}
+use Rattle.statements.specs.Plans.{advanced}
+use Rattle.statements.specs.declared.plan.Stage.TheVariants.{Visit}
+use Rattle.statements.specs.declared.plan.Position.{Position}
+use Prim.Native.Nat.{◌+◌}
 use Rattle.statements.proofs.visit.visit_block.Goals as goal
+
+-- where the visit has begun
+abbrev begun : Position → Position
+begun p = advanced p p.count p.rows (p.visits + 1) Visit
 
 pub returns-then-code_at-eq0 : goal.returns-then-code_at-eq0
 returns-then-code_at-eq0 c frame around =
-    absent_planned _ _ _ _ _ _ _ around c.requires.visits frame (omega arith) (omega arith) _ _ _ refl
+    absent_planned _ _ _ _ _ _ _ around c.requires.visits frame (omega arith) (omega arith) _ (begun c.args.p) _ refl
     (sym c.code_at.ensures ∙ c.if-code_at-eq0.true) (rw c.advance-begun.ensures at c.refuse-then-code_at-eq0.ensures)
 
 pub returns-then-emitted-block : goal.returns-then-emitted-block
 unfolding has
 returns-then-emitted-block c frame around =
     emitted_planned _ _ _ _ _ _ _ around c.requires.visits frame (omega arith) (omega arith)
-    (λ e. c.if-code_at-eq0.false (c.code_at.ensures ∙ e)) _ _ _ refl c.if-emitted-block.true
+    (λ e. c.if-code_at-eq0.false (c.code_at.ensures ∙ e)) _ (begun c.args.p) _ refl c.if-emitted-block.true
     (rw c.advance-begun.ensures at c.refuse-then-emitted-block.ensures)
 
 pub put_instructions-rows-requires : goal.put_instructions-rows-requires

@@ -1,16 +1,10 @@
-use mathlib.Core.Path.{refl, sym, ◌∙◌}
-use native.Mathlib.Omega.{arith}
-use Rattle.table_check.proofs.RowLaws.{unused_on, unused_off, unused_last}
+use mathlib.Core.Path.{refl}
+use borrow.Author.Rules.{rules}
+use lib.ListN.{replicate}
+use Rattle.table.specs.Words.{block_word}
+use Rattle.table.specs.Check.{unused}
+use Rattle.table_check.proofs.RowLaws.{in_limits}
 use Rattle.table_check.proofs.blocks.absent_row.Goals as goal
 
-pub loop-column-init : goal.loop-column-init
-loop-column-init c = (refl, omega arith)
-
-pub returns-then-block_word-ne0 : goal.returns-then-block_word-ne0
-returns-then-block_word-ne0 c = unused_off _ _ 11 (omega arith) c.block_word.ensures c.if-block_word-ne0.true ∙ sym c.loop-column.invariant.0
-
-pub loop-column-preserved : goal.loop-column-preserved
-loop-column-preserved c = (c.loop-column.invariant.0 ∙ unused_on _ _ 11 (omega arith) c.block_word.ensures c.if-block_word-ne0.false, omega arith)
-
 pub returns : goal.returns
-returns c = unused_last _ _ 11 (omega arith) ∙ sym c.loop-column.invariant.0
+returns c = in_limits _ 0 (replicate 11 unused) (replicate 11 1) (c.first_not_below.ensures (block_word c.args.words.now c.args.row) (record { is = λ column word inside found. search rules })) refl

@@ -28,13 +28,13 @@ returns-then-code-ge22 c =
     (passed _ _ _ _ c.block_word.ensures c.rows_from-most.ensures c.if-block_word-most.false
     (failed _ _ _ _ c.block_word-code.ensures refl c.if-code-ge22.true)))
 
-pub returns-then-column-lt8 : goal.returns-then-column-lt8
-returns-then-column-lt8 c =
+pub returns-in-Some : goal.returns-in-Some
+returns-in-Some c =
     rw (present _ _ (λ e. c.if-code-eq0.false (c.block_word-code.ensures ∙ e)), ← c.block_word-first.ensures, ← c.instruction_count.ensures, ← c.block_word-code.ensures)
     (passed _ _ _ _ c.block_word-first.ensures refl c.if-first-ge-ANY.false
     (passed _ _ _ _ c.block_word.ensures c.rows_from-most.ensures c.if-block_word-most.false
     (passed _ _ _ _ c.block_word-code.ensures refl c.if-code-ge22.false
-    (within _ 3 (five (terminal_rules _ _ _)) (number 65535 ∷ number 65535 ∷ end_of _ ∷ []) c.terminal_columns-column.ensures c.if-column-lt8.true))))
+    (within _ 3 (five (terminal_rules _ _ _)) (number 65535 ∷ number 65535 ∷ end_of _ ∷ []) c.in-Some.ensures))))
 
 pub returns-then-block_word-ge-ANY : goal.returns-then-block_word-ge-ANY
 returns-then-block_word-ge-ANY c =
@@ -42,7 +42,7 @@ returns-then-block_word-ge-ANY c =
     (passed _ _ _ _ c.block_word-first.ensures refl c.if-first-ge-ANY.false
     (passed _ _ _ _ c.block_word.ensures c.rows_from-most.ensures c.if-block_word-most.false
     (passed _ _ _ _ c.block_word-code.ensures refl c.if-code-ge22.false
-    (beyond _ 3 (five (terminal_rules _ _ _)) (number 65535 ∷ number 65535 ∷ end_of _ ∷ []) c.terminal_columns-column.ensures c.if-column-lt8.false
+    (beyond _ 3 (five (terminal_rules _ _ _)) (number 65535 ∷ number 65535 ∷ end_of _ ∷ []) c.in_default.ensures
     (failed _ _ _ _ c.block_word-2.ensures refl c.if-block_word-ge-ANY.true)))))
 
 pub returns-then-from-ge-ANY : goal.returns-then-from-ge-ANY
@@ -51,7 +51,7 @@ returns-then-from-ge-ANY c =
     (passed _ _ _ _ c.block_word-first.ensures refl c.if-first-ge-ANY.false
     (passed _ _ _ _ c.block_word.ensures c.rows_from-most.ensures c.if-block_word-most.false
     (passed _ _ _ _ c.block_word-code.ensures refl c.if-code-ge22.false
-    (beyond _ 3 (five (terminal_rules _ _ _)) (number 65535 ∷ number 65535 ∷ end_of _ ∷ []) c.terminal_columns-column.ensures c.if-column-lt8.false
+    (beyond _ 3 (five (terminal_rules _ _ _)) (number 65535 ∷ number 65535 ∷ end_of _ ∷ []) c.in_default.ensures
     (passed _ _ _ _ c.block_word-2.ensures refl c.if-block_word-ge-ANY.false
     (failed _ _ _ _ c.block_word-from.ensures refl c.if-from-ge-ANY.true))))))
 
@@ -67,7 +67,7 @@ returns-then-to-end_of c =
     (passed _ _ _ _ c.block_word-first.ensures refl c.if-first-ge-ANY.false
     (passed _ _ _ _ c.block_word.ensures c.rows_from-most.ensures c.if-block_word-most.false
     (passed _ _ _ _ c.block_word-code.ensures refl c.if-code-ge22.false
-    (beyond _ 3 (five (terminal_rules _ _ _)) (number 65535 ∷ number 65535 ∷ end_of _ ∷ []) c.terminal_columns-column.ensures c.if-column-lt8.false
+    (beyond _ 3 (five (terminal_rules _ _ _)) (number 65535 ∷ number 65535 ∷ end_of _ ∷ []) c.in_default.ensures
     (passed _ _ _ _ c.block_word-2.ensures refl c.if-block_word-ge-ANY.false
     (passed _ _ _ _ c.block_word-from.ensures refl c.if-from-ge-ANY.false
     (failed _ _ _ _ c.block_word-to.ensures c.end_of.ensures c.if-to-end_of.true)))))))
@@ -84,7 +84,7 @@ returns c =
     (passed _ _ _ _ c.block_word-first.ensures refl c.if-first-ge-ANY.false
     (passed _ _ _ _ c.block_word.ensures c.rows_from-most.ensures c.if-block_word-most.false
     (passed _ _ _ _ c.block_word-code.ensures refl c.if-code-ge22.false
-    (beyond _ 3 (five (terminal_rules _ _ _)) (number 65535 ∷ number 65535 ∷ end_of _ ∷ []) c.terminal_columns-column.ensures c.if-column-lt8.false
+    (beyond _ 3 (five (terminal_rules _ _ _)) (number 65535 ∷ number 65535 ∷ end_of _ ∷ []) c.in_default.ensures
     (passed _ _ _ _ c.block_word-2.ensures refl c.if-block_word-ge-ANY.false
     (passed _ _ _ _ c.block_word-from.ensures refl c.if-from-ge-ANY.false
     (passed _ _ _ _ c.block_word-to.ensures c.end_of.ensures c.if-to-end_of.false

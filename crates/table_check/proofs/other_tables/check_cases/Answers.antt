@@ -1,20 +1,17 @@
-use mathlib.Core.Path.{sym, ◌∙◌}
 use native.Mathlib.Omega.{arith}
+use borrow.Author.Rules.{rules}
 use Rattle.table.specs.Words.{case_word}
-use Rattle.table_check.proofs.RowLaws.{rows_first, rows_last, rows_on, rows_off}
+use Rattle.table.specs.Check.{case_rules}
 use Rattle.table.proofs.RuleLaws.{case_width}
+use Rattle.table_check.proofs.RowLaws.{bad_less}
 use Rattle.table_check.proofs.other_tables.check_cases.Goals as goal
 
-pub loop-case-init : goal.loop-case-init
-loop-case-init c = (rows_first _ _ 2 (case_width _) _ _, omega arith)
-
-pub returns-then-column-lt2 : goal.returns-then-column-lt2
-unfolding case_word
-returns-then-column-lt2 c = rows_off _ _ 2 (case_width _) _ _ _ (omega arith) c.case_row-column.ensures c.if-column-lt2.true c.cases_begin-begin.ensures.0 ∙ sym c.loop-case.invariant.0
-
-pub loop-case-preserved : goal.loop-case-preserved
-unfolding case_word
-loop-case-preserved c = (c.loop-case.invariant.0 ∙ rows_on _ _ 2 (case_width _) _ _ _ (omega arith) c.case_row-column.ensures c.if-column-lt2.false, omega arith)
+pub check_rows-requires-clause-within : goal.check_rows-requires-clause-within
+check_rows-requires-clause-within c row column inside found =
+    omega (arith, bad_less (case_word c.args.words.now row) 0 (case_rules c.args.words.now row) {bad = column} (search rules), case_width c.args.words.now row)
 
 pub returns : goal.returns
-returns c = sym (c.loop-case.invariant.0 ∙ rows_last _ _ 2 (case_width _) _ _ _ (omega arith))
+unfolding case_word
+returns c =
+    rw (← c.cases_begin-begin.ensures.0, ← c.case_count.ensures)
+    (c.check_rows.ensures c.args.words.now (case_rules c.args.words.now) (record { wide = case_width c.args.words.now; is = λ row bad inside found. search rules }))

@@ -1,22 +1,25 @@
-use mathlib.Core.Path.{refl, sym, ◌∙◌}
+use mathlib.Core.Path.{◌≡◌, ◌∙◌}
 use native.Mathlib.Omega.{arith}
-use Rattle.table.specs.Words.{identifier_word}
+use borrow.Author.Rules.{rules}
+use Rattle.table.specs.Words.{identifier_word, identifiers_begin}
 use Rattle.table.specs.Check.{identifier_rules}
-use Rattle.table_check.proofs.RowLaws.{rest_first, rest_last, rest_on, rest_off}
+use Rattle.table.proofs.RuleLaws.{identifier_width}
+use Rattle.table_check.specs.FoundBlocks.{first_bad}
+use Rattle.table_check.proofs.RowLaws.{bad_less, one_word}
 use Rattle.table_check.proofs.other_tables.check_identifiers.Goals as goal
 
-pub loop-identifier-init : goal.loop-identifier-init
-unfolding identifier_rules
-loop-identifier-init c = (rest_first _ _ _ _, omega arith)
-
-pub returns-then-identifier_word-ge2 : goal.returns-then-identifier_word-ge2
-unfolding identifier_word identifier_rules
-returns-then-identifier_word-ge2 c = rest_off _ _ _ _ _ (omega arith) c.identifier_word.ensures refl c.if-identifier_word-ge2.true c.identifiers_begin-begin.ensures.0 ∙ sym c.loop-identifier.invariant.0
-
-pub loop-identifier-preserved : goal.loop-identifier-preserved
-unfolding identifier_word identifier_rules
-loop-identifier-preserved c = (c.loop-identifier.invariant.0 ∙ rest_on _ _ _ _ _ (omega arith) c.identifier_word.ensures refl c.if-identifier_word-ge2.false, omega arith)
+pub check_rows-requires-clause-within : goal.check_rows-requires-clause-within
+check_rows-requires-clause-within c row column inside found =
+    omega (arith, bad_less (λ _. identifier_word c.args.words.now row) 0 (identifier_rules c.args.words.now row) {bad = column} (search rules), identifier_width c.args.words.now row)
 
 pub returns : goal.returns
-unfolding identifier_rules
-returns c = sym (c.loop-identifier.invariant.0 ∙ rest_last _ _ _ _ _ (omega arith))
+unfolding identifier_word identifier_rules
+returns c =
+    rw (← c.identifiers_begin-begin.ensures.0, ← c.identifier_count.ensures)
+    (c.check_rows.ensures c.args.words.now (identifier_rules c.args.words.now) (record {
+      wide = identifier_width c.args.words.now;
+      is = λ row bad inside found. (
+          let e : bad ≡ first_bad (λ _. identifier_word c.args.words.now row) 0 (identifier_rules c.args.words.now row) = search rules in
+          rw c.identifiers_begin-begin.ensures.0 (e ∙ one_word c.args.words.now (identifiers_begin c.args.words.now) row _)
+          );
+    }))

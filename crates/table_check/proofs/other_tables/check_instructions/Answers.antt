@@ -1,22 +1,17 @@
-use mathlib.Core.Path.{sym, ◌∙◌}
 use native.Mathlib.Omega.{arith}
+use borrow.Author.Rules.{rules}
 use Rattle.table.specs.Words.{instruction_word}
-use Rattle.table_check.proofs.RowLaws.{rows_first, rows_last, rows_on, rows_off}
+use Rattle.table.specs.Check.{instruction_rules}
 use Rattle.table.proofs.RuleLaws.{instruction_width}
+use Rattle.table_check.proofs.RowLaws.{bad_less}
 use Rattle.table_check.proofs.other_tables.check_instructions.Goals as goal
 
-pub loop-instruction-init : goal.loop-instruction-init
-loop-instruction-init c = (rows_first _ _ 7 (instruction_width _) _ _, omega arith)
-
-pub returns-then-column-lt7 : goal.returns-then-column-lt7
-unfolding instruction_word
-returns-then-column-lt7 c =
-    rows_off _ _ 7 (instruction_width _) _ _ _ (omega arith) c.instruction_row-column.ensures c.if-column-lt7.true
-    c.instructions_begin-begin.ensures.0 ∙ sym c.loop-instruction.invariant.0
-
-pub loop-instruction-preserved : goal.loop-instruction-preserved
-unfolding instruction_word
-loop-instruction-preserved c = (c.loop-instruction.invariant.0 ∙ rows_on _ _ 7 (instruction_width _) _ _ _ (omega arith) c.instruction_row-column.ensures c.if-column-lt7.false, omega arith)
+pub check_rows-requires-clause-within : goal.check_rows-requires-clause-within
+check_rows-requires-clause-within c row column inside found =
+    omega (arith, bad_less (instruction_word c.args.words.now row) 0 (instruction_rules c.args.words.now row) {bad = column} (search rules), instruction_width c.args.words.now row)
 
 pub returns : goal.returns
-returns c = sym (c.loop-instruction.invariant.0 ∙ rows_last _ _ 7 (instruction_width _) _ _ _ (omega arith))
+unfolding instruction_word
+returns c =
+    rw (← c.instructions_begin-begin.ensures.0, ← c.instruction_count.ensures)
+    (c.check_rows.ensures c.args.words.now (instruction_rules c.args.words.now) (record { wide = instruction_width c.args.words.now; is = λ row bad inside found. search rules }))

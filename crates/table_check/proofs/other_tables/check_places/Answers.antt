@@ -1,24 +1,25 @@
-use mathlib.Core.Path.{sym, ◌∙◌}
+use mathlib.Core.Path.{◌≡◌, ◌∙◌}
 use native.Mathlib.Omega.{arith}
-use Rattle.table.specs.Words.{place_word}
+use borrow.Author.Rules.{rules}
+use Rattle.table.specs.Words.{place_word, places_begin}
 use Rattle.table.specs.Check.{place_rules}
-use Rattle.table_check.proofs.RowLaws.{rest_first, rest_last, rest_on, rest_off}
+use Rattle.table.proofs.RuleLaws.{place_width}
+use Rattle.table_check.specs.FoundBlocks.{first_bad}
+use Rattle.table_check.proofs.RowLaws.{bad_less, one_word}
 use Rattle.table_check.proofs.other_tables.check_places.Goals as goal
 
-pub loop-place-init : goal.loop-place-init
-unfolding place_rules
-loop-place-init c = (rest_first _ _ _ _, omega arith)
-
-pub returns-then-place_word-identifiers : goal.returns-then-place_word-identifiers
-unfolding place_word place_rules
-returns-then-place_word-identifiers c =
-    rest_off _ _ _ _ _ (omega arith) c.place_word.ensures c.identifier_count-identifiers.ensures c.if-place_word-identifiers.true
-    c.places_begin-begin.ensures.0 ∙ sym c.loop-place.invariant.0
-
-pub loop-place-preserved : goal.loop-place-preserved
-unfolding place_word place_rules
-loop-place-preserved c = (c.loop-place.invariant.0 ∙ rest_on _ _ _ _ _ (omega arith) c.place_word.ensures c.identifier_count-identifiers.ensures c.if-place_word-identifiers.false, omega arith)
+pub check_rows-requires-clause-within : goal.check_rows-requires-clause-within
+check_rows-requires-clause-within c row column inside found =
+    omega (arith, bad_less (λ _. place_word c.args.words.now row) 0 (place_rules c.args.words.now row) {bad = column} (search rules), place_width c.args.words.now row)
 
 pub returns : goal.returns
-unfolding place_rules
-returns c = sym (c.loop-place.invariant.0 ∙ rest_last _ _ _ _ _ (omega arith))
+unfolding place_word place_rules
+returns c =
+    rw (← c.places_begin-begin.ensures.0, ← c.place_count.ensures)
+    (c.check_rows.ensures c.args.words.now (place_rules c.args.words.now) (record {
+      wide = place_width c.args.words.now;
+      is = λ row bad inside found. (
+          let e : bad ≡ first_bad (λ _. place_word c.args.words.now row) 0 (place_rules c.args.words.now row) = search rules in
+          rw c.places_begin-begin.ensures.0 (e ∙ one_word c.args.words.now (places_begin c.args.words.now) row _)
+          );
+    }))

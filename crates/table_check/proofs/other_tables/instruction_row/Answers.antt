@@ -25,14 +25,14 @@ returns-then-code-ge3 c =
     (passed _ _ _ _ c.instruction_word-2.ensures refl c.if-instruction_word-place_count.false
     (failed _ _ _ _ c.instruction_word-code.ensures refl c.if-code-ge3.true)))
 
-pub returns-then-column-lt5 : goal.returns-then-column-lt5
+pub returns-in-Some : goal.returns-in-Some
 unfolding instruction_rules place
-returns-then-column-lt5 c =
+returns-in-Some c =
     rw (← c.place_count.ensures, ← c.instruction_word-code.ensures)
     (passed _ _ _ _ c.instruction_word.ensures refl c.if-instruction_word-ge-ANY.false
     (passed _ _ _ _ c.instruction_word-2.ensures refl c.if-instruction_word-place_count.false
     (passed _ _ _ _ c.instruction_word-code.ensures refl c.if-code-ge3.false
-    (within _ 3 (two (operand_rules _ _)) (number 65535 ∷ end_of _ ∷ []) c.operand_columns-column.ensures c.if-column-lt5.true))))
+    (within _ 3 (two (operand_rules _ _)) (number 65535 ∷ end_of _ ∷ []) c.in-Some.ensures))))
 
 pub returns-then-from-ge-ANY : goal.returns-then-from-ge-ANY
 unfolding instruction_rules place
@@ -41,7 +41,7 @@ returns-then-from-ge-ANY c =
     (passed _ _ _ _ c.instruction_word.ensures refl c.if-instruction_word-ge-ANY.false
     (passed _ _ _ _ c.instruction_word-2.ensures refl c.if-instruction_word-place_count.false
     (passed _ _ _ _ c.instruction_word-code.ensures refl c.if-code-ge3.false
-    (beyond _ 3 (two (operand_rules _ _)) (number 65535 ∷ end_of _ ∷ []) c.operand_columns-column.ensures c.if-column-lt5.false
+    (beyond _ 3 (two (operand_rules _ _)) (number 65535 ∷ end_of _ ∷ []) c.in_default.ensures
     (failed _ _ _ _ c.instruction_word-from.ensures refl c.if-from-ge-ANY.true)))))
 
 pub returns-then-to-end_of : goal.returns-then-to-end_of
@@ -51,7 +51,7 @@ returns-then-to-end_of c =
     (passed _ _ _ _ c.instruction_word.ensures refl c.if-instruction_word-ge-ANY.false
     (passed _ _ _ _ c.instruction_word-2.ensures refl c.if-instruction_word-place_count.false
     (passed _ _ _ _ c.instruction_word-code.ensures refl c.if-code-ge3.false
-    (beyond _ 3 (two (operand_rules _ _)) (number 65535 ∷ end_of _ ∷ []) c.operand_columns-column.ensures c.if-column-lt5.false
+    (beyond _ 3 (two (operand_rules _ _)) (number 65535 ∷ end_of _ ∷ []) c.in_default.ensures
     (passed _ _ _ _ c.instruction_word-from.ensures refl c.if-from-ge-ANY.false
     (failed _ _ _ _ c.instruction_word-to.ensures c.end_of.ensures c.if-to-end_of.true))))))
 
@@ -62,7 +62,7 @@ returns c =
     (passed _ _ _ _ c.instruction_word.ensures refl c.if-instruction_word-ge-ANY.false
     (passed _ _ _ _ c.instruction_word-2.ensures refl c.if-instruction_word-place_count.false
     (passed _ _ _ _ c.instruction_word-code.ensures refl c.if-code-ge3.false
-    (beyond _ 3 (two (operand_rules _ _)) (number 65535 ∷ end_of _ ∷ []) c.operand_columns-column.ensures c.if-column-lt5.false
+    (beyond _ 3 (two (operand_rules _ _)) (number 65535 ∷ end_of _ ∷ []) c.in_default.ensures
     (passed _ _ _ _ c.instruction_word-from.ensures refl c.if-from-ge-ANY.false
     (passed _ _ _ _ c.instruction_word-to.ensures c.end_of.ensures c.if-to-end_of.false
     (all_fit _ _)))))))

@@ -1,66 +1,58 @@
-use native.Mathlib.Omega.{arith}
-use mathlib.Core.Path.{sym, ◌∙◌}
-use Prim.Native.Nat.{◌^◌, ◌<◌}
-use lib.ListN.{length}
-use Rattle.text.proofs.StepLaws.{first_taken, first_other, first_missing, digit_taken, end_taken, digit_other, digit_missing, number_refused_lem, false_true}
+use Rattle.std.proofs.Common.{◌≡◌, length, slice_index, Some, None, sym, ◌∙◌, arith}
+use Rattle.std.proofs.lemmas.Result.{err_from_is_err_and}
+use Rattle.text.specs.Steps.{digit_of, extended_by}
+use Rattle.text.proofs.StepLaws.{first_taken, first_other, first_missing, digit_taken, end_taken, digit_other, digit_missing}
+use Rattle.text.proofs.NumberLaws.{digit_some, digit_none, extended_some, extended_none}
 use Rattle.text.proofs.number.read_number.Goals as goal
 
 pub returns-then-start-file : goal.returns-then-start-file
-returns-then-start-file c = number_refused_lem c.number_refused.ensures (omega (arith, c.if-start-file.true)) (λ root words next h. first_missing _ _ words _ next h c.if-start-file.true)
+returns-then-start-file c root words next h = first_missing _ _ words _ next h c.if-start-file.true
 
-pub returns-then-value-eq10 : goal.returns-then-value-eq10
-returns-then-value-eq10 c =
-    let D = c.digit_value-value in
-    let full = c.if-value-eq10.true in
-    number_refused_lem c.number_refused-then-value-eq10.ensures c.requires
-    (λ root words next h. first_other _ _ words _ next h (omega (arith, c.requires, c.if-start-file.false)) (λ d p e. omega (arith, D.ensures.only d p e, full)))
+pub returns-in_err-value : goal.returns-in_err-value
+returns-in_err-value c =
+    let p = err_from_is_err_and c.from_residual.result c.from_residual.ensures.1 in
+    let none : digit_of (slice_index c.args.file.now c.args.start) ≡ None = grind arith in
+    let place : p.0 ≡ c.args.start = grind arith in
+    rw (p.1, place) (λ root words next h. first_other _ _ words _ next h (omega arith) (digit_none _ none))
 
 pub loop-at-init : goal.loop-at-init
 loop-at-init c =
-    let D = c.digit_value-value in
-    let small : D.result < 10 = omega (arith, D.ensures.most, c.if-value-eq10.false) in
-    let inside : c.args.start < length c.args.file.now = omega (arith, c.requires, c.if-start-file.false) in
+    let some : digit_of (slice_index c.args.file.now c.args.start) ≡ Some c.in_ok-value.value = grind arith in
+    let digit = digit_some _ some in
     record {
-      begun = omega arith;
-      near = omega arith;
-      small = omega arith;
-      here = λ root words next h. first_taken _ _ words _ next h D.result inside small (D.ensures.digit small);
+      small = omega (arith, digit.0);
+      here = λ root words next h. first_taken _ _ words _ next h c.in_ok-value.value (omega arith) digit.0 digit.1;
     }
 
-pub returns-then-byte-end : goal.returns-then-byte-end
-returns-then-byte-end c =
+pub returns-then-byte-ending_byte : goal.returns-then-byte-ending_byte
+returns-then-byte-ending_byte c =
     let I = c.loop-at.invariant in
     record {
       within = omega (arith, c.loop-at-test.true);
-      long = λ e. omega (arith, I.begun);
-      stopped = λ root words next h e. absurd (false_true e);
-      reached = λ root words next h e. end_taken _ _ words _ _ next (I.here root words next h) c.loop-at-test.true (c.if-byte-end.true ∙ c.ending_byte-end.ensures);
+      long = omega (arith, c.loop-at.auto.at);
+      reached = λ root words next h. end_taken _ _ words _ _ next (I.here root words next h) (omega (arith, c.loop-at-test.true)) (c.if-byte-ending_byte.true ∙ c.ending_byte.ensures);
     }
 
-pub returns-then-more-eq4294967296 : goal.returns-then-more-eq4294967296
-returns-then-more-eq4294967296 c =
+pub returns-in_err-value-2 : goal.returns-in_err-value-2
+returns-in_err-value-2 c =
     let I = c.loop-at.invariant in
-    let E = c.extended-more in
-    let full = c.if-more-eq4294967296.true in
-    number_refused_lem c.number_refused-then-more-eq4294967296.ensures I.near (λ root words next h. digit_other _ _ words _ _ next (I.here root words next h) c.loop-at-test.true
-    (λ e. c.if-byte-end.false (e ∙ sym c.ending_byte-end.ensures))
-    (λ d p e q r. E.ensures.none full d (record { small = p; shown = e; led = q; fits = r })))
+    let p = err_from_is_err_and c.from_residual-in_err-value-2.result c.from_residual-in_err-value-2.ensures.1 in
+    let none : extended_by c.loop-at.value (slice_index c.args.file.now c.loop-at.at) ≡ None = grind arith in
+    let place : p.0 ≡ c.loop-at.at = grind arith in
+    rw (p.1, place) (λ root words next h. digit_other _ _ words _ _ next (I.here root words next h) (omega (arith, c.loop-at-test.true))
+    (λ e. c.if-byte-ending_byte.false (e ∙ sym c.ending_byte.ensures)) (extended_none _ _ none))
 
 pub loop-at-preserved : goal.loop-at-preserved
 loop-at-preserved c =
     let I = c.loop-at.invariant in
-    let E = c.extended-more in
-    let fits : E.result < 2 ^ 32 = omega (arith, E.ensures.most, c.if-more-eq4294967296.false) in
-    let M = E.ensures.more fits in
+    let some : extended_by c.loop-at.value (slice_index c.args.file.now c.loop-at.at) ≡ Some c.in_ok-value-2.value = grind arith in
+    let f = extended_some _ _ some in
     record {
-      begun = omega (arith, I.begun);
-      near = omega (arith, c.loop-at-test.true);
-      small = fits;
-      here = λ root words next h. rw M.1 (digit_taken _ _ words _ _ next (I.here root words next h) M.0 c.loop-at-test.true M.2.small M.2.shown M.2.led M.2.fits);
+      small = omega (arith, f.more, f.fits);
+      here = λ root words next h. rw f.more (digit_taken _ _ words _ _ next (I.here root words next h) f.d (omega (arith, c.loop-at-test.true)) f.digit f.shown f.led f.fits);
     }
 
 pub returns : goal.returns
-returns c =
-    let I = c.loop-at.invariant in
-    number_refused_lem c.number_refused-2.ensures I.near
-    (λ root words next h. digit_missing _ _ words _ _ next (I.here root words next h) (omega (arith, I.near, c.loop-at-test.false)))
+returns c root words next h =
+    let end : c.loop-at.at ≡ length c.args.file.now = omega (arith, c.loop-at-test.false, c.loop-at.auto.at-end) in
+    rw end at (digit_missing _ _ words _ _ next (c.loop-at.invariant.here root words next h) end)

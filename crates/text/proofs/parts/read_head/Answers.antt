@@ -1,15 +1,12 @@
-use native.Mathlib.Omega.{arith}
-use mathlib.Core.Path.{◌∙◌}
-use Rattle.text.proofs.PartLaws.{head_names_lem, head_row}
+use Rattle.std.proofs.Common.{arith}
+use Rattle.std.proofs.lemmas.Result.{err_from_is_err_and}
+use Rattle.text.proofs.PartLaws.{head_stops, head_row}
 use Rattle.text.proofs.parts.read_head.Goals as goal
 
-pub read_names-names-requires : goal.read_names-names-requires
-read_names-names-requires c = rw c.cursor_at.ensures (record { within = omega arith; few = omega arith })
-
-pub returns-then-names : goal.returns-then-names
-returns-then-names c = head_names_lem (rw c.cursor_at.ensures at c.read_names-names.ensures) _ c.if-names.true
+pub returns-in_err-at : goal.returns-in_err-at
+returns-in_err-at c =
+    let p = err_from_is_err_and c.from_residual.result c.from_residual.ensures.1 in
+    rw (p.1, p.2) (head_stops _ c.in_err-at.ensures)
 
 pub returns : goal.returns
-returns c =
-    head_row (rw c.cursor_at.ensures at c.read_names-names.ensures) c.if-names.false
-    (c.read_row.auto.words ∙ c.requires) c.read_row.ensures
+returns c = head_row _ _ _ c.in_ok-at.ensures (omega arith) c.read_row.ensures

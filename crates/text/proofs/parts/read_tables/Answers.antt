@@ -1,51 +1,48 @@
--- `text::parts::read_tables` meets its contract: five tables one after the other. After each, PartLaws either goes on to the next (`part_then`) or stops with its refusal
--- (`part_stops`).
-use native.Mathlib.Omega.{arith}
+-- `text::parts::read_tables` meets its contract: five tables one after the other (PartLaws, `part_then`), or those before the one that is refused.
+use Rattle.std.proofs.Common.{[], Err}
+use Rattle.std.proofs.lemmas.Result.{err_from_is_err_and}
 use Rattle.text.specs.Form.{tables}
-use Rattle.text.proofs.PartLaws.{part_then, part_stops}
+use Rattle.text.proofs.PartLaws.{part_then}
 use Rattle.text.proofs.parts.read_tables.Goals as goal
 
-pub returns-then-blocks : goal.returns-then-blocks
+pub returns-in_err-end : goal.returns-in_err-end
 unfolding tables
-returns-then-blocks c = part_stops c.read_blocks-blocks.ensures c.if-blocks.true
+returns-in_err-end c =
+    let p = err_from_is_err_and c.from_residual.result c.from_residual.ensures.1 in
+    rw (p.1, p.2, ← c.block_columns.ensures) (λ root words next a. c.in_err-end.ensures root words _ a)
 
-pub bounds-head-2 : goal.bounds-head-2
-bounds-head-2 c = omega (arith, c.requires.head_len)
-
-pub returns-then-instructions : goal.returns-then-instructions
+pub returns-in_err-end-2 : goal.returns-in_err-end-2
 unfolding tables
-returns-then-instructions c =
-    part_then c.read_blocks-blocks.ensures c.if-blocks.false (
-    part_stops c.read_instructions-instructions.ensures c.if-instructions.true)
+returns-in_err-end-2 c =
+    let p = err_from_is_err_and c.from_residual-in_err-end-2.result c.from_residual-in_err-end-2.ensures.1 in
+    rw (p.1, p.2, ← c.block_columns.ensures, ← c.instruction_columns.ensures) (
+    part_then _ (Err _) [] c.in_ok-end.ensures (
+    λ root words next a. c.in_err-end-2.ensures root words _ a))
 
-pub bounds-head-3 : goal.bounds-head-3
-bounds-head-3 c = omega (arith, c.requires.head_len)
-
-pub returns-then-cases : goal.returns-then-cases
+pub returns-in_err-end-3 : goal.returns-in_err-end-3
 unfolding tables
-returns-then-cases c =
-    part_then c.read_blocks-blocks.ensures c.if-blocks.false (
-    part_then c.read_instructions-instructions.ensures c.if-instructions.false (
-    part_stops c.read_table-cases.ensures c.if-cases.true))
+returns-in_err-end-3 c =
+    let p = err_from_is_err_and c.from_residual-in_err-end-3.result c.from_residual-in_err-end-3.ensures.1 in
+    rw (p.1, p.2, ← c.block_columns.ensures, ← c.instruction_columns.ensures) (
+    part_then _ (Err _) [] c.in_ok-end.ensures (
+    part_then _ (Err _) [] c.in_ok-end-2.ensures (
+    λ root words next a. c.in_err-end-3.ensures root words _ a)))
 
-pub bounds-head-4 : goal.bounds-head-4
-bounds-head-4 c = omega (arith, c.requires.head_len)
-
-pub returns-then-places : goal.returns-then-places
+pub returns-in_err-end-4 : goal.returns-in_err-end-4
 unfolding tables
-returns-then-places c =
-    part_then c.read_blocks-blocks.ensures c.if-blocks.false (
-    part_then c.read_instructions-instructions.ensures c.if-instructions.false (
-    part_then c.read_table-cases.ensures c.if-cases.false (
-    part_stops c.read_table-places.ensures c.if-places.true)))
-
-pub bounds-head-5 : goal.bounds-head-5
-bounds-head-5 c = omega (arith, c.requires.head_len)
+returns-in_err-end-4 c =
+    let p = err_from_is_err_and c.from_residual-in_err-end-4.result c.from_residual-in_err-end-4.ensures.1 in
+    rw (p.1, p.2, ← c.block_columns.ensures, ← c.instruction_columns.ensures) (
+    part_then _ (Err _) [] c.in_ok-end.ensures (
+    part_then _ (Err _) [] c.in_ok-end-2.ensures (
+    part_then _ (Err _) [] c.in_ok-end-3.ensures (
+    λ root words next a. c.in_err-end-4.ensures root words _ a))))
 
 pub returns : goal.returns
 unfolding tables
 returns c =
-    part_then c.read_blocks-blocks.ensures c.if-blocks.false (
-    part_then c.read_instructions-instructions.ensures c.if-instructions.false (
-    part_then c.read_table-cases.ensures c.if-cases.false (
-    part_then c.read_table-places.ensures c.if-places.false c.read_table.ensures)))
+    rw (← c.block_columns.ensures, ← c.instruction_columns.ensures) (
+    part_then _ _ _ c.in_ok-end.ensures (
+    part_then _ _ _ c.in_ok-end-2.ensures (
+    part_then _ _ _ c.in_ok-end-3.ensures (
+    part_then _ _ _ c.in_ok-end-4.ensures c.read_table-5.ensures))))

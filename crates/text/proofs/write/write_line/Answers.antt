@@ -1,8 +1,5 @@
-use native.Mathlib.Omega.{arith}
-use mathlib.Core.Path.{refl, sym, ◌∙◌}
-use mathlib.Core.List.{[], ◌∷◌, ◌++◌, append-nil}
-use Prim.Native.Nat.{◌+◌}
-use lib.ListN.{length, get_or}
+use Rattle.std.proofs.Common.{refl, sym, ◌∙◌, [], ◌∷◌, ◌++◌, ◌+◌, length, get_or, arith}
+use mathlib.Core.List.{append-nil}
 use lib.Dec.{eqb}
 use Rattle.text.specs.Decimal.{decimal}
 use Rattle.text.specs.Form.{ending}
@@ -11,22 +8,15 @@ use Rattle.text.proofs.WriteLaws.{wrote_none, wrote_byte, wrote_then, line_more,
 use Rattle.text.proofs.write.write_line.Goals as goal
 
 pub loop-i-init : goal.loop-i-init
-loop-i-init c = record { most = omega arith; long = refl; room = omega arith; text = []; rest = refl; wrote = wrote_none _ _ }
+loop-i-init c = record { room = omega arith; text = []; rest = refl; wrote = wrote_none _ _ }
 
 pub write_number-end-requires : goal.write_number-end-requires
 write_number-end-requires c = omega (arith, c.requires, c.loop-i.invariant.room, c.loop-i-test.true)
 
 pub overflow_add-at : goal.overflow_add-at
 overflow_add-at c =
-    let n = get_or c.args.numbers.now c.loop-i.i 0 in
-    omega (
-      arith,
-      c.requires,
-      c.loop-i.invariant.room,
-      c.loop-i-test.true,
-      c.write_number-end.ensures.long,
-      decimal_ten n (c.type_inv.numbers c.loop-i.i).fits,
-    )
+    let ten = decimal_ten (get_or c.args.numbers.now c.loop-i.i 0) (c.type_inv.numbers c.loop-i.i).fits in
+    omega (arith, c.requires, c.loop-i.invariant.room, c.loop-i-test.true, c.write_number-end.ensures.long, ten)
 
 pub loop-i-preserved : goal.loop-i-preserved
 loop-i-preserved c =
@@ -34,12 +24,10 @@ loop-i-preserved c =
     let numbers = c.args.numbers.now in
     let n = get_or numbers c.loop-i.i 0 in
     record {
-      most = omega (arith, c.loop-i-test.true);
-      long = c.put_byte.auto.bytes ∙ c.write_number-end.auto.out ∙ I.long;
       room = omega (arith, I.room, c.write_number-end.ensures.long, decimal_ten n (c.type_inv.numbers c.loop-i.i).fits);
       text = I.text ++ (decimal n ++ (ending (eqb (c.loop-i.i + 1) (length numbers)) ∷ []));
       rest = line_more numbers I.text c.loop-i.i c.loop-i-test.true I.rest;
-      wrote = wrote_then I.wrote (wrote_then c.write_number-end.ensures (rw (c.put_byte.ensures, c.ending_byte.ensures) (wrote_byte _ _ _)));
+      wrote = wrote_then I.wrote (wrote_then c.write_number-end.ensures (rw (c.put.ensures, c.ending_byte.ensures) (wrote_byte _ _ _)));
     }
 
 pub returns : goal.returns

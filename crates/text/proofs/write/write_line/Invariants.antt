@@ -1,17 +1,12 @@
 -- `text::write::write_line` meets its contract. The invariant: what was written and the line of the numbers that are left are the whole line.
 -- WriteLaws has one number more and the end.
-use mathlib.Core.Path.{◌≡◌}
-use mathlib.Core.List.{List, ◌++◌}
-use Prim.Native.Nat.{ℕ, ◌+◌, ◌-◌, ◌*◌, ◌≤◌}
-use lib.ListN.{length, drop}
+use Rattle.std.proofs.Common.{◌≡◌, List, ◌++◌, ℕ, ◌+◌, ◌*◌, ◌≤◌, drop}
 use Rattle.text.specs.Line.{line}
 use Rattle.text.specs.Printed.{Wrote}
 use Rattle.text.proofs.write.write_line.Given as goal
 
 -- the first i numbers were written
 pub record Run (out₀ : List ℕ) (start : ℕ) (numbers out : List ℕ) (at i : ℕ) : Type 0 where
-  pub most : i ≤ length numbers
-  pub long : length out ≡ length out₀
   pub room : at ≤ start + i * 11
   pub text : List ℕ
   pub rest : text ++ line (drop i numbers) ≡ line numbers
@@ -19,6 +14,3 @@ pub record Run (out₀ : List ℕ) (start : ℕ) (numbers out : List ℕ) (at i 
 
 abbrev pub invariant-loop-i : goal.invariant-loop-i
 invariant-loop-i l = Run l.initial.out l.start l.numbers l.out l.at l.i
-
-abbrev pub decreases-loop-i : goal.decreases-loop-i
-decreases-loop-i l = length l.numbers - l.i

@@ -1,14 +1,8 @@
--- `tree_check::file::check_words` meets its contract.
-use mathlib.Core.Path.{sym}
-use lib.Seq.{length-take-le}
 use Rattle.tree_check.proofs.FileLaws.{too_many_words, words_checked}
 use Rattle.tree_check.proofs.file.check_words.Goals as goal
 
 pub returns-then-count-words : goal.returns-then-count-words
 returns-then-count-words c = λ list h. too_many_words c.requires h c.if-count-words.true
-
-pub slice_bounds-check_tree-end : goal.slice_bounds-check_tree-end
-slice_bounds-check_tree-end c = sym (length-take-le _ _ c.if-count-words.false)
 
 pub returns : goal.returns
 returns c = λ list h. words_checked c.requires h c.if-count-words.false c.check_tree.ensures

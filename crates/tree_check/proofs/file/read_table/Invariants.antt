@@ -1,11 +1,6 @@
--- `tree_check::file::read_table` meets its contract.
-use Prim.Native.Nat.{◌-◌}
 use lib.ListN.{length}
 use Rattle.tree_check.proofs.FileLaws.{Scanning}
 use Rattle.tree_check.proofs.file.read_table.Given as goal
 
 abbrev pub invariant-loop-at : goal.invariant-loop-at
 invariant-loop-at l = Scanning l.names l.last l.file (length l.initial.words) l.words l.scan l.count l.at
-
-abbrev pub decreases-loop-at : goal.decreases-loop-at
-decreases-loop-at l = length l.file - l.at

@@ -1,15 +1,12 @@
--- `tree_check::parts::part_begin` meets its contract.
-use mathlib.Core.Path.{ap}
-use mathlib.Core.Bool.{not}
-use borrow.Author.Tests.{not-true, not-false}
-use Rattle.tree_check.proofs.PartLaws.{no_part, other_part, that_part}
+use Rattle.std.proofs.Common.{arith, sym, ◌∙◌}
+use Rattle.tree_check.proofs.PartLaws.{no_part, one_part}
 use Rattle.tree_check.proofs.parts.part_begin.Goals as goal
 
-pub returns-then-at-eq0 : goal.returns-then-at-eq0
-returns-then-at-eq0 c = no_part _ _ _ _ c.if-at-eq0.true
+pub returns-in_err-last : goal.returns-in_err-last
+returns-in_err-last c = c.from_residual.ensures ∙ no_part _ _ _ _ (omega (arith, c.in_err-last.ensures))
 
-pub returns-then-not-serves : goal.returns-then-not-serves
-returns-then-not-serves c = other_part _ _ _ _ c.if-at-eq0.false c.word.ensures c.serves.ensures (not-true _ (ap not c.if-not-serves.true))
+pub returns-then-serves : goal.returns-then-serves
+returns-then-serves c = one_part _ _ _ _ _ c.in_ok-last.ensures c.word.ensures c.made_by-found.ensures (sym c.if-serves.true ∙ c.serves.ensures)
 
-pub returns : goal.returns
-returns c = that_part _ _ _ _ c.if-at-eq0.false c.word.ensures c.serves.ensures (not-false _ (ap not c.if-not-serves.false))
+pub returns-else-serves : goal.returns-else-serves
+returns-else-serves c = one_part _ _ _ _ _ c.in_ok-last.ensures c.word.ensures c.made_by-found.ensures (sym c.if-serves.false ∙ c.serves.ensures)

@@ -1,11 +1,11 @@
-use Prim.Native.Nat.{ℕ}
+use Rattle.std.proofs.Common.{rules}
 use lib.ListN.{length-replicate}
-use borrow.Author.Rules.{rules}
+use Rattle.tree_run.specs.declared.links.Link.{Link}
 use Rattle.tree_run.proofs.LinkLaws.{cursor_falls, rows_start, parts_start, parts_more, row_done, rows_linked}
 use Rattle.tree_run.proofs.links.link_rows.Goals as goal
 
 pub loop-row-init : goal.loop-row-init
-loop-row-init c = rows_start _ _ (length-replicate {A = ℕ} 2048 0) (length-replicate {A = ℕ} 2048 0) (length-replicate {A = ℕ} 2048 0) c.requires.by_index
+loop-row-init c = rows_start _ _ (length-replicate {A = Link} 2048 c.default-links.result) c.requires.by_index
 
 pub loop-cursor-init : goal.loop-cursor-init
 loop-cursor-init c = parts_start _ _ c.loop-row.invariant c.loop-row-test.true
@@ -17,7 +17,7 @@ pub loop-cursor-preserved : goal.loop-cursor-preserved
 loop-cursor-preserved c = parts_more _ _ c.requires.by_index (search rules) c.loop-cursor.invariant c.loop-cursor-test.true
 
 pub loop-row-preserved : goal.loop-row-preserved
-loop-row-preserved c = row_done _ _ c.requires.by_index c.loop-row.invariant c.loop-row-test.true c.requires.rows_bound c.loop-cursor.invariant c.loop-cursor-test.false
+loop-row-preserved c = row_done _ _ c.requires.by_index c.loop-row-test.true c.requires.rows_bound c.loop-cursor.invariant c.loop-cursor-test.false
 
 pub returns : goal.returns
 returns c = rows_linked _ _ c.loop-row.invariant c.loop-row-test.false

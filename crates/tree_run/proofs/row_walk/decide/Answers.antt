@@ -1,17 +1,14 @@
-use Rattle.tree_run.specs.Abstraction.{links_of}
-use Rattle.tree_run.proofs.TurnLaws.{decide_down, decide_up}
+use Rattle.tree_run.specs.Abstraction.{links_in}
+use Rattle.tree_run.proofs.TurnLaws.{not_ended, decide_down, decide_up}
 use Rattle.tree_run.proofs.row_walk.decide.Goals as goal
 
-pub returns-then-place : goal.returns-then-place
-returns-then-place c =
+pub returns-in-Enter : goal.returns-in-Enter
+returns-in-Enter c =
     let a = c.args in
-    λ f reached left.
-    decide_down a.tree.now (links_of a.begin.now a.parent.now a.next.now a.child.now) a.rows a.place _ c.if-place.true
-    (c.down.ensures a.parent.now a.next.now) reached left
+    λ e. rw c.in-Enter.is (decide_down a.tree.now.words.now (links_in a.tree.now) a.tree.now.rows c.in-Enter.row c.down.ensures)
 
-pub returns : goal.returns
-returns c =
+pub returns-in-Leave : goal.returns-in-Leave
+returns-in-Leave c =
     let a = c.args in
-    λ f reached left.
-    decide_up a.tree.now (links_of a.begin.now a.parent.now a.next.now a.child.now) a.rows a.place _ _ c.if-place.false f
-    c.complete.ensures (c.up.ensures a.child.now) reached left
+    λ e. let f = rw c.in-Leave.is at e in
+    rw c.in-Leave.is (decide_up a.tree.now.words.now (links_in a.tree.now) a.tree.now.rows c.in-Leave.row _ (not_ended _ _ f) c.up.ensures)

@@ -1,48 +1,54 @@
-use native.Mathlib.Omega.{arith}
-use Rattle.tree_run.proofs.WalkLaws.{walk_start, walk_full, walk_less, walk_next, walk_end, instr_full, instr_next, instr_less}
+use Rattle.std.proofs.Common.{arith, sym, ap, ◌∙◌}
+use Rattle.tree_run.specs.Abstraction.{links_in, completion_of, place_of}
+use Rattle.tree_run.proofs.PerformLaws.{err_same}
+use Rattle.tree_run.proofs.WalkLaws.{walk_start, halts_at, turned, walk_full, walk_less, walk_next, walk_end, instr_full, instr_next, instr_less}
 use Rattle.tree_run.proofs.row_walk.walk.Goals as goal
 
-pub loop-row-init : goal.loop-row-init
-loop-row-init c = walk_start _ _ _ _ c.requires.walks c.enter-place.ensures
+pub loop-end-init : goal.loop-end-init
+loop-end-init c = walk_start _ _ _ _ c.requires.walks
 
-pub returns-then-did : goal.returns-then-did
-returns-then-did c =
-    instr_full _ _ _ _ c.loop-row.invariant c.halted.ensures c.loop-row-test.true (c.instructs.ensures c.if-instructs.true) c.link.ensures
-    c.perform-did.ensures c.if-did.true c.refused.ensures
+pub returns-in-Some : goal.returns-in-Some
+returns-in-Some c =
+    let tree = c.args.tree.now in
+    walk_end tree.words.now (links_in tree) tree.rows _ c.loop-end.invariant (completion_of c.in-Some.end)
+    (halts_at tree.words.now (links_in tree) tree.rows c.loop-end.place c.in-Some.end (sym c.end_at.ensures ∙ c.in-Some.is)) c.told.ensures
 
-pub after_instruction-after-requires : goal.after_instruction-after-requires
-after_instruction-after-requires c = (c.instructs.ensures c.if-instructs.true).1
+pub returns-in_err-number : goal.returns-in_err-number
+returns-in_err-number c =
+    let tree = c.args.tree.now in
+    let instr = c.instruction_at.ensures _ c.in-Some-instruction_at.is in
+    rw (err_same c.from_residual.ensures.1)
+    (instr_full tree.words.now (links_in tree) tree.rows _ c.loop-end.invariant (ap place_of instr.0) instr.1 c.begin.ensures c.perform.ensures c.in_err-number.was)
 
-pub loop-row-smaller-then-instructs : goal.loop-row-smaller-then-instructs
-loop-row-smaller-then-instructs c =
-    let a = c.args in
-    instr_less _ _ _ _ c.loop-row.invariant c.halted.ensures c.loop-row-test.true (c.instructs.ensures c.if-instructs.true) c.link.ensures
-    c.perform-did.ensures c.if-did.false (omega (arith, c.perform-did.auto.performed)) c.after_instruction-after.result
-    (c.after_instruction-after.ensures a.begin.now a.child.now)
+pub loop-end-smaller-in-Some-instruction_at : goal.loop-end-smaller-in-Some-instruction_at
+loop-end-smaller-in-Some-instruction_at c =
+    let tree = c.args.tree.now in
+    let instr = c.instruction_at.ensures _ c.in-Some-instruction_at.is in
+    instr_less tree.words.now (links_in tree) tree.rows _ c.loop-end.invariant (ap place_of instr.0) instr.1 c.begin.ensures c.perform.ensures c.in_ok-number.was (omega (arith, c.perform.auto.performed)) _ c.after_instruction-place.ensures
 
-pub loop-row-preserved-then-instructs : goal.loop-row-preserved-then-instructs
-loop-row-preserved-then-instructs c =
-    let a = c.args in
-    instr_next _ _ _ _ c.loop-row.invariant c.halted.ensures c.loop-row-test.true (c.instructs.ensures c.if-instructs.true) c.link.ensures
-    c.perform-did.ensures c.if-did.false (omega (arith, c.perform-did.auto.performed)) c.after_instruction-after.result
-    (c.after_instruction-after.ensures a.begin.now a.child.now)
+pub loop-end-preserved-in-Some-instruction_at : goal.loop-end-preserved-in-Some-instruction_at
+loop-end-preserved-in-Some-instruction_at c =
+    let tree = c.args.tree.now in
+    let instr = c.instruction_at.ensures _ c.in-Some-instruction_at.is in
+    instr_next tree.words.now (links_in tree) tree.rows _ c.loop-end.invariant (ap place_of instr.0) instr.1 c.begin.ensures c.perform.ensures c.in_ok-number.was (omega (arith, c.perform.auto.performed)) _ c.after_instruction-place.ensures
 
-pub returns-then-took : goal.returns-then-took
-returns-then-took c =
-    walk_full _ _ _ _ c.loop-row.invariant c.halted.ensures c.loop-row-test.true c.decide-turn.result c.decide-turn.ensures
-    c.perform_turn-took.ensures c.if-took.true c.refused-then-took.ensures
+pub returns-in_err-number-2 : goal.returns-in_err-number-2
+returns-in_err-number-2 c =
+    let tree = c.args.tree.now in
+    rw (err_same c.from_residual-in_err-number-2.ensures.1)
+    (walk_full tree.words.now (links_in tree) tree.rows _ c.loop-end.invariant _ _
+    (turned tree.words.now (links_in tree) tree.rows (place_of c.loop-end.place) c.decide-turn.result (c.decide-turn.ensures (sym c.end_at.ensures ∙ c.in_default.is))) c.perform_turn.ensures c.in_err-number-2.was)
 
-pub loop-row-smaller : goal.loop-row-smaller
-loop-row-smaller c =
-    let a = c.args in
-    walk_less _ _ _ _ c.loop-row.invariant c.halted.ensures c.loop-row-test.true c.decide-turn.result c.decide-turn.ensures c.perform_turn-took.ensures c.if-took.false
-    c.go_on-on.result.place c.go_on-on.result.asked (c.go_on-on.ensures a.parent.now a.next.now a.child.now)
+pub loop-end-smaller : goal.loop-end-smaller
+loop-end-smaller c =
+    let tree = c.args.tree.now in
+    walk_less tree.words.now (links_in tree) tree.rows _ c.loop-end.invariant _ _
+    (turned tree.words.now (links_in tree) tree.rows (place_of c.loop-end.place) c.decide-turn.result (c.decide-turn.ensures (sym c.end_at.ensures ∙ c.in_default.is))) c.perform_turn.ensures c.in_ok-number-2.was
+    _ _ c.go_on-there.ensures
 
-pub loop-row-preserved : goal.loop-row-preserved
-loop-row-preserved c =
-    let a = c.args in
-    walk_next _ _ _ _ c.loop-row.invariant c.halted.ensures c.loop-row-test.true c.decide-turn.result c.decide-turn.ensures c.perform_turn-took.ensures c.if-took.false
-    c.go_on-on.result.place c.go_on-on.result.asked (c.go_on-on.ensures a.parent.now a.next.now a.child.now) (omega (arith, c.perform_turn-took.auto.performed))
-
-pub returns : goal.returns
-returns c = walk_end _ _ _ _ c.loop-row.invariant c.halted.ensures c.loop-row-test.false c.ended.ensures
+pub loop-end-preserved : goal.loop-end-preserved
+loop-end-preserved c =
+    let tree = c.args.tree.now in
+    walk_next tree.words.now (links_in tree) tree.rows _ c.loop-end.invariant _ _
+    (turned tree.words.now (links_in tree) tree.rows (place_of c.loop-end.place) c.decide-turn.result (c.decide-turn.ensures (sym c.end_at.ensures ∙ c.in_default.is))) c.perform_turn.ensures c.in_ok-number-2.was
+    _ _ c.go_on-there.ensures (omega (arith, c.perform_turn.auto.performed))

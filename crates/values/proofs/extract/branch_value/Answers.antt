@@ -10,8 +10,7 @@ unfolding push_value
 returns-then-head-eq0 c =
     let head = c.block_at-head.ensures in
     rw (branch_none head _ _ _ _ c.if-head-eq0.true, head.is_id)
-    (one_row (LOAD _) (λ stack. refl) c.requires.fit c.requires.test_bound (load_ends c.requires.fit.promise c.requires.test_bound)
-    c.put_row-load.ensures c.loading.ensures c.found.ensures)
+    (one_row (LOAD _) (λ stack. refl) c.requires.fit c.requires.test_bound (load_ends c.requires.test_bound) c.put_row-load.ensures c.loading.ensures)
 
 pub returns : goal.returns
 returns c = rw (branch_some c.block_at-head.ensures _ _ _ _ c.if-head-eq0.false) c.extract_value_block_result.ensures

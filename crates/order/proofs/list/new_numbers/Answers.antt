@@ -1,0 +1,14 @@
+use Rattle.order.proofs.ListLaws.{block_small, numbered_none, numbered_next, numbered_all}
+use Rattle.order.proofs.list.new_numbers.Goals as goal
+
+pub loop-place-init : goal.loop-place-init
+loop-place-init c = numbered_none _
+
+pub bounds-new-block : goal.bounds-new-block
+bounds-new-block c = block_small _ c.requires.few c.requires.permutation _ c.loop-place-test.true
+
+pub loop-place-preserved : goal.loop-place-preserved
+loop-place-preserved c = numbered_next _ c.requires.few c.requires.permutation _ c.loop-place-test.true c.loop-place.invariant
+
+pub returns : goal.returns
+returns c = numbered_all _ c.requires.few c.requires.permutation c.loop-place-test.false c.loop-place.invariant

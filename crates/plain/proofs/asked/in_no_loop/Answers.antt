@@ -1,0 +1,14 @@
+use Rattle.std.proofs.Common.{ℕ, ◌∙◌, refl, arith, rules}
+use Rattle.std.proofs.lemmas.Iterator.{YieldsList-from_range}
+use Rattle.std.proofs.lemmas.Iterator.Search.{all_from_yields_List}
+use Rattle.table.specs.Table.{Terminal}
+use Rattle.definition.specs.PlainLoops.{loop_of}
+use Rattle.definition.specs.PlainTest.{not_in_loop}
+use Rattle.plain.proofs.EveryLaws.{asked, every_block}
+use Rattle.plain.proofs.asked.in_no_loop.Goals as goal
+
+pub returns : goal.returns
+returns c =
+    let test = λ (_ : ℕ) (m : Terminal). not_in_loop c.args.named (loop_of m) in
+    all_from_yields_List (asked c.args.words.now test) _ _ _ c.all.ensures.ran (YieldsList-from_range 0 _ c.block_count.result refl (omega arith)) (λ x b q k. search rules)
+    ∙ every_block c.args.words.now test c.block_count.ensures

@@ -1,6 +1,0 @@
-use mathlib.Core.Path.{sym}
-use lib.Seq.{set_out}
-use Rattle.text.proofs.lent.put_byte.Goals as goal
-
-pub returns-else-at-bytes : goal.returns-else-at-bytes
-returns-else-at-bytes c = sym (set_out _ _ _ c.if-at-bytes.false)
