@@ -2,7 +2,7 @@
 use Prim.Native.Nat.{◌+◌, ◌-◌}
 use Rattle.definition.specs.Plain.{different}
 use Rattle.plain.proofs.CaseLaws.{Left}
-use Rattle.plain.proofs.cases.different_cases.Given as goal
+use Rattle.plain.proofs.cases.Cases.differ.Given as goal
 
 abbrev pub invariant-loop-row : goal.invariant-loop-row
-invariant-loop-row l = Left l.words different l.first l.number l.row (l.first + l.number - l.row)
+invariant-loop-row l = Left l.self.table.words.now different l.self.first l.self.number l.row (l.self.first + l.self.number - l.row)
