@@ -1,6 +1,6 @@
 use Rattle.std.proofs.Common.{arith, sym, ◌∙◌}
 use Rattle.tree_check.proofs.PartLaws.{no_part, one_part}
-use Rattle.tree_check.proofs.parts.part_begin.Goals as goal
+use Rattle.tree_check.proofs.words.Rows.part_begin.Goals as goal
 
 pub returns-in_err-last : goal.returns-in_err-last
 returns-in_err-last c = c.from_residual.ensures ∙ no_part _ _ _ _ (omega (arith, c.in_err-last.ensures))
