@@ -276,7 +276,7 @@ uint32_t table_old_to_new(const uint8_t *file, size_t file_length, uint8_t *text
 
 /* A file of the new form in the old one. The same refusals, with *at in words of the new form, and before 53: 52, at the word of the first
  * `to` that differs from its `from`.
- * Stack: table_new_to_old 144 KB. */
+ * Stack: table_new_to_old 68 KB. */
 uint32_t table_new_to_old(const uint8_t *file, size_t file_length, uint8_t *text, size_t text_length, uint32_t *at, size_t *length);
 
 /* ---- The blocks in walking order (M-111) ---- */
@@ -290,7 +290,7 @@ uint32_t table_new_to_old(const uint8_t *file, size_t file_length, uint8_t *text
  *
  * Returns the code: 0, and both buffers are full; or a refusal (docs/FORMAT.md), and both hold zeros. *at is the refusal's place.
  * 45: a buffer is shorter or longer than just needed.
- * Stack: blocks_rearrange 16 KB. */
+ * Stack: blocks_rearrange 8 KB. */
 uint32_t blocks_rearrange(const uint32_t *words, size_t word_count, uint32_t *new_words, size_t new_word_count, uint32_t *old_numbers, size_t old_number_count, uint32_t *at);
 
 /* Gives every block of a table, the entry too, its old number in the list: of a table and a list that blocks_rearrange gave, the first

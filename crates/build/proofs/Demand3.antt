@@ -11,11 +11,13 @@ use Rattle.definition.specs.Plain.{paper_01, with_switch, Plain}
 use Rattle.definition.specs.Reading.{OneTree}
 use Rattle.definition.specs.RunLaw.{RunLaw, SwitchLaw}
 use Rattle.definition.proofs.Law.{one_tree, run_law, switch_law}
-use Rattle.walk.specs.declared.Outcome.{Outcome}
-use Rattle.build.specs.Entry.{outcome}
+use Rattle.std.specs.Prelude.{Result}
+use Rattle.walk.specs.declared.answer.Walked.{Walked}
+use Rattle.build.specs.declared.answer.BuildError.{BuildError}
+use Rattle.build.specs.Entry.{numbers, outcome}
 
 -- `ensured` is what build_reactive_function ensures by the Rust's rule, and build_language by the language's
-module _ (rule : Rule) (words buffer index buffer' index' : List ℕ) (r : Outcome) (ensured : outcome r buffer' index' ≡ built rule words (length buffer) (length index)) (accepted : r.code ≡ 0) where
+module _ (rule : Rule) (words buffer index buffer' index' : List ℕ) (r : Result Walked BuildError) (ensured : outcome r buffer' index' ≡ built rule words (length buffer) (length index)) (accepted : (numbers r).code ≡ 0) where
   accepts : (built rule words (length buffer) (length index)).code ≡ 0
   accepts = sym (ap (λ (o : definition.Outcome). o.code) ensured) ∙ accepted
 
@@ -27,7 +29,7 @@ module _ (rule : Rule) (words buffer index buffer' index' : List ℕ) (r : Outco
   entry_law plain = subst (λ (o : definition.Outcome). RunLaw words o) (sym ensured) (run_law rule words (length buffer) (length index) accepts plain)
 
 -- M-113: plain tables with switches, for build_language
-module _ (words buffer index buffer' index' : List ℕ) (r : Outcome) (ensured : outcome r buffer' index' ≡ built language words (length buffer) (length index)) (accepted : r.code ≡ 0) where
+module _ (words buffer index buffer' index' : List ℕ) (r : Result Walked BuildError) (ensured : outcome r buffer' index' ≡ built language words (length buffer) (length index)) (accepted : (numbers r).code ≡ 0) where
   pub language_law : Plain with_switch (table_of words) → SwitchLaw words (outcome r buffer' index')
   language_law plain =
       subst (λ (o : definition.Outcome). SwitchLaw words o) (sym ensured)

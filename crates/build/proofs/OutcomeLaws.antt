@@ -1,32 +1,36 @@
 -- Laws of outcomes that printing rests on.
-use Prim.Native.Nat.{ℕ, ◌*◌, ◌≤◌}
-use mathlib.Core.Path.{◌≡◌, sym, ap, ◌∙◌}
-use mathlib.Core.List.{List}
+use Rattle.std.specs.Prelude.{Result, Ok, Err}
+use Prim.Native.Nat.{ℕ, ◌*◌}
+use mathlib.Core.Path.{◌≡◌, refl, ap, ◌∙◌}
+use mathlib.Core.List.{List, []}
 use native.Mathlib.Omega.{arith}
 use lib.ListN.{take}
 use Rattle.definition.specs.Around.{Rule}
-use Rattle.definition.specs.Build.{Outcome, built}
-use Rattle.definition.proofs.Outcomes.{accepted_fits}
+use Rattle.definition.specs.Build.{built}
 use Rattle.definition.proofs.Preview.{never_41_by_rows}
 use Rattle.text.specs.Printed.{printed}
-use Rattle.build.specs.Entry.{outcome}
-use Rattle.walk.specs.declared.Outcome as build
+use Rattle.text.proofs.PrintsLaws.{refusal_lines}
+use Rattle.walk.specs.declared.answer.Walked.{Walked}
+use Rattle.build.specs.declared.answer.BuildError.{BuildError}
+use Rattle.build.specs.Entry.{code_of, place_of, rows_of, visits_of, outcome}
 use Rattle.build.specs.Prints.{lent_words, lent_index, printed_outcome}
+use Rattle.build.proofs.EntryLaws.{code_some}
 
 -- what is written of a build is what its outcome prints
-pub built_printed : (rule : Rule) (words : List ℕ) (lent lent_index : ℕ) (r : build.Outcome) (tree index : List ℕ) {room room_index : ℕ} → room ≡ lent → room_index ≡ lent_index
-    → outcome r tree index ≡ built rule words room room_index
-    → printed r.code r.at r.rows r.visits (take (r.rows * 6) tree) ≡ printed_outcome (built rule words lent lent_index)
-unfolding printed_outcome
-built_printed rule words lent lent_index r tree index {room} l k h =
-    ap printed_outcome h ∙ ap (λ (n : ℕ). printed_outcome (built rule words room n)) k ∙ ap (λ (n : ℕ). printed_outcome (built rule words n lent_index)) l
+module _ (rule : Rule) (words tree index : List ℕ) {room room_index lent lent_index : ℕ} (l : room ≡ lent) (k : room_index ≡ lent_index) where
+  built_printed : (r : Result Walked BuildError) → outcome r tree index ≡ built rule words room room_index
+      → printed_outcome (outcome r tree index) ≡ printed_outcome (built rule words lent lent_index)
+  built_printed r h = ap printed_outcome h ∙ rw (l, k) refl
 
--- what is accepted stands within the lent words
-pub built_within : (rule : Rule) (words tree index : List ℕ) (lent lent_index : ℕ) (r : build.Outcome) → outcome r tree index ≡ built rule words lent lent_index → r.code ≡ 0 → r.rows * 6 ≤ lent
-built_within rule words tree index lent lent_index r h e =
-    let code = ap (λ (o : Outcome). o.code) h in
-    let rows = ap (λ (o : Outcome). o.rows) h in
-    omega (arith, (accepted_fits rule words lent lent_index (sym code ∙ e)).0, rows)
+  pub accepted_printed : (b : Walked) → outcome (Ok b) tree index ≡ built rule words room room_index
+      → printed 0 0 b.rows b.visits (take (b.rows * 6) tree) ≡ printed_outcome (built rule words lent lent_index)
+  unfolding printed_outcome
+  accepted_printed b h = built_printed (Ok b) h
+
+  pub refused_printed : (e : BuildError) → outcome (Err e) tree index ≡ built rule words room room_index
+      → printed (code_of e) (place_of e) (rows_of e) (visits_of e) [] ≡ printed_outcome (built rule words lent lent_index)
+  unfolding printed_outcome
+  refused_printed e h = refusal_lines (code_of e) (place_of e) (rows_of e) (visits_of e) [] (take (rows_of e * 6) tree) (code_some e) ∙ built_printed (Err e) h
 
 -- M-101: as many lines as rows are lent, so that 41 is not printed
 pub never_41 : (rule : Rule) (words : List ℕ) → (built rule words lent_words lent_index).code ≡ 41 → ⊥

@@ -8,8 +8,10 @@ ghost use Rattle.build.specs.Prints.{tree_text, built_text};
 use crate::build;
 use control::rule::Rule;
 use text::lent::{FILE_WORDS, zeros};
+use text::placed::Coded;
 use text::read::read;
 use text::write::{NoRoom, write};
+use walk::answer::Numbered;
 
 // "It lends 2,048 rows."
 const TREE_WORDS: usize = 12288;
@@ -37,19 +39,20 @@ fn build_words(rule: Rule, words: &[u32], out: &mut [u8]) -> Result<usize, NoRoo
 {
     let mut tree = zeros::<u32, TREE_WORDS>();
     let mut index = zeros::<u32, INDEX_WORDS>();
-    let built = build(rule, words, &mut tree, &mut index);
-    if built.code != 0 {
-        return write_result(out, built.code, built.at, built.rows, built.visits, &tree);
+    match build(rule, words, &mut tree, &mut index) {
+        Ok(built) => {
+            let end = (built.rows as usize) * 6;
+            write_result(out, 0, 0, built.rows, built.visits, &tree[..end])
+        }
+        Err(error) => write_result(
+            out,
+            error.code(),
+            error.place(),
+            error.rows(),
+            error.visits(),
+            &[],
+        ),
     }
-    let end = (built.rows as usize) * 6;
-    write_result(
-        out,
-        built.code,
-        built.at,
-        built.rows,
-        built.visits,
-        &tree[..end],
-    )
 }
 
 // Reads a file, builds its table's tree and writes the result; or writes why the file is refused. 135,245 bytes are enough.

@@ -1,13 +1,12 @@
 -- From the code's records to the definition's.
-use Rattle.std.specs.Prelude.{ℕ, ◌<◌, None, Some}
+use Rattle.std.specs.Prelude.{ℕ, None, Some}
 use Rattle.std.specs.Prelude as std
 use Rattle.std.proofs.Math.Option.{Option, none, some}
 use Rattle.definition.specs.Around.{Enclosing, a_loop, a_switch, another}
 use Rattle.definition.specs.Around as definition
 use Rattle.machine.specs.Goal as goal
 use Rattle.machine.specs.Survey as survey
-use Rattle.control.specs.declared.Resolution.{Resolution}
-use Rattle.control.specs.Abstraction.{kind_of, found_block}
+use Rattle.control.specs.Abstraction.{kind_of}
 use Rattle.control.specs.declared.rule.Rule.{Rule}
 use Rattle.control.specs.declared.rule.Rule.TheVariants.{Rust, Language}
 use Rattle.control.specs.declared.around.Sort.{Sort}
@@ -34,12 +33,3 @@ goal_of goal = record { target = goal.target; kind = kind_of goal.kind; loops = 
 abbrev pub aim_of : std.Option Goal → Option goal.Goal
 aim_of None = none
 aim_of (Some goal) = some (goal_of goal)
-
--- the target that was found is one of the 1,024 blocks
-abbrev pub FoundBelow : std.Option Resolution → Type 0
-FoundBelow None = Unit {0}
-FoundBelow (Some resolution) = found_block resolution < 1024
-
-abbrev pub AimBelow : std.Option Goal → Type 0
-AimBelow None = Unit {0}
-AimBelow (Some goal) = goal.target < 1024

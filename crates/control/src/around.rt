@@ -3,19 +3,20 @@
 ghost use Rattle.std.specs.Prelude.{◌≡◌, ◌&&◌, ◌||◌, ℕ, ◌<◌};
 ghost use Rattle.std.proofs.Math.Option.{Option};
 ghost use Rattle.table.specs.Words.{block_count};
-ghost use Rattle.table.specs.Promise.{Promise};
-ghost use Rattle.table.specs.Table.{table_of, terminal_at, unless_none};
+ghost use Rattle.table.specs.Columns.{maybe_of};
+ghost use Rattle.table.specs.Table.{table_of, terminal_at};
 ghost use Rattle.definition.specs.Around.{kind_by, unnamed};
 ghost use Rattle.machine.specs.Goal.{surveyed_break, surveyed_continue};
 ghost use Rattle.machine.specs.Machine.{enclosing_by};
 ghost use Rattle.machine.specs.Survey as definition;
 ghost use Rattle.control.specs.Abstraction.{kind_of, resolution_of, resolved_of};
-ghost use Rattle.control.specs.AroundAbstraction.{rule_of, survey_of, goal_of, enclosing, FoundBelow};
+ghost use Rattle.control.specs.AroundAbstraction.{rule_of, survey_of, goal_of, enclosing};
 ghost use Rattle.control.specs.Pass.{passed_loop, passed_switch, passed_another, asks_around, passed_from, target_sought, unseen_by};
 
 use crate::rule::Rule;
 use crate::{ReactiveTerminalTargetKind, Resolution};
-use table::columns::code_at;
+use table::Table;
+use table::terminals::Terminal;
 
 // The sort of a statement, as a jump inside it sees it. A scope's row has no label.
 #[derive(Clone, Copy, Drop)]
@@ -28,6 +29,7 @@ pub enum Sort {
 
 // What is known of the statements that were passed, field by field: none of them is a loop or a switch; the first that is one of the two is a switch;
 // one has the label; how many loops it still is to the loop that a continue resolved to, 0 once that was passed; that loop has the label.
+// (Flags, and 0 for passed: field by field the definition's Survey, machine/specs/Survey.antt. An enum would be turned into them by `survey_of`.)
 #[derive(Clone, Copy, Drop)]
 pub struct Survey {
     pub between: bool,
@@ -62,9 +64,9 @@ pub fn pass_from(asked: bool, depth: u32) -> usize
     if asked { depth as usize } else { 0 }
 }
 
+// 0 where nothing was found: then no statement is asked, and nobody reads it. So `unseen`.
 pub fn target_of(found: Option<Resolution>) -> u32
-    requires { FoundBelow found }
-    ensures { (result ≡ target_sought (resolved_of found)) × (result < 1024) }
+    ensures { result ≡ target_sought (resolved_of found) }
 {
     match found {
         None => 0,
@@ -90,16 +92,33 @@ pub fn unseen(found: Option<Resolution>) -> Survey
 
 // ---- one statement
 
-fn sort_at(words: &[u32], block: u32) -> Sort
-    requires promise { Promise words.now }
-    requires block_bound { block < block_count words.now }
-    ensures { (label : Option ℕ) → enclosing_by (terminal_at (table_of words.now) block) label ≡ enclosing result label }
+#[tactic(auto, using(crate::proofs::SurveyLaws::sorted))]
+fn sort_at(table: Table<'_>, block: u32) -> Sort
+    requires { block < block_count table.words.now }
+    ensures { (label : Option ℕ) → enclosing_by (terminal_at (table_of table.entry.words.now) block) label ≡ enclosing result label }
 {
-    match code_at(words, block) {
-        7 => Sort::Switch,
-        8..=12 => Sort::Loop,
-        20 | 21 => Sort::Scope,
-        _ => Sort::Another,
+    match table.terminal(block) {
+        Terminal::Switch(_) => Sort::Switch,
+        Terminal::DoWhile(_)
+        | Terminal::While(_)
+        | Terminal::For(_)
+        | Terminal::ForOf(_)
+        | Terminal::ForIn(_) => Sort::Loop,
+        Terminal::Scope(_) | Terminal::PrunedScope(_) => Sort::Scope,
+        Terminal::Absent
+        | Terminal::Unreachable
+        | Terminal::Throw(_)
+        | Terminal::Return(_)
+        | Terminal::Goto(_)
+        | Terminal::If(_)
+        | Terminal::Branch(_)
+        | Terminal::Logical(_)
+        | Terminal::Ternary(_)
+        | Terminal::Optional(_)
+        | Terminal::Label(_)
+        | Terminal::Sequence(_)
+        | Terminal::MaybeThrow(_)
+        | Terminal::Try(_) => Sort::Another,
     }
 }
 
@@ -136,15 +155,13 @@ fn pass_another(here: bool, seen: Survey) -> Survey
     }
 }
 
-// The statement of this block, with the fallthrough that it took as its label.
-pub fn pass(words: &[u32], target: u32, block: u32, label: u32, seen: Survey) -> Survey
-    requires promise { Promise words.now }
-    requires block_bound { block < block_count words.now }
-    requires target_bound { target < 1024 }
-    ensures { survey_of result ≡ definition.pass target (enclosing_by (terminal_at (table_of words.now) block) (unless_none label)) (survey_of seen) }
+// The statement of this block, with the fallthrough that it took as its label, if it took it.
+pub fn pass(table: Table<'_>, target: u32, block: u32, label: Option<u32>, seen: Survey) -> Survey
+    requires { block < block_count table.words.now }
+    ensures { survey_of result ≡ definition.pass target (enclosing_by (terminal_at (table_of table.entry.words.now) block) (maybe_of label)) (survey_of seen) }
 {
-    let here = label == target;
-    match sort_at(words, block) {
+    let here = label == Some(target);
+    match sort_at(table, block) {
         Sort::Loop => pass_loop(here, seen),
         Sort::Switch => pass_switch(here, seen),
         Sort::Scope => pass_another(false, seen),

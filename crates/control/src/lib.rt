@@ -75,6 +75,7 @@ pub enum Blocked {
 
 // `pushed` is the entry that went on last. `refused` says why `schedule` refused it, if it did. The walk ends with such a Context. The first `len`
 // entries of the stack count: fixed memory, and paper 01's array.
+// `pushed` is any entry before the first: nobody reads it there, and an option would be unwrapped at the one store.
 #[derive(Drop)]
 pub struct Context {
     pub emitted: [bool; 1024],

@@ -1,3 +1,4 @@
+pub mod AnswerLaws
 pub mod CutLaws
 pub mod TextLaws
 pub mod GoodLaws

@@ -9,18 +9,20 @@ use lib.ListN.{length, replicate}
 use borrow.Author.Tests.{le-leb}
 use Rattle.text.specs.Layout.{layout}
 use Rattle.text.specs.Lent.{padded}
+use Rattle.text.specs.Placed.{Placing, placing}
 use Rattle.text.specs.Answer.{Answer, Accepted, code_of, place_of}
 use Rattle.text.specs.Reading.{Reading, reads, refuses, reading, WordsRead, read_into}
 use Rattle.text.specs.declared.version.Version.TheVariants.{New}
-use Rattle.text.specs.declared.read.ReadError.{ReadError}
 use Rattle.text.specs.declared.read.ReadError.TheVariants.{NoRoom}
 use Rattle.text.proofs.ReadingLaws.{Says, reading_says, error_numbers, accepted_reads}
 use Rattle.convert.specs.Read.{WordsPlaced, refusal, placed_in, table_read}
 
--- what the code makes of an answer
+-- what `tell` makes of an answer and a buffer of bytes, said of words
+abbrev words_of : Placing → WordsPlaced
+words_of p = record { code = p.code; at = p.at; count = p.length; lent = p.buffer }
+
 abbrev told : Answer → (lent : List ℕ) → WordsPlaced
-told (Ok count) lent = record { code = 0; at = 0; count = count; lent = lent }
-told (Err error) lent = record { code = code_of error; at = place_of error; count = 0; lent = lent }
+told a lent = words_of (placing code_of place_of a lent)
 
 abbrev told_of : WordsRead → WordsPlaced
 told_of w = told w.answer w.lent
@@ -49,15 +51,10 @@ module _ (file : List ℕ) (room : ℕ) where
   unfolding table_read
   told_read w e = ap told_of e ∙ into_told file room (reading (layout New) file) (reading_says (layout New) file)
 
-  abbrev Read : Answer → (lent : List ℕ) → Type 0
-  Read a lent = record { answer = a; lent = lent } ≡ read_into room (reading (layout New) file)
-
-  pub words_told : {count : ℕ} {lent : List ℕ} → Read (Ok count) lent → record { code = 0; at = 0; count = count; lent = lent } ≡ table_read file room
-  words_told e = told_read _ e
-
-  pub error_told : {error : ReadError} {lent : List ℕ} → Read (Err error) lent
-      → record { code = code_of error; at = place_of error; count = 0; lent = lent } ≡ table_read file room
-  error_told e = told_read _ e
+  -- so the code, place and number that `tell` gives, with the lent words, are what the definition gives
+  pub read_told : (p : Placing) (a : Answer) (lent : List ℕ) → record { answer = a; lent = lent } ≡ read_into room (reading (layout New) file)
+      → p ≡ placing code_of place_of a lent → words_of p ≡ table_read file room
+  read_told p a lent e t = ap words_of t ∙ told_read _ e
 
   -- a good file is read as its words
   pub good_read : (words : List ℕ) → Accepted (layout New) file words → length words ≤ room

@@ -1,12 +1,9 @@
 -- What an answer of the converters means, by the papers' numbers.
-use Rattle.std.specs.Prelude.{◌≡◌, ℕ, List, Result}
-use Rattle.std.proofs.Common.{arith}
+use Rattle.std.specs.Prelude.{ℕ, List, Result}
 use Rattle.table.specs.Answer.{refusal_code, refusal_place}
-use Rattle.table.proofs.RefusalLaws.{refusal_some}
 use Rattle.text.specs.Answer as reader
 use Rattle.text.specs.Placed.{Placing}
 use Rattle.text.specs.Placed as text
-use Rattle.text.proofs.PrintsLaws.{error_some}
 use Rattle.convert.specs.declared.ConvertError.{ConvertError}
 use Rattle.convert.specs.declared.ConvertError.TheVariants.{File, Table, SpanApart, NoRoom}
 
@@ -22,13 +19,6 @@ place_of (File error) = reader.place_of error
 place_of (Table refusal) = refusal_place refusal
 place_of (SpanApart at) = at
 place_of NoRoom = 0
-
--- an error is a refusal: its code does not say accepted
-pub code_some : (error : ConvertError) → code_of error ≡ 0 → ⊥
-code_some (File error) e = error_some error e
-code_some (Table refusal) e = refusal_some refusal e
-code_some (SpanApart at) e = omega (arith, e)
-code_some NoRoom e = omega (arith, e)
 
 -- an answer and the lent buffer; and what is answered once a text was written up to an end, or refused
 abbrev pub placing : Result ℕ ConvertError → List ℕ → Placing

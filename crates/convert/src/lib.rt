@@ -21,6 +21,7 @@ use crate::spans::{first_apart, in_old_form};
 use crate::widen::widen;
 use crate::written_tables::write_tables;
 use table::Refusal;
+use table::words::Words;
 use table_check::check;
 use text::lent::{FILE_WORDS, zeros};
 use text::placed::{Coded, finish, tell};
@@ -81,25 +82,27 @@ impl Coded for ConvertError {
 }
 
 // Checks widened words and writes them. A refusal has its place in the old form.
+// (`Shaped` is asked of the old words twice and of the widened once: a struct of words and form would be built and taken apart once.)
 fn write_wide(wide: &[u32], text: &mut [u8]) -> Result<usize, ConvertError>
     requires shaped { Shaped (layout New) wide.now }
     requires wide_len_bound { length wide.now ≤ 19456 }
     ensures { finished result text.new ≡ of_wide wide.now (length text.old) }
 {
     match check(wide) {
-        Ok(()) => Ok(write_tables(wide, Version::New, text)),
+        Ok(table) => Ok(write_tables(Words { words: table.words }, Version::New, text)),
         Err(refusal) => Err(ConvertError::Table(in_old_form(wide, refusal))),
     }
 }
 
-// Writes old words as a new text, as far as there are bytes, and gives its end.
+// Writes old words as a new text, as far as there are bytes, and gives its end. Not inlined: the way back needs no stack for the wide words.
+#[inline(never)]
 fn convert_old(old: &[u32], text: &mut [u8]) -> Result<usize, ConvertError>
     requires shaped { Shaped (layout Old) old.now }
     requires len_bound { length old.now ≤ 16384 }
     ensures { finished result text.new ≡ new_of_old old.now (length text.old) }
 {
     // 16,384 old words have at most 2,730 rows with a span.
-    let mut wide: [u32; 19456] = zeros();
+    let mut wide = zeros::<u32, 19456>();
     let count = widen(old, &mut wide);
     write_wide(&wide[..count], text)
 }
@@ -108,14 +111,14 @@ fn convert_old(old: &[u32], text: &mut [u8]) -> Result<usize, ConvertError>
 fn convert_new(words: &[u32], text: &mut [u8]) -> Result<usize, ConvertError>
     ensures { finished result text.new ≡ old_of_new words.now (length text.old) }
 {
-    check(words)?;
-    match first_apart(words) {
+    let table = check(words)?;
+    match first_apart(table) {
         Some(at) => Err(ConvertError::SpanApart(at)),
-        None => Ok(write_tables(words, Version::Old, text)),
+        None => Ok(write_tables(Words { words: table.words }, Version::Old, text)),
     }
 }
 
-// Writes a file of a form in the other form.
+// Writes a file of a form in the other form. (By the form, as the reader goes: a closure for each form would stand in no fewer lines.)
 fn convert(file: &[u8], version: Version, text: &mut [u8]) -> Result<usize, ConvertError>
     ensures { finished result text.new ≡ conversion version file.now (length text.old) }
 {
@@ -128,6 +131,7 @@ fn convert(file: &[u8], version: Version, text: &mut [u8]) -> Result<usize, Conv
 }
 
 // Converts any file of the old form into a lent buffer of any length.
+// Two entries, one for each form: C and the theorems name them.
 pub fn old_to_new(file: &[u8], text: &mut [u8]) -> Result<usize, ConvertError>
     ensures { placing result text.new ≡ old_to_new file.now (length text.old) }
 {

@@ -2,12 +2,11 @@
 ghost use Rattle.std.specs.Prelude.{◌≡◌, ◌+◌, ◌*◌, ◌≤◌, length};
 ghost use Rattle.table.specs.Words.{block_count, instruction_count};
 ghost use Rattle.table.specs.Answer.{refusal_code, refusal_place};
-ghost use Rattle.table.specs.Promise.{Sized};
 ghost use Rattle.convert.specs.Convert.{ends_agree, spans_verdict};
 ghost use Rattle.convert.specs.Parts.{old_place, apart_at};
 
-use table::Refusal;
 use table::words::{block_count, instruction_count, instructions_begin};
+use table::{Refusal, Table};
 
 // The place in the old form of a word that has this place in the widened words.
 #[tactic(auto, using(crate::proofs::SpanLaws::place_head))]
@@ -65,14 +64,13 @@ fn apart_in(words: &[u32], first: u32, rows: u32, width: u32) -> Option<u32>
 
 // The word of the first `to` that differs from its `from`.
 #[tactic(auto, using(crate::proofs::TextLaws::sized_within))]
-pub fn first_apart(words: &[u32]) -> Option<u32>
-    requires { Sized words.now }
-    ensures { apart_at result ≡ spans_verdict words.now }
+pub fn first_apart(table: Table<'_>) -> Option<u32>
+    ensures { apart_at result ≡ spans_verdict table.entry.words.now }
 {
-    let in_blocks = apart_in(words, 6, block_count(words), 11);
+    let in_blocks = apart_in(table.words, 6, block_count(table.words), 11);
     if in_blocks.is_some() {
         return in_blocks;
     }
-    let first = instructions_begin(words);
-    apart_in(words, first, instruction_count(words), 7)
+    let first = instructions_begin(table.words);
+    apart_in(table.words, first, instruction_count(table.words), 7)
 }

@@ -6,17 +6,7 @@ ghost use Rattle.text.specs.declared.version.Version.TheVariants.{Old};
 ghost use Rattle.convert.specs.Cut.{Shaped};
 ghost use Rattle.convert.specs.Widen.{doubled_rows, widened};
 
-use text::lent::put;
-
-fn copy_words(wide: &mut [u32], start: usize, source: &[u32]) -> usize
-    requires { start + length source.now < 2 ^ 64 }
-    ensures { Wrote wide.old start source.now wide.new result }
-{
-    for (i, word) in source.iter().enumerate() {
-        put(wide, start + i, *word);
-    }
-    start + source.len()
-}
+use text::lent::{put, put_all};
 
 // Copies rows of `width` words, and the last word of each row twice.
 fn widen_rows(wide: &mut [u32], start: usize, rows: &[u32], width: usize) -> usize
@@ -29,7 +19,7 @@ fn widen_rows(wide: &mut [u32], start: usize, rows: &[u32], width: usize) -> usi
 {
     let mut at = start;
     for row in rows.chunks_exact(width) {
-        let end = copy_words(wide, at, row);
+        let end = put_all(wide, at, row);
         put(wide, end, row[width - 1]);
         at = end + 1;
     }
@@ -44,8 +34,8 @@ pub fn widen(old: &[u32], wide: &mut [u32]) -> usize
 {
     let first = 6 + old[1] as usize * 10;
     let cases = first + old[2] as usize * 6;
-    let head = copy_words(wide, 0, &old[..6]);
+    let head = put_all(wide, 0, &old[..6]);
     let blocks = widen_rows(wide, head, &old[6..first], 10);
     let instructions = widen_rows(wide, blocks, &old[first..cases], 6);
-    copy_words(wide, instructions, &old[cases..])
+    put_all(wide, instructions, &old[cases..])
 }

@@ -6,11 +6,13 @@ ghost use Rattle.convert.specs.declared.writing.WriteError.TheVariants.{Table};
 
 use crate::written_tables::write_tables;
 use table::Refusal;
+use table::words::Words;
 use table_check::check;
 use text::placed::{Coded, finish, tell};
 use text::version::Version;
 
 // Why words are not written. `code_of` and `place_of` in specs/WriteAnswer.antt have the papers' numbers.
+// (Not one type with `dot`'s DrawError: no crate below both knows `Refusal` and `Coded`, and the code of NoRoom is another, 44.)
 #[derive(Clone, Copy, Debug, PartialEq, Eq)]
 pub enum WriteError {
     // The words are no table.
@@ -51,8 +53,8 @@ impl Coded for WriteError {
 fn write_checked(words: &[u32], text: &mut [u8]) -> Result<usize, WriteError>
     ensures { finished result text.new ≡ table_written words.now (length text.old) }
 {
-    check(words)?;
-    Ok(write_tables(words, Version::New, text))
+    let table = check(words)?;
+    Ok(write_tables(Words { words: table.words }, Version::New, text))
 }
 
 // Writes any words into a lent buffer of any length.

@@ -1,16 +1,14 @@
 -- Laws of the drawing's text.
 use mathlib.Core.Path.{◌≡◌, refl, ◌∙◌}
-use mathlib.Core.List.{List, [], ◌∷◌, ◌++◌, append_assoc}
+use mathlib.Core.List.{List, [], ◌∷◌, ◌++◌, append-nil, append_assoc}
 use Prim.Native.Nat.{ℕ, suc, ◌+◌, ◌-◌, ◌≤◌, ◌<◌}
 use native.Mathlib.Omega.{arith}
 use native.Mathlib.Nat.{sub-zero}
 use native.Mathlib.Numerals.{add-one}
-use lib.ListN.{length, get_or, drop, drop_of_length-le}
-use lib.Seq.{drop-cons}
 use Rattle.text.specs.Ascii.{ascii}
 use Rattle.text.specs.Decimal.{decimal}
 use Rattle.text.specs.Printed.{Wrote}
-use Rattle.text.proofs.WriteLaws.{wrote_then}
+use Rattle.text.proofs.WriteLaws.{wrote_none, wrote_then}
 use Rattle.table.specs.Words.{block_count}
 use Rattle.table.specs.Table.{Table, table_of}
 use Rattle.table.proofs.TableLaws.{length_blocks}
@@ -26,15 +24,24 @@ line_wrote from to name number arrow second last = wrote_then name (wrote_then n
 
 -- ---- the lines of a row
 
--- one line more, of those from k on
-pub row_more : (row : ℕ) (names text all : List ℕ) (k : ℕ) → k < length names → text ++ lines_text (lines_to row (drop k names)) ≡ all
-    → (text ++ line_text (record { from = row; to = get_or names k 0 })) ++ lines_text (lines_to row (drop (k + 1) names)) ≡ all
+-- of some blocks, then of others
+names_append : (row : ℕ) (a b : List ℕ) → lines_text (lines_to row (a ++ b)) ≡ lines_text (lines_to row a) ++ lines_text (lines_to row b)
 unfolding lines_text
-row_more row names text all k p h = append_assoc text _ _ ∙ rw (add-one k) (rw (drop-cons names k 0 p) at h)
+names_append row [] b = refl
+names_append row (to ∷ a) b = rw (names_append row a b, append_assoc)
 
-pub row_done : (row : ℕ) (names : List ℕ) (k : ℕ) → length names ≤ k → lines_text (lines_to row (drop k names)) ≡ []
+pub no_line : (row : ℕ) (b : List ℕ) (start : ℕ) → Wrote b start (lines_text (lines_to row [])) b start
 unfolding lines_text
-row_done row names k p = rw (drop_of_length-le names p)
+no_line row b start = wrote_none b start
+
+pub one_line : {b b' : List ℕ} {start end : ℕ} (row to : ℕ) → Wrote b start (line_text (record { from = row; to = to })) b' end → Wrote b start (lines_text (lines_to row (to ∷ []))) b' end
+unfolding lines_text
+one_line row to h = rw (append-nil (line_text (record { from = row; to = to }))) h
+
+-- more lines behind those written
+pub lines_then : {b b' b'' : List ℕ} {start middle end : ℕ} (row : ℕ) (names more : List ℕ) → Wrote b start (lines_text (lines_to row names)) b' middle
+    → Wrote b' middle (lines_text (lines_to row more)) b'' end → Wrote b start (lines_text (lines_to row (names ++ more))) b'' end
+lines_then row names more h k = rw (names_append row names more) (wrote_then h k)
 
 -- ---- the rows
 

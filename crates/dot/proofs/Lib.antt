@@ -1,3 +1,4 @@
+pub mod AnswerLaws
 pub mod DotLaws
 pub mod DrawnLaws
 pub mod Samples

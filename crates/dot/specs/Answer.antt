@@ -1,8 +1,6 @@
 -- What an answer of `dot` means, by the papers' numbers.
-use Rattle.std.specs.Prelude.{◌≡◌, ℕ, List, Result}
-use Rattle.std.proofs.Common.{arith}
+use Rattle.std.specs.Prelude.{ℕ, List, Result}
 use Rattle.table.specs.Answer.{refusal_code, refusal_place}
-use Rattle.table.proofs.RefusalLaws.{refusal_some}
 use Rattle.text.specs.Placed.{Placing}
 use Rattle.text.specs.Placed as text
 use Rattle.dot.specs.declared.DrawError.{DrawError}
@@ -16,11 +14,6 @@ code_of NoRoom = 44
 abbrev pub place_of : DrawError → ℕ
 place_of (Table refusal) = refusal_place refusal
 place_of NoRoom = 0
-
--- an error is a refusal: its code does not say accepted
-pub code_some : (error : DrawError) → code_of error ≡ 0 → ⊥
-code_some (Table refusal) e = refusal_some refusal e
-code_some NoRoom e = omega (arith, e)
 
 -- an answer and the lent buffer; and what is answered once a text was written up to an end, or refused
 abbrev pub placing : Result ℕ DrawError → List ℕ → Placing

@@ -5,12 +5,12 @@ ghost use Rattle.dot.specs.Prints.{drawing_text, drawn_text};
 
 use crate::dot;
 use text::lent::{FILE_WORDS, zeros};
-use text::placed::print;
+use text::placed::{Coded, print};
 use text::read::read;
 use text::write::{NoRoom, write};
 
 // Draws a table in the bytes that are printed of it.
-#[tactic(auto, using(crate::specs::Answer::code_some))]
+#[tactic(auto, using(crate::proofs::AnswerLaws::code_some))]
 fn draw_words(words: &[u32], out: &mut [u8]) -> Result<usize, NoRoom>
     ensures { WrittenText 77 (drawing_text (length out.old) words.now) (length out.old) result out.new }
 {

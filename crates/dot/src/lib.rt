@@ -16,6 +16,7 @@ use table_check::check;
 use text::placed::{Coded, finish, tell};
 
 // Why words are not drawn. `code_of` and `place_of` in specs/Answer.antt have the papers' numbers.
+// (Not one type with `convert`'s WriteError: see there.)
 #[derive(Clone, Copy, Debug, PartialEq, Eq)]
 pub enum DrawError {
     // The words are no table.
@@ -56,8 +57,8 @@ impl Coded for DrawError {
 fn draw(words: &[u32], text: &mut [u8]) -> Result<usize, DrawError>
     ensures { finished result text.new ≡ drawn words.now (length text.old) }
 {
-    check(words)?;
-    Ok(write_graph(words, text))
+    let table = check(words)?;
+    Ok(write_graph(table, text))
 }
 
 // Draws any words into a lent buffer of any length.

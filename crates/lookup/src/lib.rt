@@ -76,7 +76,7 @@ pub fn lookup<'a>(
     Ok(&tree[first..end])
 }
 
-// The same for callers in C or Rust: the code, the place, and the bounds of the part.
+// The same for callers in C or Rust: the code, and by reference, as C takes them, the place and the bounds of the part.
 pub fn tree_lookup(
     index: &[u32],
     lines: u32,

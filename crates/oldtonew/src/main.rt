@@ -2,15 +2,11 @@
 #![tactic(auto)]
 
 use convert::file::print_new;
-use program::{PRINTED_BYTES, TABLE_BYTES, read_all, write_printed};
+use program::{PRINTED_BYTES, TABLE_BYTES, run};
 use text::lent::zeros;
 
 fn main(rt: HostRuntime) {
     let mut file = zeros::<u8, TABLE_BYTES>();
-    let Ok(count) = read_all(&rt, b"oldtonew", &mut file) else {
-        return;
-    };
     let mut out = zeros::<u8, PRINTED_BYTES>();
-    let written = print_new(&file[..count], &mut out);
-    write_printed(&rt, b"oldtonew", &out, written);
+    run(&rt, b"oldtonew", &mut file, &mut out, print_new);
 }

@@ -68,7 +68,6 @@ module _ (ws list new : List ℕ) (promise : Promise ws) (p : Permutes (block_co
   pub writing_new : {out : List ℕ} → length out ≡ length ws → Writing ws new list out 0
   writing_new long =
       record {
-        promise = promise;
         named = few;
         rowed = omega (arith, p.long);
         there = list_below (block_count ws) list new p numbers;
@@ -79,7 +78,6 @@ module _ (ws list new : List ℕ) (promise : Promise ws) (p : Permutes (block_co
   pub writing_first : {out : List ℕ} → length out ≡ length ws → Writing ws list new out 0
   writing_first long =
       record {
-        promise = promise;
         named = omega (arith, p.long);
         rowed = few;
         there = new_small (block_count ws) list new p numbers;

@@ -1,3 +1,4 @@
+pub mod AnswerLaws
 pub mod QueueLaws
 pub mod WalkLaws
 pub mod ListLaws

@@ -5,7 +5,7 @@ use native.Mathlib.Omega.{arith}
 use native.Mathlib.Numerals.{add-one}
 use mathlib.Core.List.{List}
 use mathlib.Core.Bool.{Bool, true, false}
-use lib.ListN.{length, get_or, take, set, replicate, length-set, length-replicate}
+use lib.ListN.{length, get_or, take, set, length-set}
 use lib.Seq.{take-suc, take_all, length-take-le, get_or-take, get_or-set_same, get_or-set_other}
 use borrow.Author.Tests.{eq-eqb}
 use Rattle.renaming.specs.Order.{is_permutation, new_number}
@@ -56,8 +56,8 @@ pub record Numbered (list new : List ℕ) (i : ℕ) : Type 0 where
   pub wide : length new ≡ 1024
   pub are : (j : ℕ) → j < i → get_or new (get_or list j 0) 0 ≡ j
 
-pub numbered_none : (list : List ℕ) → Numbered list (replicate 1024 0) 0
-numbered_none list = record { wide = length-replicate {A = ℕ} 1024 0; are = λ j h. absurd (omega arith) }
+pub numbered_none : (list : List ℕ) {new : List ℕ} → length new ≡ 1024 → Numbered list new 0
+numbered_none list wide = record { wide = wide; are = λ j h. absurd (omega arith) }
 
 module _ (list : List ℕ) (few : length list ≤ 1024) (is : is_permutation (length list) list ≡ true) where
   perm : Permutes (length list) list

@@ -6,7 +6,7 @@ use native.Mathlib.Numerals.{add-one}
 use mathlib.Core.List.{List, [], ◌∷◌, ◌++◌}
 use mathlib.Core.Bool.{Bool, true, false, ◌||◌}
 use lib.ListN.{length, get_or, take, set, replicate, length-set, length-append, length-replicate, get_or-replicate}
-use lib.Seq.{take-suc, take-suc-set, take_all, length-take-le, get_or-set_same, get_or-set_other}
+use lib.Seq.{take-suc-set, length-take-le, get_or-set_same, get_or-set_other}
 use borrow.Author.Tests.{ne_eqb, lt-ltb}
 use Rattle.table.specs.Table.{rows_from}
 use Rattle.table.proofs.BlockLaws.{length_rows}
@@ -93,14 +93,9 @@ with_append found (x ∷ a) b = by (contains found x) refl (with_append found a 
         pick_false (contains found x) (with_named found (a ++ b)) (with_named (found ++ (x ∷ [])) (a ++ b)) e
         ∙ (more ∙ ap (λ (l : List ℕ). with_named l b) (sym (pick_false (contains found x) (with_named found a) (with_named (found ++ (x ∷ [])) a) e)))
 
--- the first k names, and one more
-pub line_named : (found names : List ℕ) (k : ℕ) {b : ℕ} {l m : List ℕ} → k < length names → get_or names k 0 ≡ b
-    → l ≡ with_named found (take k names) → m ≡ with_named l (b ∷ []) → m ≡ with_named found (take (k + 1) names)
-line_named found names k {b} less is e f =
-    rw (f, e, add-one k, take-suc names k 0 less, is, with_append found (take k names) (b ∷ []))
-
-pub lines_named : (found names : List ℕ) (k : ℕ) {l : List ℕ} → length names ≤ k → l ≡ with_named found (take k names) → l ≡ with_named found names
-lines_named found names k past e = e ∙ ap (with_named found) (take_all k names past)
+-- some names, and then more
+pub named_then : (found names more : List ℕ) {l m : List ℕ} → l ≡ with_named found names → m ≡ with_named l more → m ≡ with_named found (names ++ more)
+named_then found names more e f = rw (f, e, with_append found names more)
 
 -- the blocks 0, 1, .. and one more
 rows_end : (first n : ℕ) → rows_from first (suc n) ≡ rows_from first n ++ ((first + n) ∷ [])

@@ -143,7 +143,7 @@ module _ (ws names rows : List ℕ) (p : Promise ws) where
 
 module _ {ws names rows out : List ℕ} {end : ℕ} (w : Writing ws names rows out end) where
   pub more : {out' : List ℕ} {end' : ℕ} → length out' ≡ length out → ((k : ℕ) → k < end' → get_or out' k 0 ≡ get_or (renumbered ws names rows) k 0) → Writing ws names rows out' end'
-  more long written = record { promise = w.promise; named = w.named; rowed = w.rowed; there = w.there; long = long ∙ w.long; written = written }
+  more long written = record { named = w.named; rowed = w.rowed; there = w.there; long = long ∙ w.long; written = written }
 
   pub put : (v : ℕ) → end < length ws → v ≡ get_or (renumbered ws names rows) end 0 → Writing ws names rows (set out end v) (end + 1)
   put v h e = more (length-set out end v) (λ k l. by_equal k end
@@ -161,8 +161,8 @@ module _ {ws names rows out : List ℕ} {end : ℕ} (w : Writing ws names rows o
   pub at : {end' : ℕ} → end ≡ end' → Writing ws names rows out end'
   at e = rw e at w
 
-  pub whole : length ws ≤ end → out ≡ renumbered ws names rows
-  whole h = ext_get_or 0 out (renumbered ws names rows) (w.long ∙ sym (is_renamed ws names rows w.promise).long) (λ k l. w.written k (omega (arith, w.long)))
+  pub whole : Promise ws → length ws ≤ end → out ≡ renumbered ws names rows
+  whole p h = ext_get_or 0 out (renumbered ws names rows) (w.long ∙ sym (is_renamed ws names rows p).long) (λ k l. w.written k (omega (arith, w.long)))
 
 -- a case row
 pub case_written : (ws names rows : List ℕ) (p : Promise ws) {out : List ℕ} {case : ℕ} → Writing ws names rows out (cases_begin ws + case * 2)
@@ -177,14 +177,14 @@ case_written ws names rows p {case = case} w begin {block} e h is =
           (omega (arith, s.cases, s.end)) ((rw e at is) ∙ case_is ws names rows p case h)) (omega arith),
     )
 
-pub instructions_copied : {ws names rows out out' : List ℕ} {begin end : ℕ} → Writing ws names rows out (instructions_begin ws) → begin ≡ instructions_begin ws
+pub instructions_copied : {ws names rows out out' : List ℕ} {begin end : ℕ} → Promise ws → Writing ws names rows out (instructions_begin ws) → begin ≡ instructions_begin ws
     → end ≡ cases_begin ws → Copied ws out begin end out'
     → Writing ws names rows out' (cases_begin ws)
-instructions_copied {ws} {names} {rows} w e f c = copy w (rw (e, f) at c) (instructions_same ws names rows w.promise)
+instructions_copied {ws} {names} {rows} p w e f c = copy w (rw (e, f) at c) (instructions_same ws names rows p)
 
-pub tail_copied : {ws names rows out out' : List ℕ} {begin : ℕ} → Writing ws names rows out (places_begin ws) → begin ≡ places_begin ws
+pub tail_copied : {ws names rows out out' : List ℕ} {begin : ℕ} → Promise ws → Writing ws names rows out (places_begin ws) → begin ≡ places_begin ws
     → Copied ws out begin (length ws) out' → out' ≡ renumbered ws names rows
-tail_copied {ws} {names} {rows} w e c = whole (copy w (rw e at c) (tail_same ws names rows w.promise)) (omega arith)
+tail_copied {ws} {names} {rows} p w e c = whole (copy w (rw e at c) (tail_same ws names rows p)) p (let s = sizes p in omega arith)
 
 -- copied so far
 module _ {ws out₀ out : List ℕ} {begin end : ℕ} (c : Copied ws out₀ begin end out) where

@@ -1,8 +1,7 @@
 -- What an answer means by the papers' numbers; and the answers with the lent buffers, as the definition's records.
-use Rattle.std.specs.Prelude.{◌≡◌, ℕ, List, Result, Ok, Err, length}
-use Rattle.std.proofs.Common.{arith}
+use Rattle.std.specs.Prelude.{ℕ, List, Result, Ok, Err, length}
 use Rattle.table.specs.Answer.{refusal_code, refusal_place}
-use Rattle.table.proofs.RefusalLaws.{refusal_some}
+use Rattle.text.specs.Placed.{answer_code, answer_place}
 use Rattle.renaming.specs.Order.{Rearrangement, Restoration, refused_rearrangement, refused_restoration}
 use Rattle.order.specs.declared.OrderError.{OrderError}
 use Rattle.order.specs.declared.OrderError.TheVariants.{Table, WrongLength, NotAPermutation}
@@ -19,26 +18,12 @@ place_of (Table refusal) = refusal_place refusal
 place_of WrongLength = 0
 place_of NotAPermutation = 0
 
--- an error is a refusal: its code does not say accepted
-pub code_some : (error : OrderError) → code_of error ≡ 0 → ⊥
-code_some (Table refusal) e = refusal_some refusal e
-code_some WrongLength e = omega (arith, e)
-code_some NotAPermutation e = omega (arith, e)
-
 -- "Code (0 accepted), at"
-abbrev pub answer_code : Result (Unit {0}) OrderError → ℕ
-answer_code (Ok _) = 0
-answer_code (Err error) = code_of error
-
-abbrev pub answer_place : Result (Unit {0}) OrderError → ℕ
-answer_place (Ok _) = 0
-answer_place (Err error) = place_of error
-
 abbrev pub rearranging : Result (Unit {0}) OrderError → (table list : List ℕ) → Rearrangement
-rearranging answer table list = record { code = answer_code answer; at = answer_place answer; table = table; list = list }
+rearranging answer table list = record { code = answer_code code_of answer; at = answer_place place_of answer; table = table; list = list }
 
 abbrev pub restoring : Result (Unit {0}) OrderError → (table : List ℕ) → Restoration
-restoring answer table = record { code = answer_code answer; at = answer_place answer; table = table }
+restoring answer table = record { code = answer_code code_of answer; at = answer_place place_of answer; table = table }
 
 -- the same of outputs that an error leaves to be cleared
 abbrev pub rearranged_or_cleared : Result (Unit {0}) OrderError → (table list : List ℕ) → Rearrangement

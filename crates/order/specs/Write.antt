@@ -1,7 +1,6 @@
 -- What the writer of a renamed table has written.
 use Rattle.std.specs.Prelude.{ℕ, ◌<◌, ◌≤◌, ◌≡◌, List, [], ◌∷◌, Bool, true, false, get_or, length, ltb}
 use Rattle.table.specs.Words.{block_count}
-use Rattle.table.specs.Promise.{Promise}
 use Rattle.renaming.specs.Renaming.{names_block, renamed}
 
 -- the number that the list gives to one of `blocks` blocks; any other number stays as it is
@@ -18,7 +17,6 @@ renumbered ws names rows = renamed (number_in (block_count ws) names) (number_in
 
 -- it is written up to the word `end`
 pub record Writing (ws names rows out : List ℕ) (end : ℕ) : Type 0 where
-  pub promise : Promise ws
   pub named : block_count ws ≤ length names
   pub rowed : block_count ws ≤ length rows
   pub there : (row : ℕ) → row < block_count ws → get_or rows row 0 < block_count ws

@@ -2,16 +2,16 @@
 ghost use Rattle.std.specs.Prelude.{◌≡◌, ℕ, List, [], ◌∷◌, ◌<◌, ◌≤◌, length, take, get_or, MatchOption};
 ghost use Rattle.table.specs.Words.{block_count};
 ghost use Rattle.table.specs.Table.{table_of};
-ghost use Rattle.table.specs.Promise.{Promise};
 ghost use Rattle.table.specs.Lines.{named_at};
+ghost use Rattle.table.specs.Named.{AllBelow, present};
 ghost use Rattle.renaming.specs.Order.{with_named, walk_from, walking_order};
 ghost use Rattle.order.specs.Queue.{Queued};
 
 use std::marker::Model;
-use table::lines::{named_at, target};
-use table::words::{block_count, entry};
+use table::Table;
 
 // The first `count` words of `blocks` are the blocks found, none of them twice; `found` has a flag for each of them.
+// (Fixed memory: no heap, so no Vec and no set.)
 #[derive(Drop)]
 struct Queue {
     blocks: [u32; 1024],
@@ -62,15 +62,27 @@ impl Queue {
         }
     }
 
-    // The blocks that a row names, in the order of its lines.
-    fn name_row(&mut self, words: &[u32], row: u32)
-        requires promise { Promise words.now }
-        requires row_bound { row < block_count words.now }
-        ensures { self.new ≡ with_named self.old (named_at (table_of words.now) row) }
+    // The same, if there is a block.
+    fn name_if(&mut self, block: Option<u32>)
+        requires { AllBelow 1024 (present (block ∷ [])) }
+        ensures { self.new ≡ with_named self.old (present (block ∷ [])) }
     {
-        let named = named_at(words, row);
-        for k in 0..named.cases + named.count {
-            self.name(target(words, row, named, k));
+        if let Some(block) = block {
+            self.name(block);
+        }
+    }
+
+    // The blocks that a row names, in the order of its lines.
+    fn name_row(&mut self, table: Table<'_>, row: u32)
+        requires { row < block_count table.words.now }
+        ensures { self.new ≡ with_named self.old (named_at (table_of table.entry.words.now) row) }
+    {
+        let named = table.named(row);
+        for k in 0..named.cases {
+            self.name(table.case(named.first_case + k).block);
+        }
+        for block in &named.blocks {
+            self.name_if(*block);
         }
     }
 
@@ -83,28 +95,28 @@ impl Queue {
 }
 
 // The block at each place of the queue names others. No `for`: the queue grows while it is walked.
-fn walk(words: &[u32]) -> Queue
-    requires { Promise words.now }
-    ensures { result ≡ walk_from (table_of words.now) (block_count words.now) 0 ((table_of words.now).entry ∷ []) }
+// The queue is lent: a result would be one more copy of it on the stack.
+fn walk(table: Table<'_>, queue: &mut Queue)
+    requires { queue.old ≡ [] }
+    ensures { queue.new ≡ walk_from (table_of table.entry.words.now) (block_count table.entry.words.now) 0 ((table_of table.entry.words.now).entry ∷ []) }
 {
-    let mut queue = Queue::new();
-    queue.name(entry(words));
+    queue.name(table.entry());
     let mut place = 0;
     while let Some(row) = queue.get(place) {
-        queue.name_row(words, row);
+        queue.name_row(table, row);
         place += 1;
     }
-    queue
 }
 
-// The blocks in walking order: those that the walk doesn't find come last, from block 0 on.
-pub fn walking_order(words: &[u32], list: &mut [u32])
-    requires promise { Promise words.now }
-    requires list_len { length list.old ≡ block_count words.now }
-    ensures { list.new ≡ walking_order (table_of words.now) }
+// The blocks in walking order: those that the walk doesn't find come last, from block 0 on. Not inlined, as `write_rearranged`.
+#[inline(never)]
+pub fn walking_order(table: Table<'_>, list: &mut [u32])
+    requires { length list.old ≡ block_count table.words.now }
+    ensures { list.new ≡ walking_order (table_of table.entry.words.now) }
 {
-    let mut queue = walk(words);
-    for block in 0..block_count(words) {
+    let mut queue = Queue::new();
+    walk(table, &mut queue);
+    for block in 0..table.block_count() {
         queue.name(block);
     }
     queue.copy_to(list);

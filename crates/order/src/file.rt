@@ -1,6 +1,5 @@
 // The program treeorder as a function: a file's bytes in, the bytes that are printed of it out.
 ghost use Rattle.std.specs.Prelude.{◌≡◌, [], ◌≤◌, length, Ok};
-ghost use Rattle.table.specs.Promise.{Promise};
 ghost use Rattle.text.specs.Printed.{printed};
 ghost use Rattle.text.specs.Prints.{printing, WrittenText};
 ghost use Rattle.renaming.specs.Order.{rearranged};
@@ -9,9 +8,10 @@ ghost use Rattle.order.specs.Prints.{ordered_text, order_text};
 
 use crate::rearrange_checked;
 use convert::writing::write_table;
-use table::words::block_count;
+use table::Table;
 use table_check::check;
 use text::lent::{FILE_WORDS, zeros};
+use text::placed::Coded;
 use text::read::read;
 use text::write::{NoRoom, write};
 
@@ -22,29 +22,19 @@ fn write_refusal(out: &mut [u8], code: u32, at: u32) -> Result<usize, NoRoom>
     write(out, code, at, 0, 0, &[])
 }
 
-// The text of words that are a table: 11 bytes a word, and the names, are enough.
-fn print_table(words: &[u32], out: &mut [u8]) -> Result<usize, NoRoom>
-    requires promise { Promise words.now }
-    requires words_len_bound { length words.now ≤ 16384 }
-    ensures { WrittenText 180368 (table_text words.now) (length out.old) result out.new }
+// The text of the rearranged table: 11 bytes a word, and the names, are enough. `new_words` and the numbers have exactly the lengths needed.
+fn order_table(table: Table<'_>, new_words: &mut [u32], out: &mut [u8]) -> Result<usize, NoRoom>
+    requires words_len_bound { length table.words.now ≤ 16384 }
+    requires new_words_len { length new_words.old ≡ length table.words.now }
+    ensures { WrittenText 180368 (table_text (rearranged table.entry.words.now)) (length out.old) result out.new }
 {
-    match write_table(words, out) {
+    let mut old_numbers = zeros::<u32, 1024>();
+    let blocks = table.block_count() as usize;
+    rearrange_checked(table, new_words, &mut old_numbers[..blocks]);
+    match write_table(new_words, out) {
         Ok(length) => Ok(length),
         Err(_) => Err(NoRoom),
     }
-}
-
-// The text of the rearranged table; `new_words` and the numbers have exactly the lengths needed.
-fn order_table(words: &[u32], new_words: &mut [u32], out: &mut [u8]) -> Result<usize, NoRoom>
-    requires promise { Promise words.now }
-    requires words_len_bound { length words.now ≤ 16384 }
-    requires new_words_len { length new_words.old ≡ length words.now }
-    ensures { WrittenText 180368 (table_text (rearranged words.now)) (length out.old) result out.new }
-{
-    let mut old_numbers = zeros::<u32, 1024>();
-    let blocks = block_count(words) as usize;
-    rearrange_checked(words, new_words, &mut old_numbers[..blocks]);
-    print_table(new_words, out)
 }
 
 // The words of a file: the rearranged table's text, or why there is none.
@@ -53,10 +43,10 @@ fn order_words(words: &[u32], out: &mut [u8]) -> Result<usize, NoRoom>
     ensures { WrittenText 180368 (ordered_text words.now) (length out.old) result out.new }
 {
     match check(words) {
-        Ok(()) => {
+        Ok(table) => {
             let mut new_words = zeros::<u32, FILE_WORDS>();
             let count = words.len();
-            order_table(words, &mut new_words[..count], out)
+            order_table(table, &mut new_words[..count], out)
         }
         Err(refusal) => write_refusal(out, refusal.code(), refusal.place()),
     }

@@ -9,18 +9,16 @@ mod write;
 ghost use Rattle.std.specs.Prelude.{◌≡◌, length};
 ghost use Rattle.table.specs.Words.{block_count};
 ghost use Rattle.table.specs.Table.{table_of};
-ghost use Rattle.table.specs.Promise.{Promise};
 ghost use Rattle.renaming.specs.Order.{walking_order, rearranged, rearrangement, restoration};
-ghost use Rattle.order.specs.Entry.{code_of, place_of, answer_code, answer_place, rearranging, restoring, rearranged_or_cleared, restored_or_cleared};
+ghost use Rattle.order.specs.Entry.{code_of, place_of, rearranging, restoring, rearranged_or_cleared, restored_or_cleared};
 ghost use Rattle.order.specs.declared.OrderError.TheVariants.{Table};
 
 use crate::block_walk::walking_order;
 use crate::list::{is_permutation, new_numbers};
 use crate::write::write_table;
-use table::Refusal;
-use table::words::block_count;
+use table::{Refusal, Table};
 use table_check::check;
-use text::placed::Coded;
+use text::placed::{Coded, tell_code};
 
 // Why blocks are not moved. `code_of` and `place_of` in specs/Entry.antt have the papers' numbers.
 #[derive(Clone, Copy, Debug, PartialEq, Eq)]
@@ -62,17 +60,27 @@ impl Coded for OrderError {
     }
 }
 
-// Of words that the check accepts, and outputs of the lengths needed.
-fn rearrange_checked(words: &[u32], new_words: &mut [u32], old_numbers: &mut [u32])
-    requires promise { Promise words.now }
-    requires new_words_len { length new_words.old ≡ length words.now }
-    requires old_numbers_len { length old_numbers.old ≡ block_count words.now }
-    ensures new_words_after { new_words.new ≡ rearranged words.now }
-    ensures old_numbers_after { old_numbers.new ≡ walking_order (table_of words.now) }
+// Writes the table with its blocks in the order of this list. Not inlined: the walk's queue and the new numbers need the stack one after the other.
+#[inline(never)]
+fn write_rearranged(table: Table<'_>, old_numbers: &[u32], new_words: &mut [u32])
+    requires walked { old_numbers.now ≡ walking_order (table_of table.words.now) }
+    requires new_words_len { length new_words.old ≡ length table.words.now }
+    ensures { new_words.new ≡ rearranged table.entry.words.now }
 {
-    walking_order(words, old_numbers);
-    let new = new_numbers(old_numbers);
-    write_table(words, &new, old_numbers, new_words);
+    let mut new = [0; 1024];
+    new_numbers(old_numbers, &mut new);
+    write_table(table, &new, old_numbers, new_words);
+}
+
+// Of a checked table, and outputs of the lengths needed.
+fn rearrange_checked(table: Table<'_>, new_words: &mut [u32], old_numbers: &mut [u32])
+    requires new_words_len { length new_words.old ≡ length table.words.now }
+    requires old_numbers_len { length old_numbers.old ≡ block_count table.words.now }
+    ensures new_words_after { new_words.new ≡ rearranged table.entry.words.now }
+    ensures old_numbers_after { old_numbers.new ≡ walking_order (table_of table.entry.words.now) }
+{
+    walking_order(table, old_numbers);
+    write_rearranged(table, old_numbers, new_words);
 }
 
 // An error leaves the outputs to be cleared.
@@ -83,11 +91,11 @@ fn try_rearrange(
 ) -> Result<(), OrderError>
     ensures { rearranged_or_cleared result new_words.new old_numbers.new ≡ rearrangement words.now (length new_words.old) (length old_numbers.old) }
 {
-    check(words)?;
-    if new_words.len() != words.len() || old_numbers.len() != block_count(words) as usize {
+    let table = check(words)?;
+    if new_words.len() != words.len() || old_numbers.len() != table.block_count() as usize {
         return Err(OrderError::WrongLength);
     }
-    rearrange_checked(words, new_words, old_numbers);
+    rearrange_checked(table, new_words, old_numbers);
     Ok(())
 }
 
@@ -114,15 +122,16 @@ fn try_restore(
 ) -> Result<(), OrderError>
     ensures { restored_or_cleared result first_words.new ≡ restoration words.now old_numbers.now (length first_words.old) }
 {
-    check(words)?;
+    let table = check(words)?;
     if first_words.len() != words.len() {
         return Err(OrderError::WrongLength);
     }
-    if !is_permutation(old_numbers, block_count(words)) {
+    if !is_permutation(old_numbers, table.block_count()) {
         return Err(OrderError::NotAPermutation);
     }
-    let new = new_numbers(old_numbers);
-    write_table(words, old_numbers, &new, first_words);
+    let mut new = [0; 1024];
+    new_numbers(old_numbers, &mut new);
+    write_table(table, old_numbers, &new, first_words);
     Ok(())
 }
 
@@ -141,22 +150,6 @@ pub fn restore(
     result
 }
 
-// The code (0 accepted) of an answer, and its place by reference.
-fn tell(answer: Result<(), OrderError>, at: &mut u32) -> u32
-    ensures { (result ≡ answer_code answer) × (at.new ≡ answer_place answer) }
-{
-    match answer {
-        Ok(()) => {
-            *at = 0;
-            0
-        }
-        Err(error) => {
-            *at = error.place();
-            error.code()
-        }
-    }
-}
-
 // The same for callers in C or Rust: the code, and the place by reference.
 pub fn blocks_rearrange(
     words: &[u32],
@@ -166,7 +159,7 @@ pub fn blocks_rearrange(
 ) -> u32
     ensures { record { code = result; at = at.new; table = new_words.new; list = old_numbers.new } ≡ rearrangement words.now (length new_words.old) (length old_numbers.old) }
 {
-    tell(rearrange(words, new_words, old_numbers), at)
+    tell_code(rearrange(words, new_words, old_numbers), at)
 }
 
 pub fn blocks_restore(
@@ -177,5 +170,5 @@ pub fn blocks_restore(
 ) -> u32
     ensures { record { code = result; at = at.new; table = first_words.new } ≡ restoration words.now old_numbers.now (length first_words.old) }
 {
-    tell(restore(words, old_numbers, first_words), at)
+    tell_code(restore(words, old_numbers, first_words), at)
 }

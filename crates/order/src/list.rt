@@ -21,15 +21,13 @@ pub fn is_permutation(list: &[u32], blocks: u32) -> bool
     true
 }
 
-// The place of each block in a permutation: its new number.
-pub fn new_numbers(list: &[u32]) -> [u32; 1024]
+// The place of each block in a permutation: its new number. The array is lent: a result would be one more copy of it on the stack.
+pub fn new_numbers(list: &[u32], new: &mut [u32; 1024])
     requires few { length list.now ≤ 1024 }
     requires permutation { is_permutation (length list.now) list.now ≡ true }
-    ensures { Numbers list.now result }
+    ensures { Numbers list.now new.new }
 {
-    let mut new = [0; 1024];
     for (place, block) in list.iter().enumerate() {
         new[*block as usize] = place as u32;
     }
-    new
 }

@@ -4,32 +4,30 @@ use Prim.Native.Nat.{ℕ, zero, suc, ◌+◌, ◌-◌, ◌<◌, ◌≤◌}
 use native.Mathlib.Omega.{arith}
 use mathlib.Core.List.{List, []}
 use lib.Dec.{eqb}
+use mathlib.Core.Bool.{Bool, true, false, not}
 use Rattle.table.specs.declared.columns.Span.{Span}
-use Rattle.table.specs.Words.{block_count, instruction_count, place_count, identifier_count, operation_code_at, place_word, identifier_word}
-use Rattle.table.specs.Table.{Table, Block, Instruction, table_of, instruction_at, instruction_of, operation_of, instruction_rows_at, instruction_rows, rows_from}
-use Rattle.table.specs.Table.{load_local, store_local}
+use Rattle.table.specs.Words.{block_count, identifier_count, place_word, identifier_word}
+use Rattle.table.specs.Table.{Table, Block, table_of, instruction_at, instruction_rows_at, instruction_rows, rows_from}
+use Rattle.table.specs.Table.{other, load_local, store_local}
 use Rattle.table.specs.Promise.{Promise, Heads, Operates, Instructs}
-use Rattle.table.proofs.TableLaws.{instruction_at_lem, place_at, named_at}
-use Rattle.table.proofs.RangeLaws.{operation_known}
+use Rattle.table.proofs.TableLaws.{place_at, named_at}
 use Rattle.definition.specs.Value.{stored_to_named, same_identifier}
 use Rattle.plain.specs.declared.tail.Tail.{Tail}
 use Rattle.plain.specs.declared.tail.Tail.TheVariants.{Other, Load, Store}
 use Rattle.plain.specs.Tails.{IsTail, EndsIn}
 use Rattle.plain.proofs.TerminalLaws.{beyond_block}
 
-pub place_identifier : {ws : List ℕ} {place identifier : ℕ} → Promise ws → place < place_count ws → identifier ≡ place_word ws place → identifier < identifier_count ws
-place_identifier {place = place} p h e = rw e (p.place place h)
+not_not : (b : Bool) → not (not b) ≡ b
+not_not true = refl
+not_not false = refl
 
 -- ---- of one instruction
 
-pub tail_other : {ws : List ℕ} → Promise ws → (i : ℕ) → i < instruction_count ws → (operation_code_at ws i ≡ 1 → ⊥) → (operation_code_at ws i ≡ 2 → ⊥)
-    → IsTail (table_of ws) (instruction_at (table_of ws) i) Other
-unfolding instruction_of operation_of stored_to_named same_identifier
-tail_other {ws} p i h f g =
-    let e : operation_code_at ws i ≡ 0 = omega (arith, operation_known ws p i h, f, g) in
-    subst (λ (k : Instruction). IsTail (table_of ws) k Other) (sym (instruction_at_lem ws i h)) (rw e (record { store = refl; unnamed = refl; own = refl }))
-
 module _ {ws : List ℕ} {i : ℕ} where
+  pub tail_other : Operates ws i other → IsTail (table_of ws) (instruction_at (table_of ws) i) Other
+  unfolding stored_to_named same_identifier
+  tail_other o = record { store = rw o.is refl; unnamed = rw o.is refl; own = rw o.is refl }
+
   pub tail_load : {id lvalue place loaded own : ℕ} {span : Span} → Instructs ws i id lvalue span → Operates ws i (load_local place) → loaded ≡ place_word ws place
       → own ≡ place_word ws lvalue → IsTail (table_of ws) (instruction_at (table_of ws) i) (Load (eqb loaded own))
   unfolding stored_to_named same_identifier
@@ -39,14 +37,14 @@ module _ {ws : List ℕ} {i : ℕ} where
     own = rw (o.is, head.is_lvalue, place_at ws place 0 o.named, place_at ws lvalue 0 head.there, e, f) refl;
   }
 
-  pub tail_store : {to value identifier name : ℕ} → Promise ws → Operates ws i (store_local to value) → identifier ≡ place_word ws to → name ≡ identifier_word ws identifier
-      → IsTail (table_of ws) (instruction_at (table_of ws) i) (Store (eqb name 0))
+  pub tail_store : {to value identifier : ℕ} {named : Bool} → Promise ws → Operates ws i (store_local to value) → identifier ≡ place_word ws to
+      → named ≡ not (eqb (identifier_word ws identifier) 0) → IsTail (table_of ws) (instruction_at (table_of ws) i) (Store (not named))
   unfolding stored_to_named same_identifier
   tail_store {to} p o e n =
       let known : place_word ws to < identifier_count ws = p.place to o.named.0 in
       record {
         store = rw o.is refl;
-        unnamed = rw (o.is, place_at ws to 0 o.named.0, named_at ws (place_word ws to) 0 known, n, e) refl;
+        unnamed = rw (o.is, place_at ws to 0 o.named.0, named_at ws (place_word ws to) 0 known, n, e) (not_not _);
         own = rw o.is refl;
       }
 

@@ -1,5 +1,5 @@
 pub mod Loops
 pub mod Tails
-pub mod Cases
+pub mod Asked
 pub mod Laws
 pub mod Plainness

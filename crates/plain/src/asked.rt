@@ -1,67 +1,36 @@
-// What the conditions ask of every block.
-ghost use Rattle.std.specs.Prelude.{◌≡◌, not};
-ghost use Rattle.table.specs.Table.{table_of, terminal_at};
-ghost use Rattle.table.specs.Promise.{Promise};
-ghost use Rattle.definition.specs.Value.{is_fallthrough};
-ghost use Rattle.definition.specs.Plain.{fallthrough_of};
-ghost use Rattle.definition.specs.PlainLoops.{loop_of};
-ghost use Rattle.definition.specs.PlainTest.{every_of, some_of, shape_of, is_while, not_of_loop, not_named, not_in_loop, only_of};
+// What the conditions ask of every block, and of some block.
+ghost use Rattle.std.specs.Prelude.{◌≡◌, ℕ, Bool};
+ghost use Rattle.table.specs.Table as paper;
+ghost use Rattle.table.specs.Table.{table_of};
+ghost use Rattle.definition.specs.PlainTest.{every_of, some_of, only_of, shape_of, is_while};
+ghost use Rattle.plain.specs.Asked.{Answers};
 
-use crate::facts::{falls_to, goes_to, is_while, not_in_loop, not_of_loop};
-use table::words::block_count;
+use crate::facts::{falls_to, is_while, terminal_or_absent};
+use table::Table;
+use table::terminals::Terminal;
+
+// Whether a test holds of every block: of its number and its terminal. `Answers` says which test of the definition's it is.
+pub fn every_block<F: Fn(u32, Terminal) -> bool>(table: Table<'_>, test: F) -> bool
+    requires { F.IsAlwaysCallable test }
+    ensures { (p : ℕ → paper.Terminal → Bool) → Answers (F.post test) (table_of table.entry.words.now) p → result ≡ every_of (table_of table.entry.words.now).blocks p }
+{
+    (0..table.block_count()).all(|block| test(block, terminal_or_absent(table, block)))
+}
 
 // The block's fallthrough is no other block's.
-pub fn only_of(words: &[u32], block: u32, fallthrough: u32) -> bool
-    requires { Promise words.now }
-    ensures { result ≡ only_of (table_of words.now) block fallthrough }
+pub fn only_of(table: Table<'_>, block: u32, fallthrough: u32) -> bool
+    ensures { result ≡ only_of (table_of table.entry.words.now) block fallthrough }
 {
-    (0..block_count(words)).all(|other| block == other || !falls_to(words, other, fallthrough))
+    every_block(table, |other, end| {
+        block == other || !falls_to(end, fallthrough)
+    })
 }
 
-pub fn no_fallthrough(words: &[u32], named: u32) -> bool
-    requires { Promise words.now }
-    ensures { result ≡ every_of (table_of words.now).blocks (λ w m. not (is_fallthrough (fallthrough_of m) named)) }
+pub fn some_while(table: Table<'_>, test: u32, body: u32, fallthrough: u32) -> bool
+    ensures { result ≡ some_of (table_of table.entry.words.now).blocks (λ w m. is_while test body fallthrough (shape_of m)) }
 {
-    (0..block_count(words)).all(|other| !falls_to(words, other, named))
-}
-
-// The block is no While's loop block or test.
-pub fn of_no_while(words: &[u32], named: u32) -> bool
-    requires { Promise words.now }
-    ensures { result ≡ every_of (table_of words.now).blocks (λ w m. not_of_loop named (shape_of m)) }
-{
-    (0..block_count(words)).all(|other| not_of_loop(words, other, named))
-}
-
-// The block is no loop's loop block, and continues none.
-pub fn in_no_loop(words: &[u32], named: u32) -> bool
-    requires { Promise words.now }
-    ensures { result ≡ every_of (table_of words.now).blocks (λ w m. not_in_loop named (loop_of m)) }
-{
-    (0..block_count(words)).all(|other| not_in_loop(words, other, named))
-}
-
-// The block is no fallthrough, no While's loop block or test, and no Goto's block.
-fn not_named(words: &[u32], block: u32, named: u32) -> bool
-    requires { Promise words.now }
-    ensures { result ≡ not_named named (terminal_at (table_of words.now) block) }
-{
-    !falls_to(words, block, named)
-        && not_of_loop(words, block, named)
-        && !goes_to(words, block, named)
-}
-
-// Nothing but a Switch names the block.
-pub fn named_by_none(words: &[u32], named: u32) -> bool
-    requires { Promise words.now }
-    ensures { result ≡ every_of (table_of words.now).blocks (λ w m. not_named named m) }
-{
-    (0..block_count(words)).all(|other| not_named(words, other, named))
-}
-
-pub fn some_while(words: &[u32], test: u32, body: u32, fallthrough: u32) -> bool
-    requires { Promise words.now }
-    ensures { result ≡ some_of (table_of words.now).blocks (λ w m. is_while test body fallthrough (shape_of m)) }
-{
-    (0..block_count(words)).any(|other| is_while(words, other, test, body, fallthrough))
+    (0..table.block_count()).any(|block| {
+        let end = terminal_or_absent(table, block);
+        is_while(end, test, body, fallthrough)
+    })
 }

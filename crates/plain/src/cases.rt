@@ -1,100 +1,113 @@
-// What the conditions ask of a Switch's cases: `number` rows from `first` on.
-ghost use Rattle.std.specs.Prelude.{◌≡◌, ◌+◌, ◌≤◌};
+// What the conditions ask of a Switch's cases.
+ghost use Rattle.std.specs.Prelude.{◌≡◌, ℕ, ◌+◌, ◌≤◌, Bool};
 ghost use Rattle.table.specs.Words.{case_count};
-ghost use Rattle.table.specs.Table.{table_of};
-ghost use Rattle.table.specs.Promise.{Promise};
+ghost use Rattle.table.specs.Table.{table_of, switch};
+ghost use Rattle.table.specs.Promise.{Ends};
 ghost use Rattle.definition.specs.BlockRun.{case_list};
 ghost use Rattle.definition.specs.Completion.{contains};
 ghost use Rattle.definition.specs.Statement.{cases_last_first};
 ghost use Rattle.definition.specs.Plain.{blocks_of, different};
 ghost use Rattle.definition.specs.PlainLoops.{drop_own};
-ghost use Rattle.definition.specs.PlainTest.{all_of, last_is_own, proper_test};
-ghost use Rattle.plain.specs.Cases.{case_test};
+ghost use Rattle.definition.specs.PlainTest.{all_of, last_is_own};
+ghost use Rattle.plain.specs.Asked.{AnswersCase};
 
-use crate::asked::{named_by_none, no_fallthrough};
-use crate::facts::{no_branch, reached};
-use table::columns::case_at;
+use table::Table;
+use table::terminals::Switch;
 
-// A case block that is not the Switch's own fallthrough: no Branch, reached, no fallthrough.
-fn proper_test(words: &[u32], block: u32) -> bool
-    requires { Promise words.now }
-    ensures { result ≡ proper_test (table_of words.now) block }
-{
-    no_branch(words, block) && reached(words, block) && no_fallthrough(words, block)
+// Rows of the table: `number` from `first` on.
+#[derive(Clone, Copy)]
+pub struct Cases<'a> {
+    pub table: Table<'a>,
+    pub first: u32,
+    pub number: u32,
+    pub ghost there: { first + number ≤ case_count table.words.now },
 }
 
-// Beyond the papers, or as M-113 has it: nothing else names a case block.
-fn case_test(words: &[u32], proper: bool, block: u32) -> bool
-    requires { Promise words.now }
-    ensures { result ≡ case_test (table_of words.now) proper block }
-{
-    if proper {
-        proper_test(words, block)
-    } else {
-        named_by_none(words, block)
+impl<'a> Cases<'a> {
+    fn have(self, block: u32) -> bool
+        ensures { result ≡ contains (blocks_of (case_list (table_of self.entry.table.words.now) self.entry.first self.entry.number)) block }
+    {
+        for row in self.first..self.first + self.number {
+            if self.table.case(row).block == block {
+                return true;
+            }
+        }
+        false
     }
-}
 
-fn has_case(words: &[u32], first: u32, number: u32, block: u32) -> bool
-    requires promise { Promise words.now }
-    requires number_bound { first + number ≤ case_count words.now }
-    ensures { result ≡ contains (blocks_of (case_list (table_of words.now) first number)) block }
-{
-    for row in first..first + number {
-        if case_at(words, row).block == block {
-            return true;
+    pub fn differ(self) -> bool
+        ensures { result ≡ different (blocks_of (case_list (table_of self.entry.table.words.now) self.entry.first self.entry.number)) }
+    {
+        let end = self.first + self.number;
+        for row in self.first..end {
+            let next = row + 1;
+            let rest = Cases {
+                table: self.table,
+                first: next,
+                number: end - next,
+            };
+            if rest.have(self.table.case(row).block) {
+                return false;
+            }
+        }
+        true
+    }
+
+    // Whether a test holds of every case's block.
+    pub fn all<F: Fn(u32) -> bool>(self, test: F) -> bool
+        requires { F.IsAlwaysCallable test }
+        ensures { (p : ℕ → Bool) → AnswersCase (F.post test) p → result ≡ all_of (blocks_of (case_list (table_of self.entry.table.words.now) self.entry.first self.entry.number)) p }
+    {
+        for row in self.first..self.first + self.number {
+            if !test(self.table.case(row).block) {
+                return false;
+            }
+        }
+        true
+    }
+
+    // Whether the last is the Switch's own fallthrough.
+    pub fn last_is(self, fallthrough: u32) -> bool
+        ensures { result ≡ last_is_own fallthrough (cases_last_first (table_of self.entry.table.words.now) self.entry.first self.entry.number) }
+    {
+        self.number > 0 && self.table.case(self.first + (self.number - 1)).block == fallthrough
+    }
+
+    // How many are left without those at the end that are the Switch's own fallthrough.
+    fn proper_count(self, fallthrough: u32) -> u32
+        ensures upper_bound { result ≤ self.entry.number }
+        ensures number_value { drop_own fallthrough (cases_last_first (table_of self.entry.table.words.now) self.entry.first self.entry.number) ≡ cases_last_first (table_of self.entry.table.words.now) self.entry.first result }
+    {
+        // No `for`, and no `take_while` from the end: what is counted down is the answer, and a chain would count the others and subtract.
+        let mut left = self.number;
+        while left > 0 && self.table.case(self.first + (left - 1)).block == fallthrough {
+            left -= 1;
+        }
+        left
+    }
+
+    // Those that are left.
+    pub fn proper(self, fallthrough: u32) -> Cases<'a>
+        ensures same { (result.table.words.now ≡ self.entry.table.words.now) × (result.first ≡ self.entry.first) }
+        ensures number_value { drop_own fallthrough (cases_last_first (table_of self.entry.table.words.now) self.entry.first self.entry.number) ≡ cases_last_first (table_of self.entry.table.words.now) self.entry.first result.number }
+    {
+        Cases {
+            table: self.table,
+            first: self.first,
+            number: self.proper_count(fallthrough),
         }
     }
-    false
 }
 
-pub fn different_cases(words: &[u32], first: u32, number: u32) -> bool
-    requires promise { Promise words.now }
-    requires number_bound { first + number ≤ case_count words.now }
-    ensures { result ≡ different (blocks_of (case_list (table_of words.now) first number)) }
+// A Switch's.
+// (Five functions ask for the block's `Ends`: a struct of table, block and terminal would be built at each block and taken apart in each test.)
+pub fn cases_of(table: Table<'_>, block: u32, end: Switch) -> Cases<'_>
+    requires { Ends table.words.now block (switch end.test end.first end.number end.fallthrough) }
+    ensures { (result.table.words.now ≡ table.entry.words.now) × (result.first ≡ end.first) × (result.number ≡ end.number) }
 {
-    let end = first + number;
-    for row in first..end {
-        let next = row + 1;
-        if has_case(words, next, end - next, case_at(words, row).block) {
-            return false;
-        }
+    Cases {
+        table,
+        first: end.first,
+        number: end.number,
     }
-    true
-}
-
-pub fn every_case(words: &[u32], first: u32, number: u32, proper: bool) -> bool
-    requires promise { Promise words.now }
-    requires number_bound { first + number ≤ case_count words.now }
-    ensures { result ≡ all_of (blocks_of (case_list (table_of words.now) first number)) (case_test (table_of words.now) proper) }
-{
-    for row in first..first + number {
-        if !case_test(words, proper, case_at(words, row).block) {
-            return false;
-        }
-    }
-    true
-}
-
-pub fn last_is_own(words: &[u32], first: u32, number: u32, fallthrough: u32) -> bool
-    requires promise { Promise words.now }
-    requires number_bound { first + number ≤ case_count words.now }
-    ensures { result ≡ last_is_own fallthrough (cases_last_first (table_of words.now) first number) }
-{
-    number > 0 && case_at(words, first + (number - 1)).block == fallthrough
-}
-
-// The number of cases without those at the end that are the Switch's own fallthrough.
-pub fn proper_count(words: &[u32], first: u32, number: u32, fallthrough: u32) -> u32
-    requires promise { Promise words.now }
-    requires number_bound { first + number ≤ case_count words.now }
-    ensures upper_bound { result ≤ number }
-    ensures number_value { drop_own fallthrough (cases_last_first (table_of words.now) first number) ≡ cases_last_first (table_of words.now) first result }
-{
-    // No `for`: what is counted down is the answer.
-    let mut left = number;
-    while left > 0 && case_at(words, first + (left - 1)).block == fallthrough {
-        left -= 1;
-    }
-    left
 }

@@ -1,53 +1,60 @@
-// What the conditions ask of a block's terminal, each by the definition's own word for it. A block beyond the table is absent.
+// What the conditions ask of a terminal, each by the definition's own word for it.
 ghost use Rattle.std.specs.Prelude.{◌≡◌, not};
 ghost use Rattle.table.specs.Table.{table_of, terminal_at, is_unreachable};
 ghost use Rattle.table.specs.Columns.{maybe_of};
-ghost use Rattle.table.specs.Promise.{Promise};
+ghost use Rattle.table.specs.Ending.{ending};
+ghost use Rattle.table.specs.Promise.{Ends};
 ghost use Rattle.definition.specs.Value.{is_fallthrough};
 ghost use Rattle.definition.specs.Plain.{fallthrough_of, is_branch, other_names};
 ghost use Rattle.definition.specs.PlainLoops.{loop_of, entered_by, may_be_open};
-ghost use Rattle.definition.specs.PlainTest.{shape_of, is_while, is_branch_to, not_of_loop, goto_block, not_in_loop, no_branches, all_reached};
+ghost use Rattle.definition.specs.PlainTest.{shape_of, is_while, is_branch_to, not_of_loop, goto_block, not_in_loop, not_named, no_branches, all_reached};
 ghost use Rattle.plain.specs.Loops.{maybe_loop};
 
-use table::columns::code_at;
-use table::terminals::{
-    branch_at, do_while_at, for_at, for_in_at, for_of_at, goto_at, if_at, label_at, logical_at,
-    optional_at, scope_at, sequence_at, switch_at, ternary_at, try_at, while_at,
-};
-use table::words::block_count;
+use table::Table;
+use table::terminals::Terminal;
 
-#[tactic(auto, using(crate::proofs::TerminalLaws::beyond_absent, crate::proofs::TerminalLaws::no_fallthrough_at))]
-pub fn fallthrough_at(words: &[u32], block: u32) -> Option<u32>
-    requires { Promise words.now }
-    ensures { maybe_of result ≡ fallthrough_of (terminal_at (table_of words.now) block) }
+// The block's terminal. A block beyond the table is absent. The hints here and below halve the time of `table_plain`, which asks each block of each block: what
+// a test does not ask for is not read.
+#[tactic(auto, using(crate::proofs::TerminalLaws::beyond_ends))]
+#[inline(always)]
+pub fn terminal_or_absent(table: Table<'_>, block: u32) -> Terminal
+    ensures { Ends table.entry.words.now block (ending result) }
 {
-    if block >= block_count(words) {
-        return None;
+    if block < table.block_count() {
+        table.terminal(block)
+    } else {
+        Terminal::Absent
     }
-    match code_at(words, block) {
-        5 => Some(if_at(words, block).fallthrough),
-        7 => Some(switch_at(words, block).fallthrough),
-        8 => Some(do_while_at(words, block).fallthrough),
-        9 => Some(while_at(words, block).fallthrough),
-        10 => Some(for_at(words, block).fallthrough),
-        11 => Some(for_of_at(words, block).fallthrough),
-        12 => Some(for_in_at(words, block).fallthrough),
-        13 => Some(logical_at(words, block).fallthrough),
-        14 => Some(ternary_at(words, block).fallthrough),
-        15 => Some(optional_at(words, block).fallthrough),
-        16 => Some(label_at(words, block).fallthrough),
-        17 => Some(sequence_at(words, block).fallthrough),
-        19 => Some(try_at(words, block).fallthrough),
-        20 | 21 => Some(scope_at(words, block).fallthrough),
+}
+
+#[inline]
+pub fn fallthrough_of(end: Terminal) -> Option<u32>
+    ensures { maybe_of result ≡ fallthrough_of (ending end) }
+{
+    match end {
+        Terminal::If(end) => Some(end.fallthrough),
+        Terminal::Switch(end) => Some(end.fallthrough),
+        Terminal::DoWhile(end) => Some(end.fallthrough),
+        Terminal::While(end) => Some(end.fallthrough),
+        Terminal::For(end) => Some(end.fallthrough),
+        Terminal::ForOf(end) => Some(end.fallthrough),
+        Terminal::ForIn(end) => Some(end.fallthrough),
+        Terminal::Logical(end) => Some(end.fallthrough),
+        Terminal::Ternary(end) => Some(end.fallthrough),
+        Terminal::Optional(end) => Some(end.fallthrough),
+        Terminal::Label(end) => Some(end.fallthrough),
+        Terminal::Sequence(end) => Some(end.fallthrough),
+        Terminal::Try(end) => Some(end.fallthrough),
+        Terminal::Scope(end) | Terminal::PrunedScope(end) => Some(end.fallthrough),
         _ => None,
     }
 }
 
-pub fn falls_to(words: &[u32], block: u32, fallthrough: u32) -> bool
-    requires { Promise words.now }
-    ensures { result ≡ is_fallthrough (fallthrough_of (terminal_at (table_of words.now) block)) fallthrough }
+#[inline]
+pub fn falls_to(end: Terminal, fallthrough: u32) -> bool
+    ensures { result ≡ is_fallthrough (fallthrough_of (ending end)) fallthrough }
 {
-    fallthrough_at(words, block) == Some(fallthrough)
+    fallthrough_of(end) == Some(fallthrough)
 }
 
 // A loop's test, loop block and fallthrough, and the block that continues it: a For's update, if any, else its test.
@@ -59,191 +66,151 @@ pub struct Loop {
     pub again: u32,
 }
 
-#[tactic(auto, using(crate::proofs::TerminalLaws::beyond_absent, crate::proofs::TerminalLaws::no_loop_at))]
-pub fn loop_at(words: &[u32], block: u32) -> Option<Loop>
-    requires { Promise words.now }
-    ensures { maybe_loop result ≡ loop_of (terminal_at (table_of words.now) block) }
+pub fn loop_of(end: Terminal) -> Option<Loop>
+    ensures { maybe_loop result ≡ loop_of (ending end) }
 {
-    if block >= block_count(words) {
-        return None;
-    }
-    match code_at(words, block) {
-        8 => {
-            let end = do_while_at(words, block);
-            Some(Loop {
-                test: end.test,
-                body: end.loop_block,
-                fallthrough: end.fallthrough,
-                again: end.test,
-            })
-        }
-        9 => {
-            let end = while_at(words, block);
-            Some(Loop {
-                test: end.test,
-                body: end.loop_block,
-                fallthrough: end.fallthrough,
-                again: end.test,
-            })
-        }
-        10 => {
-            let end = for_at(words, block);
-            Some(Loop {
-                test: end.test,
-                body: end.loop_block,
-                fallthrough: end.fallthrough,
-                again: end.update.unwrap_or(end.test),
-            })
-        }
+    match end {
+        Terminal::DoWhile(end) => Some(Loop {
+            test: end.test,
+            body: end.loop_block,
+            fallthrough: end.fallthrough,
+            again: end.test,
+        }),
+        Terminal::While(end) => Some(Loop {
+            test: end.test,
+            body: end.loop_block,
+            fallthrough: end.fallthrough,
+            again: end.test,
+        }),
+        Terminal::For(end) => Some(Loop {
+            test: end.test,
+            body: end.loop_block,
+            fallthrough: end.fallthrough,
+            again: end.update.unwrap_or(end.test),
+        }),
         _ => None,
     }
 }
 
 // The block is no loop's loop block, and continues none.
-pub fn not_in_loop(words: &[u32], block: u32, named: u32) -> bool
-    requires { Promise words.now }
-    ensures { result ≡ not_in_loop named (loop_of (terminal_at (table_of words.now) block)) }
+pub fn not_in_loop(end: Terminal, named: u32) -> bool
+    ensures { result ≡ not_in_loop named (loop_of (ending end)) }
 {
-    match loop_at(words, block) {
+    match loop_of(end) {
         Some(end) => named != end.body && named != end.again,
         None => true,
     }
 }
 
-#[tactic(auto, using(crate::proofs::TerminalLaws::beyond_absent, crate::proofs::TerminalLaws::no_while_at))]
-pub fn is_while(words: &[u32], block: u32, test: u32, body: u32, fallthrough: u32) -> bool
-    requires { Promise words.now }
-    ensures { result ≡ is_while test body fallthrough (shape_of (terminal_at (table_of words.now) block)) }
+pub fn is_while(end: Terminal, test: u32, body: u32, fallthrough: u32) -> bool
+    ensures { result ≡ is_while test body fallthrough (shape_of (ending end)) }
 {
-    if block >= block_count(words) || code_at(words, block) != 9 {
-        return false;
+    match end {
+        Terminal::While(end) => {
+            end.test == test && end.loop_block == body && end.fallthrough == fallthrough
+        }
+        _ => false,
     }
-    let end = while_at(words, block);
-    end.test == test && end.loop_block == body && end.fallthrough == fallthrough
 }
 
 // The block is no While's loop block or test.
-#[tactic(auto, using(crate::proofs::TerminalLaws::beyond_absent, crate::proofs::TerminalLaws::not_while_at))]
-pub fn not_of_loop(words: &[u32], block: u32, named: u32) -> bool
-    requires { Promise words.now }
-    ensures { result ≡ not_of_loop named (shape_of (terminal_at (table_of words.now) block)) }
+#[inline]
+pub fn not_of_loop(end: Terminal, named: u32) -> bool
+    ensures { result ≡ not_of_loop named (shape_of (ending end)) }
 {
-    if block >= block_count(words) || code_at(words, block) != 9 {
-        return true;
+    match end {
+        Terminal::While(end) => named != end.loop_block && named != end.test,
+        _ => true,
     }
-    let end = while_at(words, block);
-    named != end.loop_block && named != end.test
 }
 
-#[tactic(auto, using(crate::proofs::TerminalLaws::beyond_absent, crate::proofs::TerminalLaws::no_goto_at))]
-pub fn goes_to(words: &[u32], block: u32, target: u32) -> bool
-    requires { Promise words.now }
-    ensures { result ≡ is_fallthrough (goto_block (terminal_at (table_of words.now) block)) target }
+pub fn goes_to(end: Terminal, target: u32) -> bool
+    ensures { result ≡ is_fallthrough (goto_block (ending end)) target }
 {
-    if block >= block_count(words) || code_at(words, block) != 4 {
-        return false;
+    match end {
+        Terminal::Goto(end) => end.block == target,
+        _ => false,
     }
-    goto_at(words, block).block == target
 }
 
-#[tactic(auto, using(crate::proofs::TerminalLaws::beyond_absent, crate::proofs::TerminalLaws::no_branch_at))]
-pub fn is_branch_to(words: &[u32], block: u32, consequent: u32, alternate: u32) -> bool
-    requires { Promise words.now }
-    ensures { result ≡ is_branch_to consequent alternate (shape_of (terminal_at (table_of words.now) block)) }
+// The block is no fallthrough, no While's loop block or test, and no Goto's block.
+pub fn not_named(end: Terminal, named: u32) -> bool
+    ensures { result ≡ not_named named (ending end) }
 {
-    if block >= block_count(words) || code_at(words, block) != 6 {
-        return false;
+    !falls_to(end, named) && not_of_loop(end, named) && !goes_to(end, named)
+}
+
+pub fn is_branch_to(end: Terminal, consequent: u32, alternate: u32) -> bool
+    ensures { result ≡ is_branch_to consequent alternate (shape_of (ending end)) }
+{
+    match end {
+        Terminal::Branch(end) => end.consequent == consequent && end.alternate == alternate,
+        _ => false,
     }
-    let end = branch_at(words, block);
-    end.consequent == consequent && end.alternate == alternate
-}
-
-#[tactic(auto, using(crate::proofs::TerminalLaws::beyond_absent, crate::proofs::TerminalLaws::code_here))]
-pub fn no_branch(words: &[u32], block: u32) -> bool
-    requires { Promise words.now }
-    ensures { result ≡ not (is_branch (terminal_at (table_of words.now) block)) }
-{
-    block >= block_count(words) || code_at(words, block) != 6
-}
-
-#[tactic(auto, using(crate::proofs::TerminalLaws::beyond_absent, crate::proofs::TerminalLaws::code_here))]
-pub fn reached(words: &[u32], block: u32) -> bool
-    requires { Promise words.now }
-    ensures { result ≡ not (is_unreachable (terminal_at (table_of words.now) block)) }
-{
-    block >= block_count(words) || code_at(words, block) != 1
 }
 
 // An If, a Switch, a Label or a scope.
-#[tactic(auto, using(crate::proofs::TerminalLaws::beyond_absent, crate::proofs::TerminalLaws::open_here))]
-pub fn may_be_open(words: &[u32], block: u32) -> bool
-    requires { Promise words.now }
-    ensures { result ≡ may_be_open (terminal_at (table_of words.now) block) }
+pub fn may_be_open(end: Terminal) -> bool
+    ensures { result ≡ may_be_open (ending end) }
 {
-    block < block_count(words) && matches!(code_at(words, block), 5 | 7 | 16 | 20 | 21)
+    matches!(
+        end,
+        Terminal::If(_)
+            | Terminal::Switch(_)
+            | Terminal::Label(_)
+            | Terminal::Scope(_)
+            | Terminal::PrunedScope(_)
+    )
+}
+
+pub fn no_branch(table: Table<'_>, block: u32) -> bool
+    ensures { result ≡ not (is_branch (terminal_at (table_of table.entry.words.now) block)) }
+{
+    !matches!(terminal_or_absent(table, block), Terminal::Branch(_))
+}
+
+pub fn reached(table: Table<'_>, block: u32) -> bool
+    ensures { result ≡ not (is_unreachable (terminal_at (table_of table.entry.words.now) block)) }
+{
+    !matches!(terminal_or_absent(table, block), Terminal::Unreachable)
 }
 
 // No Branch among the blocks that a terminal names.
-#[tactic(auto, using(crate::proofs::TerminalLaws::beyond_absent, crate::proofs::TerminalLaws::no_other_name_at))]
-pub fn no_branches(words: &[u32], block: u32) -> bool
-    requires { Promise words.now }
-    ensures { result ≡ no_branches (table_of words.now) (other_names (terminal_at (table_of words.now) block)) }
+pub fn no_branches(table: Table<'_>, end: Terminal) -> bool
+    ensures { result ≡ no_branches (table_of table.entry.words.now) (other_names (ending end)) }
 {
-    if block >= block_count(words) {
-        return true;
-    }
-    match code_at(words, block) {
-        5 => {
-            let end = if_at(words, block);
-            no_branch(words, end.consequent)
-                && no_branch(words, end.alternate)
-                && no_branch(words, end.fallthrough)
+    match end {
+        Terminal::If(end) => {
+            no_branch(table, end.consequent)
+                && no_branch(table, end.alternate)
+                && no_branch(table, end.fallthrough)
         }
-        6 => {
-            let end = branch_at(words, block);
-            no_branch(words, end.consequent) && no_branch(words, end.alternate)
-        }
-        7 => no_branch(words, switch_at(words, block).fallthrough),
-        9 => {
-            let end = while_at(words, block);
-            no_branch(words, end.loop_block) && no_branch(words, end.fallthrough)
-        }
-        16 => {
-            let end = label_at(words, block);
-            no_branch(words, end.block) && no_branch(words, end.fallthrough)
-        }
-        20 | 21 => {
-            let end = scope_at(words, block);
-            no_branch(words, end.block) && no_branch(words, end.fallthrough)
+        Terminal::Branch(end) => no_branch(table, end.consequent)
+            && no_branch(table, end.alternate),
+        Terminal::Switch(end) => no_branch(table, end.fallthrough),
+        Terminal::While(end) => no_branch(table, end.loop_block)
+            && no_branch(table, end.fallthrough),
+        Terminal::Label(end) => no_branch(table, end.block) && no_branch(table, end.fallthrough),
+        Terminal::Scope(end) | Terminal::PrunedScope(end) => {
+            no_branch(table, end.block) && no_branch(table, end.fallthrough)
         }
         _ => true,
     }
 }
 
 // The blocks that a terminal enters are reached.
-#[tactic(auto, using(crate::proofs::TerminalLaws::beyond_absent, crate::proofs::TerminalLaws::no_entered_at))]
-pub fn all_reached(words: &[u32], block: u32) -> bool
-    requires { Promise words.now }
-    ensures { result ≡ all_reached (table_of words.now) (entered_by (terminal_at (table_of words.now) block)) }
+pub fn all_reached(table: Table<'_>, end: Terminal) -> bool
+    ensures { result ≡ all_reached (table_of table.entry.words.now) (entered_by (ending end)) }
 {
-    if block >= block_count(words) {
-        return true;
-    }
-    match code_at(words, block) {
-        4 => reached(words, goto_at(words, block).block),
-        5 => {
-            let end = if_at(words, block);
-            reached(words, end.consequent) && reached(words, end.alternate)
-        }
-        6 => {
-            let end = branch_at(words, block);
-            reached(words, end.consequent) && reached(words, end.alternate)
-        }
-        8 => reached(words, do_while_at(words, block).loop_block),
-        9 => reached(words, while_at(words, block).loop_block),
-        10 => reached(words, for_at(words, block).loop_block),
-        16 => reached(words, label_at(words, block).block),
-        20 | 21 => reached(words, scope_at(words, block).block),
+    match end {
+        Terminal::Goto(end) => reached(table, end.block),
+        Terminal::If(end) => reached(table, end.consequent) && reached(table, end.alternate),
+        Terminal::Branch(end) => reached(table, end.consequent) && reached(table, end.alternate),
+        Terminal::DoWhile(end) => reached(table, end.loop_block),
+        Terminal::While(end) => reached(table, end.loop_block),
+        Terminal::For(end) => reached(table, end.loop_block),
+        Terminal::Label(end) => reached(table, end.block),
+        Terminal::Scope(end) | Terminal::PrunedScope(end) => reached(table, end.block),
         _ => true,
     }
 }

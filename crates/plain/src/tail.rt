@@ -2,14 +2,13 @@
 ghost use Rattle.std.specs.Prelude.{◌≡◌, ◌<◌};
 ghost use Rattle.table.specs.Words.{instruction_count};
 ghost use Rattle.table.specs.Table.{table_of, instruction_at, instruction_rows_at};
-ghost use Rattle.table.specs.Promise.{Promise};
 ghost use Rattle.plain.specs.Tails.{IsTail, EndsIn, stores, stores_unnamed, loads_own};
 
-use table::columns::{block_at, instruction_at, load_local_at, operation_code_at, store_local_at};
-use table::words::{block_count, identifier_word, place_word};
+use table::Table;
+use table::columns::Operation;
 
 // A LoadLocal is its own where it loads its own lvalue's identifier; a StoreLocal is unnamed where it stores to an unnamed identifier.
-#[derive(Clone, Copy, Drop)]
+#[derive(Clone, Copy)]
 pub enum Tail {
     Other,
     Load { own: bool },
@@ -36,40 +35,36 @@ impl Tail {
     }
 }
 
-fn tail_of(words: &[u32], row: u32) -> Tail
-    requires promise { Promise words.now }
-    requires row_bound { row < instruction_count words.now }
-    ensures { IsTail (table_of words.now) (instruction_at (table_of words.now) row) result }
+fn tail_of(table: Table<'_>, row: u32) -> Tail
+    requires { row < instruction_count table.words.now }
+    ensures { IsTail (table_of table.entry.words.now) (instruction_at (table_of table.entry.words.now) row) result }
 {
-    match operation_code_at(words, row) {
-        1 => {
-            let head = instruction_at(words, row);
-            let load = load_local_at(words, row);
+    match table.operation(row) {
+        Operation::Other => Tail::Other,
+        Operation::LoadLocal { place } => {
+            let head = table.instruction(row);
             Tail::Load {
-                own: place_word(words, load.place) == place_word(words, head.lvalue),
+                own: table.identifier(place) == table.identifier(head.lvalue),
             }
         }
-        2 => {
-            let store = store_local_at(words, row);
-            let identifier = place_word(words, store.stored_to);
+        Operation::StoreLocal { stored_to, .. } => {
+            let identifier = table.identifier(stored_to);
             Tail::Store {
-                unnamed: identifier_word(words, identifier) == 0,
+                unnamed: !table.is_named(identifier),
             }
         }
-        _ => Tail::Other,
     }
 }
 
-pub fn tail_at(words: &[u32], block: u32) -> Tail
-    requires { Promise words.now }
-    ensures { EndsIn (table_of words.now) (instruction_rows_at (table_of words.now) block) result }
+pub fn tail_at(table: Table<'_>, block: u32) -> Tail
+    ensures { EndsIn (table_of table.entry.words.now) (instruction_rows_at (table_of table.entry.words.now) block) result }
 {
-    if block >= block_count(words) {
+    if block >= table.block_count() {
         return Tail::Other;
     }
-    let head = block_at(words, block);
+    let head = table.block(block);
     if head.count == 0 {
         return Tail::Other;
     }
-    tail_of(words, head.first + head.count - 1)
+    tail_of(table, head.first + head.count - 1)
 }

@@ -1,97 +1,124 @@
 // Paper 01's conditions and M-113's, block by block: one function for each definition of definition/specs/PlainTest.
-ghost use Rattle.std.specs.Prelude.{◌≡◌, ◌<◌};
-ghost use Rattle.table.specs.Words.{block_count};
-ghost use Rattle.table.specs.Table.{table_of, terminal_at};
-ghost use Rattle.table.specs.Promise.{Promise};
+ghost use Rattle.std.specs.Prelude.{◌≡◌};
+ghost use Rattle.table.specs.Table.{table_of, terminal_at, code_of};
+ghost use Rattle.table.specs.Columns.{maybe_of};
+ghost use Rattle.table.specs.Ending.{ending};
+ghost use Rattle.table.specs.Promise.{Ends};
 ghost use Rattle.definition.specs.Completion.{contains};
-ghost use Rattle.definition.specs.Plain.{paper_codes, plain_codes, fallthrough_of, case_blocks_of};
-ghost use Rattle.definition.specs.PlainTest.{shape_of, shape_test, fallthrough_test, cases_test, block_test};
-ghost use Rattle.plain.specs.Laws.{width_of, branch_test};
+ghost use Rattle.definition.specs.Plain.{Width, plain_codes, paper_01, with_switch, fallthrough_of, case_blocks_of};
+ghost use Rattle.definition.specs.PlainTest.{every_of, not_named, shape_of, shape_test, fallthrough_test, cases_test, block_test, is_plain};
+ghost use Rattle.plain.specs.Asked.{AnswersCode};
+ghost use Rattle.plain.specs.Laws.{branch_test};
 
-use crate::asked::{of_no_while, only_of, some_while};
-use crate::cases::{different_cases, every_case};
-use crate::facts::{fallthrough_at, is_branch_to, no_branches};
+use crate::asked::{every_block, only_of, some_while};
+use crate::cases::cases_of;
+use crate::facts::{
+    fallthrough_of, is_branch_to, no_branch, no_branches, not_named, not_of_loop,
+    terminal_or_absent,
+};
 use crate::tail::tail_at;
-use table::columns::code_at;
-use table::terminals::{GotoVariant, branch_at, goto_at, switch_at, while_at};
+use table::Table;
+use table::terminals::{GotoVariant, Terminal};
 
 // The terminals of paper 01's list.
-pub fn paper_code(code: u32) -> bool
-    ensures { result ≡ contains paper_codes code }
+pub fn paper_code(end: Terminal) -> bool
+    ensures { result ≡ contains (plain_codes paper_01) (code_of (ending end)) }
 {
-    matches!(code, 0 | 2 | 3 | 4 | 5 | 6 | 9 | 16 | 20 | 21)
+    matches!(
+        end,
+        Terminal::Absent
+            | Terminal::Throw(_)
+            | Terminal::Return(_)
+            | Terminal::Goto(_)
+            | Terminal::If(_)
+            | Terminal::Branch(_)
+            | Terminal::While(_)
+            | Terminal::Label(_)
+            | Terminal::Scope(_)
+            | Terminal::PrunedScope(_)
+    )
 }
 
-// With Switch, or without.
-fn plain_code(switches: bool, code: u32) -> bool
-    ensures { result ≡ contains (plain_codes (width_of switches)) code }
+// And Switch.
+pub fn switch_code(end: Terminal) -> bool
+    ensures { result ≡ contains (plain_codes with_switch) (code_of (ending end)) }
 {
-    (switches && code == 7) || paper_code(code)
+    matches!(end, Terminal::Switch(_)) || paper_code(end)
 }
 
 // A Branch is some While's test, and does not end in a store.
-fn branch_test(words: &[u32], block: u32, consequent: u32, alternate: u32) -> bool
-    requires { Promise words.now }
-    ensures { result ≡ branch_test (table_of words.now) block consequent alternate }
+fn branch_test(table: Table<'_>, block: u32, consequent: u32, alternate: u32) -> bool
+    ensures { result ≡ branch_test (table_of table.entry.words.now) block consequent alternate }
 {
-    some_while(words, block, consequent, alternate) && !tail_at(words, block).stores()
+    some_while(table, block, consequent, alternate) && !tail_at(table, block).stores()
 }
 
-#[tactic(auto, using(crate::proofs::TerminalLaws::another_shape_at))]
-fn shape_test(words: &[u32], block: u32) -> bool
-    requires promise { Promise words.now }
-    requires block_bound { block < block_count words.now }
-    ensures { result ≡ shape_test (table_of words.now) block (shape_of (terminal_at (table_of words.now) block)) }
+fn shape_test(table: Table<'_>, block: u32, end: Terminal) -> bool
+    ensures { result ≡ shape_test (table_of table.entry.words.now) block (shape_of (ending end)) }
 {
-    match code_at(words, block) {
-        4 => goto_at(words, block).variant != GotoVariant::Try,
-        6 => {
-            let end = branch_at(words, block);
-            branch_test(words, block, end.consequent, end.alternate)
-        }
+    match end {
+        Terminal::Goto(end) => end.variant != GotoVariant::Try,
+        Terminal::Branch(end) => branch_test(table, block, end.consequent, end.alternate),
         // A While's test goes to its loop and its fallthrough.
-        9 => {
-            let end = while_at(words, block);
-            is_branch_to(words, end.test, end.loop_block, end.fallthrough)
+        Terminal::While(end) => {
+            let test = terminal_or_absent(table, end.test);
+            is_branch_to(test, end.loop_block, end.fallthrough)
         }
         _ => true,
     }
 }
 
 // A fallthrough is no other block's, and no loop's.
-fn fallthrough_test(words: &[u32], block: u32) -> bool
-    requires { Promise words.now }
-    ensures { result ≡ fallthrough_test (table_of words.now) block (fallthrough_of (terminal_at (table_of words.now) block)) }
+fn fallthrough_test(table: Table<'_>, block: u32, fallthrough: Option<u32>) -> bool
+    ensures { result ≡ fallthrough_test (table_of table.entry.words.now) block (maybe_of fallthrough) }
 {
-    match fallthrough_at(words, block) {
-        Some(fallthrough) => only_of(words, block, fallthrough) && of_no_while(words, fallthrough),
+    match fallthrough {
+        Some(fallthrough) => {
+            only_of(table, block, fallthrough)
+                && every_block(table, |_, end| not_of_loop(end, fallthrough))
+        }
         None => true,
     }
 }
 
-// A Switch's case blocks differ, and nothing else names them.
-#[tactic(auto, using(crate::proofs::TerminalLaws::no_case_at))]
-fn cases_test(words: &[u32], block: u32) -> bool
-    requires promise { Promise words.now }
-    requires block_bound { block < block_count words.now }
-    ensures { result ≡ cases_test (table_of words.now) (case_blocks_of (table_of words.now) (terminal_at (table_of words.now) block)) }
+// Nothing but a Switch names the block.
+fn named_by_none(table: Table<'_>, block: u32) -> bool
+    ensures { result ≡ every_of (table_of table.entry.words.now).blocks (λ w m. not_named block m) }
 {
-    if code_at(words, block) != 7 {
-        return true;
-    }
-    let end = switch_at(words, block);
-    different_cases(words, end.first, end.number) && every_case(words, end.first, end.number, false)
+    every_block(table, |_, end| not_named(end, block))
 }
 
-#[tactic(auto, using(crate::proofs::TerminalLaws::code_here))]
-pub fn block_test(words: &[u32], switches: bool, block: u32) -> bool
-    requires promise { Promise words.now }
-    requires block_bound { block < block_count words.now }
-    ensures { result ≡ block_test (table_of words.now) (width_of switches) block (terminal_at (table_of words.now) block) }
+// A Switch's case blocks differ, and nothing else names them.
+fn cases_test(table: Table<'_>, block: u32, end: Terminal) -> bool
+    requires { Ends table.words.now block (ending end) }
+    ensures { result ≡ cases_test (table_of table.entry.words.now) (case_blocks_of (table_of table.entry.words.now) (ending end)) }
 {
-    plain_code(switches, code_at(words, block))
-        && no_branches(words, block)
-        && shape_test(words, block)
-        && fallthrough_test(words, block)
-        && cases_test(words, block)
+    match end {
+        Terminal::Switch(end) => {
+            let cases = cases_of(table, block, end);
+            cases.differ() && cases.all(|case| named_by_none(table, case))
+        }
+        _ => true,
+    }
+}
+
+pub fn block_test<F: Fn(Terminal) -> bool>(table: Table<'_>, block: u32, plain_code: &F) -> bool
+    requires { F.IsAlwaysCallable plain_code.now }
+    ensures { (width : Width) → AnswersCode (F.post plain_code.now) width → result ≡ block_test (table_of table.entry.words.now) width block (terminal_at (table_of table.entry.words.now) block) }
+{
+    let end = terminal_or_absent(table, block);
+    plain_code(end)
+        && no_branches(table, end)
+        && shape_test(table, block, end)
+        && fallthrough_test(table, block, fallthrough_of(end))
+        && cases_test(table, block, end)
+}
+
+// The entry is no Branch.
+pub fn is_plain<F: Fn(Terminal) -> bool>(table: Table<'_>, plain_code: F) -> bool
+    requires { F.IsAlwaysCallable plain_code }
+    ensures { (width : Width) → AnswersCode (F.post plain_code) width → result ≡ is_plain (table_of table.entry.words.now) width }
+{
+    no_branch(table, table.entry())
+        && every_block(table, |block, _| block_test(table, block, &plain_code))
 }

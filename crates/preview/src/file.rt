@@ -7,8 +7,10 @@ ghost use Rattle.preview.specs.Prints.{size_text, sized_text};
 
 use crate::preview;
 use text::lent::{FILE_WORDS, zeros};
+use text::placed::Coded;
 use text::read::read;
 use text::write::{NoRoom, finish_text, write_line, write_names};
+use walk::answer::Numbered;
 
 // Two lines: 81 bytes are always enough.
 fn write_size(
@@ -31,8 +33,10 @@ fn write_size(
 fn size_words(words: &[u32], out: &mut [u8]) -> Result<usize, NoRoom>
     ensures { WrittenText 81 (size_text (previewed rust words.now)) (length out.old) result out.new }
 {
-    let told = preview(words);
-    write_size(out, told.code, told.at, told.rows, told.visits, told.lines)
+    match preview(words) {
+        Ok(size) => write_size(out, 0, 0, size.rows, size.visits, size.lines),
+        Err(error) => write_size(out, error.code(), error.place(), 0, error.visits(), 0),
+    }
 }
 
 // Reads a file and writes what its table's build gives; or writes why the file is refused. 81 bytes are enough.

@@ -100,7 +100,7 @@ pub fn write_all(rt: &HostRuntime, program: &[u8], bytes: &[u8]) {
 }
 
 // Writes what a program's function printed into the lent bytes. The function's contract says that the end is within them.
-// The code tests it here as well, so that no main has to prove it. A text that does not fit its room is told on standard error.
+// The code tests it here as well, so that `run` need not prove it. A text that does not fit its room is told on standard error.
 pub fn write_printed(rt: &HostRuntime, program: &[u8], out: &[u8], written: Result<usize, NoRoom>) {
     match written {
         Ok(end) => {
@@ -115,5 +115,21 @@ pub fn write_printed(rt: &HostRuntime, program: &[u8], out: &[u8], written: Resu
                 b": what is to be printed does not fit its room\n",
             );
         }
+    }
+}
+
+// What a program does: reads standard input into `file`, has `print` print of it into `out`, and writes that. After a failed read it prints nothing.
+pub fn run<F: Fn(&[u8], &mut [u8]) -> Result<usize, NoRoom>>(
+    rt: &HostRuntime,
+    program: &[u8],
+    file: &mut [u8],
+    out: &mut [u8],
+    print: F,
+)
+    requires { F.IsAlwaysCallable print }
+{
+    if let Ok(count) = read_all(rt, program, file) {
+        let written = print(&file[..count], out);
+        write_printed(rt, program, out, written);
     }
 }

@@ -10,7 +10,8 @@ use native.Mathlib.Nat.{eq-or-lt_of_le}
 use mathlib.Core.List.{List, [], ◌∷◌}
 use mathlib.Core.Option.{Option, none, some}
 use lib.ListN.{get_or}
-use Rattle.table.specs.Table.{table_of, terminal_at, unless_none}
+use Rattle.table.specs.Columns.{maybe_of}
+use Rattle.table.specs.Table.{table_of, terminal_at}
 use Rattle.definition.specs.Around.{Rule, rust, language, Around, Enclosing, a_loop, a_switch, another, is_label, kind_by, unnamed, break_kind_in, break_unnamed, continue_unnamed}
 use Rattle.definition.specs.Context.{Resolution}
 use Rattle.machine.specs.Goal.{Goal, break_goal, continue_goal, surveyed_break, surveyed_continue}
@@ -19,10 +20,6 @@ use Rattle.machine.specs.Machine.{enclosing_by, enclosings, around_of}
 use Rattle.machine.specs.Survey.{Survey, unseen, pass, survey}
 use Rattle.machine.proofs.Goals.{break_surveyed, continue_surveyed, break_rust, continue_rust}
 use Rattle.definition.proofs.Steps.{true_false}
-use Rattle.control.specs.declared.Resolution as resolved
-use Rattle.control.specs.Abstraction.{resolved_of, resolution_of}
-use Rattle.control.specs.declared.around.Goal as code
-use Rattle.control.specs.AroundAbstraction.{aim_of, FoundBelow, AimBelow}
 use Rattle.control.specs.Pass.{asks_around, passed_from, target_sought, unseen_by}
 use Rattle.statements.specs.declared.plan.Frame.{Frame}
 use Rattle.statements.specs.Plans.{no_frame, frames_of}
@@ -79,7 +76,7 @@ or_true false = refl
 
 -- what a frame is to a jump
 abbrev enclosed_by : List ℕ → List Frame → ℕ → Enclosing
-enclosed_by w frames k = enclosing_by (terminal_at (table_of w) (get_or frames k no_frame).block) (unless_none (get_or frames k no_frame).label)
+enclosed_by w frames k = enclosing_by (terminal_at (table_of w) (get_or frames k no_frame).block) (maybe_of (get_or frames k no_frame).label)
 
 label_around : (w : List ℕ) (frames : List Frame) (target k n : ℕ) (s : Survey) → k < n → labels (enclosed_by w frames k) target ≡ true
     → (survey target (enclosings (table_of w) (frames_of frames n)) s).named ≡ true
@@ -170,27 +167,6 @@ module _ (w : List ℕ) (frames : List Frame) (depth : ℕ) where
           by language y = ap some
               (labeled_same f (survey f.target (enclosings (table_of w) (frames_of frames depth)) (unseen f.loops)) (survey f.target (enclosings (table_of w) (frames_of frames 0)) looked) e
               (all ∙ sym (named_kept f.target (enclosings (table_of w) (frames_of frames 0)) looked m)))
-
--- ---- the target is one of the 1,024 blocks
-
-abbrev target_or : Option Goal → ℕ
-target_or none = 0
-target_or (some goal) = goal.target
-
-abbrev is_some : Option Goal → ℕ
-is_some none = 0
-is_some (some goal) = 1
-
-goal_none : {goal : Goal} → some goal ≡ none → ⊥
-goal_none e = let o : ◌≡◌ {A = ℕ} 1 0 = ap is_some e in omega arith
-
-pub aim_below : (sought : std.Option Jump) (rule : Rule) (seen : Survey) (found : std.Option resolved.Resolution) (aimed : std.Option code.Goal) → aim_of aimed ≡ surveyed_by sought rule seen (resolved_of found) → FoundBelow found → AimBelow aimed
-aim_below sought rule seen found None e h = tt
-aim_below None rule seen found (Some goal) e h = absurd (goal_none e)
-aim_below (Some (jump.Break b)) rule seen None (Some goal) e h = absurd (goal_none e)
-aim_below (Some (jump.Break b)) rule seen (Some r) (Some goal) e h = let q : goal.target ≡ (resolution_of r).target = ap target_or e in omega (arith, q, h)
-aim_below (Some (jump.Continue b)) rule seen None (Some goal) e h = absurd (goal_none e)
-aim_below (Some (jump.Continue b)) rule seen (Some r) (Some goal) e h = let q : goal.target ≡ (resolution_of r).target = ap target_or e in omega (arith, q, h)
 
 -- ---- whether they are asked
 

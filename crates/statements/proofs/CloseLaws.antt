@@ -10,14 +10,27 @@ use mathlib.Core.Option.{Option, none, some}
 use lib.Dec.{eqb}
 use lib.ListN.{length}
 use borrow.Author.Tests.{eqb-true}
-use Rattle.table.specs.Words.{block_count, code_at, largest}
+use Rattle.table.specs.Words.{largest}
 use Rattle.table.specs.declared.columns.Span.{Span}
-use Rattle.table.specs.Promise.{Promise, Ends, Heads}
+use Rattle.table.specs.Promise.{Ends, Heads}
+use Rattle.table.specs.declared.terminals.Terminal.{Terminal as Ending}
+use Rattle.table.specs.declared.terminals.Terminal.TheVariants as ends
+use Rattle.table.specs.declared.terminals.If.{If}
+use Rattle.table.specs.declared.terminals.Branch.{Branch}
+use Rattle.table.specs.declared.terminals.Switch.{Switch}
+use Rattle.table.specs.declared.terminals.DoWhile.{DoWhile}
+use Rattle.table.specs.declared.terminals.While.{While}
+use Rattle.table.specs.declared.terminals.For.{For}
+use Rattle.table.specs.declared.terminals.ForOf.{ForOf}
+use Rattle.table.specs.declared.terminals.ForIn.{ForIn}
+use Rattle.table.specs.declared.terminals.Label.{Label}
+use Rattle.table.specs.declared.terminals.Try.{Try}
+use Rattle.table.specs.declared.terminals.Scope.{Scope}
+use Rattle.table.specs.Ending.{ending}
 use Rattle.table.specs.Table.{Table, Block, Terminal, absent, unreachable, throw, return, goto, if, branch, switch, do_while, while, for, for_of, for_in}
-use Rattle.table.specs.Table.{logical, ternary, optional, label, sequence, maybe_throw, try, scope, code_of, table_of, terminal_of, terminal_at}
+use Rattle.table.specs.Table.{logical, ternary, optional, label, sequence, maybe_throw, try, scope, table_of, terminal_at}
 use Rattle.table.specs.Columns.{maybe_of}
 use Rattle.table.specs.Table.{unless_none}
-use Rattle.table.proofs.BlockLaws.{no_number, some_number, end_by, code_at_lem}
 use Rattle.definition.specs.Context as definition
 use Rattle.machine.specs.Machine.{enclosing_by, enclosing_label, popping, going, turn, unscheduled, complete, close_by, close, closing_row_of, with_entries}
 use Rattle.definition.specs.Output.{Output, ◌⊕◌, line_out}
@@ -56,100 +69,93 @@ or_none_lem n = at (eqb n largest) refl
     at false e = refl
 
 -- what the code of each terminal returns, by what its readers say
-module _ {w : List ℕ} (frame : Frame) {r : ClosingRow} {first count id : ℕ} {span : Span} (heads : Heads w frame.block first count id span) where
-  module _ {test alternate : ℕ} (later : alternate ≡ flag_of frame.second) (is : row_of r ≡ row 10 test alternate id frame.label 0) where
+module _ {w : List ℕ} (frame : Frame) {r : ClosingRow} {first count id taken : ℕ} {span : Span} (heads : Heads w frame.block first count id span) (labelled : taken ≡ or_none (maybe_of frame.label)) where
+  module _ {test alternate : ℕ} (later : alternate ≡ flag_of frame.second) (is : row_of r ≡ row 10 test alternate id taken 0) where
     pub if_closes : {c a f : ℕ} → Ends w frame.block (if test c a f) → row_of r ≡ closing_row_at w frame
     unfolding closing_row_of
-    if_closes ends = rw (ends.is, heads.is_id, or_none_lem frame.label) (rw later at is)
+    if_closes ends = rw (ends.is, heads.is_id, ← labelled) (rw later at is)
 
     pub branch_closes : {c a : ℕ} → Ends w frame.block (branch test c a) → row_of r ≡ closing_row_at w frame
     unfolding closing_row_of
-    branch_closes ends = rw (ends.is, heads.is_id, or_none_lem frame.label) (rw later at is)
+    branch_closes ends = rw (ends.is, heads.is_id, ← labelled) (rw later at is)
 
-  pub switch_closes : {test i m f : ℕ} → Ends w frame.block (switch test i m f) → row_of r ≡ row 12 test frame.built id frame.label 0 → row_of r ≡ closing_row_at w frame
+  pub switch_closes : {test i m f : ℕ} → Ends w frame.block (switch test i m f) → row_of r ≡ row 12 test frame.built id taken 0 → row_of r ≡ closing_row_at w frame
   unfolding closing_row_of
-  switch_closes ends is = rw (ends.is, heads.is_id, or_none_lem frame.label) is
+  switch_closes ends is = rw (ends.is, heads.is_id, ← labelled) is
 
   pub for_closes : {init test present loop f : ℕ} (update : std.Option ℕ) → Ends w frame.block (for init test (maybe_of update) loop f) → present ≡ flag_of (std.is_some update)
-      → row_of r ≡ row 15 id frame.label present 0 0 → row_of r ≡ closing_row_at w frame
+      → row_of r ≡ row 15 id taken present 0 0 → row_of r ≡ closing_row_at w frame
   unfolding closing_row_of
-  for_closes update ends there is = rw (ends.is, heads.is_id, or_none_lem frame.label) (rw (there, flag_update update) at is)
+  for_closes update ends there is = rw (ends.is, heads.is_id, ← labelled) (rw (there, flag_update update) at is)
 
-  pub try_closes : {x y f binding : ℕ} → Ends w frame.block (try x y f (unless_none binding)) → row_of r ≡ row 19 id frame.label binding 0 0 → row_of r ≡ closing_row_at w frame
+  pub try_closes : {x y f binding : ℕ} → Ends w frame.block (try x y f (unless_none binding)) → row_of r ≡ row 19 id taken binding 0 0 → row_of r ≡ closing_row_at w frame
   unfolding closing_row_of
-  try_closes {binding = binding} ends is = rw (ends.is, heads.is_id, or_none_lem frame.label, or_none_lem binding) is
+  try_closes {binding = binding} ends is = rw (ends.is, heads.is_id, ← labelled, or_none_lem binding) is
 
-  -- those of which no column is read
-  module _ {code : ℕ} (below : frame.block < block_count w) (coded : code ≡ code_at w frame.block) where
-    pub do_while_closes : code ≡ 8 → row_of r ≡ row 13 id frame.label 0 0 0 → row_of r ≡ closing_row_at w frame
-    unfolding terminal_of closing_row_of
-    do_while_closes e is = rw (end_by w frame.block below 8 (sym coded ∙ e), heads.is_id, or_none_lem frame.label) is
+  pub do_while_closes : {l c f : ℕ} → Ends w frame.block (do_while l c f) → row_of r ≡ row 13 id taken 0 0 0 → row_of r ≡ closing_row_at w frame
+  unfolding closing_row_of
+  do_while_closes ends is = rw (ends.is, heads.is_id, ← labelled) is
 
-    pub while_closes : code ≡ 9 → row_of r ≡ row 14 id frame.label 0 0 0 → row_of r ≡ closing_row_at w frame
-    unfolding terminal_of closing_row_of
-    while_closes e is = rw (end_by w frame.block below 9 (sym coded ∙ e), heads.is_id, or_none_lem frame.label) is
+  pub while_closes : {c l f : ℕ} → Ends w frame.block (while c l f) → row_of r ≡ row 14 id taken 0 0 0 → row_of r ≡ closing_row_at w frame
+  unfolding closing_row_of
+  while_closes ends is = rw (ends.is, heads.is_id, ← labelled) is
 
-    pub for_of_closes : code ≡ 11 → row_of r ≡ row 16 id frame.label span.from span.to 0 → row_of r ≡ closing_row_at w frame
-    unfolding terminal_of closing_row_of
-    for_of_closes e is = rw (end_by w frame.block below 11 (sym coded ∙ e), heads.is_id, heads.is_span, or_none_lem frame.label) is
+  pub for_of_closes : {init test l f : ℕ} → Ends w frame.block (for_of init test l f) → row_of r ≡ row 16 id taken span.from span.to 0 → row_of r ≡ closing_row_at w frame
+  unfolding closing_row_of
+  for_of_closes ends is = rw (ends.is, heads.is_id, heads.is_span, ← labelled) is
 
-    pub for_in_closes : code ≡ 12 → row_of r ≡ row 17 id frame.label span.from span.to 0 → row_of r ≡ closing_row_at w frame
-    unfolding terminal_of closing_row_of
-    for_in_closes e is = rw (end_by w frame.block below 12 (sym coded ∙ e), heads.is_id, heads.is_span, or_none_lem frame.label) is
+  pub for_in_closes : {init l f : ℕ} → Ends w frame.block (for_in init l f) → row_of r ≡ row 17 id taken span.from span.to 0 → row_of r ≡ closing_row_at w frame
+  unfolding closing_row_of
+  for_in_closes ends is = rw (ends.is, heads.is_id, heads.is_span, ← labelled) is
 
-    pub label_closes : code ≡ 16 → row_of r ≡ row 18 id frame.label 0 0 0 → row_of r ≡ closing_row_at w frame
-    unfolding terminal_of closing_row_of
-    label_closes e is = rw (end_by w frame.block below 16 (sym coded ∙ e), heads.is_id, or_none_lem frame.label) is
+  pub label_closes : {x f : ℕ} → Ends w frame.block (label x f) → row_of r ≡ row 18 id taken 0 0 0 → row_of r ≡ closing_row_at w frame
+  unfolding closing_row_of
+  label_closes ends is = rw (ends.is, heads.is_id, ← labelled) is
 
--- a scope's code says whether it is pruned
-module _ {w : List ℕ} (frame : Frame) {code : ℕ} (pr : Promise w) (below : frame.block < block_count w) (coded : code ≡ code_at w frame.block) where
-  coded_so : {e : Terminal} → Ends w frame.block e → code ≡ code_of e
-  coded_so ends = coded ∙ sym (code_at_lem w frame.block pr below) ∙ ap code_of ends.is
+module _ {w : List ℕ} (frame : Frame) {r : ClosingRow} {x f number : ℕ} where
+  pub scope_closes : Ends w frame.block (scope false x f number) → row_of r ≡ row 20 number 0 0 0 0 → row_of r ≡ closing_row_at w frame
+  unfolding closing_row_of
+  scope_closes ends is = rw ends.is is
 
-  module _ {r : ClosingRow} {x f number : ℕ} where
-    pub scope_closes : {pruned : Bool} → Ends w frame.block (scope pruned x f number) → code ≡ 20 → row_of r ≡ row 20 number 0 0 0 0 → row_of r ≡ closing_row_at w frame
-    unfolding closing_row_of
-    scope_closes {pruned = false} ends e is = rw ends.is is
-    scope_closes {pruned = true} ends e is = absurd (let o = coded_so ends in omega (arith, o, e))
-
-    pub pruned_closes : {pruned : Bool} → Ends w frame.block (scope pruned x f number) → code ≡ 21 → row_of r ≡ row 21 number 0 0 0 0 → row_of r ≡ closing_row_at w frame
-    unfolding closing_row_of
-    pruned_closes {pruned = true} ends e is = rw ends.is is
-    pruned_closes {pruned = false} ends e is = absurd (let o = coded_so ends in omega (arith, o, e))
+  pub pruned_closes : Ends w frame.block (scope true x f number) → row_of r ≡ row 21 number 0 0 0 0 → row_of r ≡ closing_row_at w frame
+  unfolding closing_row_of
+  pruned_closes ends is = rw ends.is is
 
 -- a statement without nested lists has no closing row
-abbrev pub Closes : ℕ → Type 0
-Closes code =
-    ((code ≡ 5 → ⊥) × (code ≡ 6 → ⊥) × (code ≡ 7 → ⊥) × (code ≡ 8 → ⊥) × (code ≡ 9 → ⊥) × (code ≡ 10 → ⊥)) ×
-    ((code ≡ 11 → ⊥) × (code ≡ 12 → ⊥) × (code ≡ 16 → ⊥) × (code ≡ 19 → ⊥) × (code ≡ 20 → ⊥) × (code ≡ 21 → ⊥))
+abbrev pub Closes : Ending → Type 0
+Closes e =
+    (((x : If) → e ≡ ends.If x → ⊥) × ((x : Branch) → e ≡ ends.Branch x → ⊥) × ((x : Switch) → e ≡ ends.Switch x → ⊥) × ((x : DoWhile) → e ≡ ends.DoWhile x → ⊥)
+    × ((x : While) → e ≡ ends.While x → ⊥) × ((x : For) → e ≡ ends.For x → ⊥))
+    × (((x : ForOf) → e ≡ ends.ForOf x → ⊥) × ((x : ForIn) → e ≡ ends.ForIn x → ⊥) × ((x : Label) → e ≡ ends.Label x → ⊥) × ((x : Try) → e ≡ ends.Try x → ⊥)
+    × ((x : Scope) → e ≡ ends.Scope x → ⊥) × ((x : Scope) → e ≡ ends.PrunedScope x → ⊥))
 
-none_closes : (e : Terminal) (b : Block) (s : Bool) (l : Option ℕ) (n : ℕ) → Closes (code_of e) → closing_row_of e b s l n ≡ row 0 0 0 0 0 0
+none_closes : (e : Ending) (b : Block) (s : Bool) (l : Option ℕ) (n : ℕ) → Closes e → closing_row_of (ending e) b s l n ≡ row 0 0 0 0 0 0
 unfolding closing_row_of
-none_closes absent b s l n h = refl
-none_closes unreachable b s l n h = refl
-none_closes (throw x) b s l n h = refl
-none_closes (return x) b s l n h = refl
-none_closes (goto x y) b s l n h = refl
-none_closes (if x y z u) b s l n h = absurd (h.0.0 refl)
-none_closes (branch x y z) b s l n h = absurd (h.0.1 refl)
-none_closes (switch x y z u) b s l n h = absurd (h.0.2 refl)
-none_closes (do_while x y z) b s l n h = absurd (h.0.3 refl)
-none_closes (while x y z) b s l n h = absurd (h.0.4 refl)
-none_closes (for x y z u v) b s l n h = absurd (h.0.5 refl)
-none_closes (for_of x y z u) b s l n h = absurd (h.1.0 refl)
-none_closes (for_in x y z) b s l n h = absurd (h.1.1 refl)
-none_closes (logical x y z) b s l n h = refl
-none_closes (ternary x y) b s l n h = refl
-none_closes (optional x y z) b s l n h = refl
-none_closes (label x y) b s l n h = absurd (h.1.2 refl)
-none_closes (sequence x y) b s l n h = refl
-none_closes (maybe_throw x) b s l n h = refl
-none_closes (try x y z u) b s l n h = absurd (h.1.3 refl)
-none_closes (scope false x y z) b s l n h = absurd (h.1.4 refl)
-none_closes (scope true x y z) b s l n h = absurd (h.1.5 refl)
+none_closes ends.Absent b s l n h = refl
+none_closes ends.Unreachable b s l n h = refl
+none_closes (ends.Throw x) b s l n h = refl
+none_closes (ends.Return x) b s l n h = refl
+none_closes (ends.Goto x) b s l n h = refl
+none_closes (ends.If x) b s l n h = absurd (h.0.0 x refl)
+none_closes (ends.Branch x) b s l n h = absurd (h.0.1 x refl)
+none_closes (ends.Switch x) b s l n h = absurd (h.0.2 x refl)
+none_closes (ends.DoWhile x) b s l n h = absurd (h.0.3 x refl)
+none_closes (ends.While x) b s l n h = absurd (h.0.4 x refl)
+none_closes (ends.For x) b s l n h = absurd (h.0.5 x refl)
+none_closes (ends.ForOf x) b s l n h = absurd (h.1.0 x refl)
+none_closes (ends.ForIn x) b s l n h = absurd (h.1.1 x refl)
+none_closes (ends.Logical x) b s l n h = refl
+none_closes (ends.Ternary x) b s l n h = refl
+none_closes (ends.Optional x) b s l n h = refl
+none_closes (ends.Label x) b s l n h = absurd (h.1.2 x refl)
+none_closes (ends.Sequence x) b s l n h = refl
+none_closes (ends.MaybeThrow x) b s l n h = refl
+none_closes (ends.Try x) b s l n h = absurd (h.1.3 x refl)
+none_closes (ends.Scope x) b s l n h = absurd (h.1.4 x refl)
+none_closes (ends.PrunedScope x) b s l n h = absurd (h.1.5 x refl)
 
-pub closing_none : (w : List ℕ) (frame : Frame) → Promise w → frame.block < block_count w → Closes (code_at w frame.block) → closing_row_at w frame ≡ row 0 0 0 0 0 0
-closing_none w frame pr h k = none_closes (terminal_at (table_of w) frame.block) _ _ _ _ (subst Closes (sym (code_at_lem w frame.block pr h)) k)
+pub closing_none : (w : List ℕ) (frame : Frame) (e : Ending) → Ends w frame.block (ending e) → Closes e → closing_row_at w frame ≡ row 0 0 0 0 0 0
+closing_none w frame e is k = rw is.is (none_closes e _ _ _ _ k)
 
 -- ---- the line
 
@@ -177,46 +183,45 @@ no_label (try x y z u) = refl
 no_label (scope o x y z) = refl
 
 -- a scope's row has none, another's its own
-row_label : (e : Terminal) (taken : Option ℕ) → (20 ≤ code_of e → enclosing_label (enclosing_by e taken) ≡ none) × ((20 ≤ code_of e → ⊥) → enclosing_label (enclosing_by e taken) ≡ taken)
-row_label absent taken = ((λ h. absurd (omega (arith, h))), λ f. refl)
-row_label unreachable taken = ((λ h. absurd (omega (arith, h))), λ f. refl)
-row_label (throw x) taken = ((λ h. absurd (omega (arith, h))), λ f. refl)
-row_label (return x) taken = ((λ h. absurd (omega (arith, h))), λ f. refl)
-row_label (goto x y) taken = ((λ h. absurd (omega (arith, h))), λ f. refl)
-row_label (if x y z u) taken = ((λ h. absurd (omega (arith, h))), λ f. refl)
-row_label (branch x y z) taken = ((λ h. absurd (omega (arith, h))), λ f. refl)
-row_label (switch x y z u) taken = ((λ h. absurd (omega (arith, h))), λ f. refl)
-row_label (do_while x y z) taken = ((λ h. absurd (omega (arith, h))), λ f. refl)
-row_label (while x y z) taken = ((λ h. absurd (omega (arith, h))), λ f. refl)
-row_label (for x y z u v) taken = ((λ h. absurd (omega (arith, h))), λ f. refl)
-row_label (for_of x y z u) taken = ((λ h. absurd (omega (arith, h))), λ f. refl)
-row_label (for_in x y z) taken = ((λ h. absurd (omega (arith, h))), λ f. refl)
-row_label (logical x y z) taken = ((λ h. absurd (omega (arith, h))), λ f. refl)
-row_label (ternary x y) taken = ((λ h. absurd (omega (arith, h))), λ f. refl)
-row_label (optional x y z) taken = ((λ h. absurd (omega (arith, h))), λ f. refl)
-row_label (label x y) taken = ((λ h. absurd (omega (arith, h))), λ f. refl)
-row_label (sequence x y) taken = ((λ h. absurd (omega (arith, h))), λ f. refl)
-row_label (maybe_throw x) taken = ((λ h. absurd (omega (arith, h))), λ f. refl)
-row_label (try x y z u) taken = ((λ h. absurd (omega (arith, h))), λ f. refl)
-row_label (scope false x y z) taken = ((λ h. refl), λ f. absurd (f (omega arith)))
-row_label (scope true x y z) taken = ((λ h. refl), λ f. absurd (f (omega arith)))
+row_label : (e : Ending) (taken : Option ℕ) → ((x : Scope) → e ≡ ends.Scope x → ⊥) × ((x : Scope) → e ≡ ends.PrunedScope x → ⊥) → enclosing_label (enclosing_by (ending e) taken) ≡ taken
+row_label ends.Absent taken h = refl
+row_label ends.Unreachable taken h = refl
+row_label (ends.Throw x) taken h = refl
+row_label (ends.Return x) taken h = refl
+row_label (ends.Goto x) taken h = refl
+row_label (ends.If x) taken h = refl
+row_label (ends.Branch x) taken h = refl
+row_label (ends.Switch x) taken h = refl
+row_label (ends.DoWhile x) taken h = refl
+row_label (ends.While x) taken h = refl
+row_label (ends.For x) taken h = refl
+row_label (ends.ForOf x) taken h = refl
+row_label (ends.ForIn x) taken h = refl
+row_label (ends.Logical x) taken h = refl
+row_label (ends.Ternary x) taken h = refl
+row_label (ends.Optional x) taken h = refl
+row_label (ends.Label x) taken h = refl
+row_label (ends.Sequence x) taken h = refl
+row_label (ends.MaybeThrow x) taken h = refl
+row_label (ends.Try x) taken h = refl
+row_label (ends.Scope x) taken h = absurd (h.0 x refl)
+row_label (ends.PrunedScope x) taken h = absurd (h.1 x refl)
 
-module _ (w : List ℕ) (frame : Frame) (pr : Promise w) (h : frame.block < block_count w) where
+module _ (w : List ℕ) (frame : Frame) where
   abbrev terminal : Terminal
   terminal = terminal_at (table_of w) frame.block
 
-  pub unlabelled_line : frame.label ≡ 65535 → None ≡ line_at w frame
+  pub unlabelled_line : frame.label ≡ None → None ≡ line_at w frame
   unlabelled_line e =
-      ap (λ (o : Option ℕ). line_as o frame.first) (sym (ap (λ (o : Option ℕ). enclosing_label (enclosing_by terminal o)) (ap unless_none e ∙ no_number) ∙ no_label terminal))
+      ap (λ (o : Option ℕ). line_as o frame.first) (sym (ap (λ (o : Option ℕ). enclosing_label (enclosing_by terminal o)) (ap maybe_of e) ∙ no_label terminal))
 
-  pub scope_line : {code : ℕ} → code ≡ code_at w frame.block → 20 ≤ code → None ≡ line_at w frame
-  scope_line e k =
-      ap (λ (o : Option ℕ). line_as o frame.first) (sym ((row_label terminal (unless_none frame.label)).0 (omega (arith, e, k, code_at_lem w frame.block pr h))))
+  pub scope_line : {pruned : Bool} {x f number : ℕ} → Ends w frame.block (scope pruned x f number) → None ≡ line_at w frame
+  scope_line ends = rw ends.is refl
 
-  pub labelled_line : {code : ℕ} → code ≡ code_at w frame.block → (frame.label ≡ 65535 → ⊥) → code < 20 → Some (record { label = frame.label; first = frame.first }) ≡ line_at w frame
-  labelled_line {code} e f few =
-      let below : 20 ≤ code_of terminal → ⊥ = λ k. omega (arith, k, e, few, code_at_lem w frame.block pr h) in
-      ap (λ (o : Option ℕ). line_as o frame.first) (sym ((row_label terminal (unless_none frame.label)).1 below ∙ some_number frame.label f))
+  pub labelled_line : (e : Ending) {taken : ℕ} → Ends w frame.block (ending e) → frame.label ≡ Some taken → ((x : Scope) → e ≡ ends.Scope x → ⊥) → ((x : Scope) → e ≡ ends.PrunedScope x → ⊥)
+      → Some (record { label = taken; first = frame.first }) ≡ line_at w frame
+  labelled_line e is f plain pruned = ap (λ (o : Option ℕ). line_as o frame.first)
+      (sym (ap (λ (z : Terminal). enclosing_label (enclosing_by z (maybe_of frame.label))) is.is ∙ row_label e (maybe_of frame.label) (plain, pruned) ∙ ap maybe_of f))
 
 -- a line is that of the closing row behind it
 line_closed : (o : Option ℕ) (first rows : ℕ) (R : Output) (last : Row) → rows ≡ length R.rows + 1
@@ -257,7 +262,7 @@ module _ (w : List ℕ) (p : Position) (frame : Frame) (cl : Closing w p frame) 
     out = [];
     held = λ before k. rw (append-nil before) k;
     same = λ F R C d on. rw (out_nil R) (same F R C d.deep on);
-    fitting = record { change = omega arith; handler = rw no_number tt; scope = rw no_number tt; deep = λ _. cl.depth; next = omega arith; nested = refl };
+    fitting = record { change = omega arith; handler = tt; scope = tt; deep = λ _. cl.depth; next = omega arith; nested = refl };
   })
     where
       same : (F : List machine.Frame) (R : Output) (C : definition.Context) → length (frame_of frame ∷ F) ≡ p.depth → C.visits ≡ p.visits
@@ -281,11 +286,11 @@ module _ (w : List ℕ) (p : Position) (frame : Frame) (cl : Closing w p frame) 
         fitting =
             record {
               change = named frame.entries h;
-              handler = rw no_number tt;
-              scope = rw no_number tt;
+              handler = tt;
+              scope = tt;
               deep = λ z. absurd (let o : ◌≡◌ {A = ℕ} 0 1 = cc in omega arith);
               next = omega arith;
-              nested = leave_nested (eqb frame.label 65535);
+              nested = leave_nested frame.label;
             };
       })
     where
@@ -307,5 +312,5 @@ module _ (w : List ℕ) (p : Position) (frame : Frame) (cl : Closing w p frame) 
             visits_same p.visits C on,
             within_rest p.depth (frame_of frame) F d.deep,
             s,
-            line_closed (enclosing_label (enclosing_by (terminal_at (table_of w) frame.block) (unless_none frame.label))) frame.first rows R (closing_row_at w frame) one,
+            line_closed (enclosing_label (enclosing_by (terminal_at (table_of w) frame.block) (maybe_of frame.label))) frame.first rows R (closing_row_at w frame) one,
           ))

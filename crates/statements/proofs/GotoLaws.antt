@@ -9,7 +9,6 @@ use mathlib.Core.Option.{Option, none, some}
 use Rattle.table.specs.declared.columns.Span.{Span}
 use Rattle.table.specs.Promise.{Ends, Heads}
 use Rattle.table.specs.Table.{Terminal, table_of, terminal_at, goto, Variant, Break, Continue, Try}
-use Rattle.table.proofs.BlockLaws.{no_number}
 use Rattle.definition.specs.Context.{Flags, get_break_target, get_continue_target}
 use Rattle.definition.specs.Context as definition
 use Rattle.machine.specs.Machine.{State, ended, turn, leave, terminal_turn}
@@ -24,7 +23,6 @@ use Rattle.definition.specs.Tree.{Statement}
 use Rattle.control.specs.declared.around.Goal as code
 use Rattle.control.specs.AroundAbstraction.{aim_of}
 use Rattle.statements.specs.declared.jump.Jumped.{Jumped}
-use Rattle.statements.specs.declared.refusal.Refusal.{Refusal}
 use Rattle.statements.specs.declared.refusal.Refused.{Refused}
 use Rattle.statements.specs.declared.plan.Position.{Position}
 use Rattle.statements.specs.declared.plan.Plan.{Plan}
@@ -33,7 +31,7 @@ use Rattle.statements.specs.Refusal.{refusal_code, refusal_place}
 use Rattle.statements.specs.Jumps.{JumpSeen, JumpMet, jumped_to, break_outcome, continue_outcome, after_jump, GotoSeen}
 use Rattle.statements.specs.Planned.{Planned, terminal_step_in}
 use Rattle.statements.specs.Turn.{Resolves}
-use Rattle.statements.proofs.PlanLaws.{within_all, visits_same, refuse_applied, leave_applied}
+use Rattle.statements.proofs.PlanLaws.{within_all, visits_same, refused_applied, leave_applied}
 use Rattle.statements.proofs.StepLaws.{turn_refused, turn_ok}
 use Rattle.statements.proofs.PlannedLaws.{step_in}
 
@@ -45,18 +43,23 @@ added_count : (s : Option Statement) (n : ℕ) → n + added s 0 ≡ added s n
 added_count none n = omega arith
 added_count (some s) n = omega arith
 
+-- a jump's plan, or its refusal
+abbrev pub jump_plan : Position → std.Result Jumped Refused → std.Result Plan Refused
+jump_plan p (Ok jumped) = Ok (after_jump p jumped)
+jump_plan p (Err e) = Err e
+
 pub jump_planned : (around : Around) (w : List ℕ) (p : Position) (On : definition.Context → Type 0) (outcome : definition.Context
-    → Result (Option Statement)) (O : Flags) (b : List ℕ) (jump : std.Result Jumped Refusal) (b' : List ℕ) (plan : std.Result Plan Refused)
+    → Result (Option Statement)) (O : Flags) (b : List ℕ) (jump : std.Result Jumped Refused) (b' : List ℕ) (plan : std.Result Plan Refused)
     → ((F : List machine.Frame) (R : Output) (C : definition.Context) → On C → terminal_step_in around w p F R C ≡ jump_step p outcome F R C) → ((C : definition.Context) → On C → JumpSeen O p.visits C)
-    → JumpMet outcome O p.visits p.rows b jump b' → plan ≡ after_jump p jump → Planned (terminal_step_in around w p) On [] p.depth p.rows b plan b'
+    → JumpMet outcome O p.visits p.rows b jump b' → plan ≡ jump_plan p jump → Planned (terminal_step_in around w p) On [] p.depth p.rows b plan b'
 unfolding ◌>>=◌
 jump_planned around w p On outcome O b jump b' plan step seen met e = subst (λ (z : std.Result Plan Refused). Planned (terminal_step_in around w p) On [] p.depth p.rows b z b') (sym e) (by jump met)
   where
-    stepped : (jump : std.Result Jumped Refusal) (met : JumpMet outcome O p.visits p.rows b jump b') (F : List machine.Frame) (R : Output) (C : definition.Context) → On C
-        → turn (terminal_step_in around w p F R C) ≡ turn (jumped_to jump met.statement p.visits >>= λ s. ok (ended F (R ⊕ jump_out s) (added s p.count) C))
+    stepped : (jump : std.Result Jumped Refused) (met : JumpMet outcome O p.visits p.rows b jump b') (F : List machine.Frame) (R : Output) (C : definition.Context) → On C
+        → turn (terminal_step_in around w p F R C) ≡ turn (jumped_to jump met.statement >>= λ s. ok (ended F (R ⊕ jump_out s) (added s p.count) C))
     stepped jump met F R C o = ap turn (step F R C o ∙ ap (λ (z : Result (Option Statement)). z >>= λ s. ok (ended F (R ⊕ jump_out s) (added s p.count) C)) (met.same C (seen C o)))
 
-    by : (jump : std.Result Jumped Refusal) (met : JumpMet outcome O p.visits p.rows b jump b') → Planned (terminal_step_in around w p) On [] p.depth p.rows b (after_jump p jump) b'
+    by : (jump : std.Result Jumped Refused) (met : JumpMet outcome O p.visits p.rows b jump b') → Planned (terminal_step_in around w p) On [] p.depth p.rows b (jump_plan p jump) b'
     by (Ok jumped) met =
         let counted : p.count + jumped.count ≡ added met.statement p.count = ap (λ (n : ℕ). p.count + n) met.count ∙ added_count met.statement p.count in
         record {
@@ -64,27 +67,27 @@ jump_planned around w p On outcome O b jump b' plan step seen met e = subst (λ 
           held = λ before h. met.held before h;
           same =
               λ F R C d o. stepped (Ok jumped) met F R C o ∙ turn_ok _
-              ∙ sym (leave_applied 65535 p.depth (p.count + jumped.count) jumped.rows p.visits None F (R ⊕ jump_out met.statement) C _ refl
-              ∙ rw (no_number, visits_same p.visits C (seen C o).visits, within_all p.depth F d.deep, counted));
-          fitting = record { change = tt; handler = rw no_number tt; scope = rw no_number tt; deep = λ z. absurd (let o : ◌≡◌ {A = ℕ} 0 1 = cc in omega arith); next = omega arith; nested = tt };
+              ∙ sym (leave_applied None p.depth (p.count + jumped.count) jumped.rows p.visits None F (R ⊕ jump_out met.statement) C _ refl
+              ∙ rw (visits_same p.visits C (seen C o).visits, within_all p.depth F d.deep, counted));
+          fitting = record { change = tt; handler = tt; scope = tt; deep = λ z. absurd (let o : ◌≡◌ {A = ℕ} 0 1 = cc in omega arith); next = omega arith; nested = tt };
         }
-    by (Err refusal) met = record {
+    by (Err e) met = record {
       out = [];
       held = tt;
       same =
-          λ F R C d o. stepped (Err refusal) met F R C o
-          ∙ turn_refused (refusal_code refusal) (refusal_place refusal) p.visits ∙ sym (refuse_applied p refusal F (R ⊕ []) C);
+          λ F R C d o. stepped (Err e) met F R C o
+          ∙ turn_refused (refusal_code e.refusal) (refusal_place e.refusal) e.visits ∙ sym (refused_applied e F (R ⊕ []) C);
       fitting = tt;
     }
 
-pub jump_count : (outcome : definition.Context → Result (Option Statement)) (O : Flags) (v n : ℕ) (b : List ℕ) (jump : std.Result Jumped Refusal) (b' : List ℕ)
+pub jump_count : (outcome : definition.Context → Result (Option Statement)) (O : Flags) (v n : ℕ) (b : List ℕ) (jump : std.Result Jumped Refused) (b' : List ℕ)
     → JumpMet outcome O v n b jump b' → IfOk jump (λ jumped. jumped.count ≤ 1)
 jump_count outcome O v n b (Ok jumped) b' met = rw met.count (low met.statement)
   where
     low : (s : Option Statement) → added s 0 ≤ 1
     low none = omega arith
     low (some s) = omega arith
-jump_count outcome O v n b (Err refusal) b' met = tt
+jump_count outcome O v n b (Err e) b' met = tt
 
 -- ---- the three variants
 
@@ -100,8 +103,8 @@ module _ {w : List ℕ} (p : Position) {variant : Variant} {to first count id : 
   found : (v : Variant) → variant ≡ v → (C : definition.Context) → GotoSeen w p O aim around C → Resolves (goto to v) around C (aim_of aim)
   found v e C o = subst (λ (z : Terminal). Resolves z around C (aim_of aim)) (variant_is v e) o.jump
 
-  pub goto_break : (b : List ℕ) (jump : std.Result Jumped Refusal) (b' : List ℕ) (plan : std.Result Plan Refused) → variant ≡ Break
-      → JumpMet (break_outcome p.block to id aim) O p.visits p.rows b jump b' → plan ≡ after_jump p jump
+  pub goto_break : (b : List ℕ) (jump : std.Result Jumped Refused) (b' : List ℕ) (plan : std.Result Plan Refused) → variant ≡ Break
+      → JumpMet (break_outcome p.block to id aim) O p.visits p.rows b jump b' → plan ≡ jump_plan p jump
       → Planned (terminal_step_in around w p) (GotoSeen w p O aim around) [] p.depth p.rows b plan b'
   unfolding terminal_turn visit_goto visit_break ◌>>=◌
   goto_break b jump b' plan v met e = jump_planned around w p (GotoSeen w p O aim around) (break_outcome p.block to id aim) O b jump b' plan
@@ -119,8 +122,8 @@ module _ {w : List ℕ} (p : Position) {variant : Variant} {to first count id : 
       moved F R C (ok s) = refl
       moved F R C (refused a c v) = refl
 
-  pub goto_continue : (b : List ℕ) (jump : std.Result Jumped Refusal) (b' : List ℕ) (plan : std.Result Plan Refused) → variant ≡ Continue
-      → JumpMet (continue_outcome p.block to id aim) O p.visits p.rows b jump b' → plan ≡ after_jump p jump
+  pub goto_continue : (b : List ℕ) (jump : std.Result Jumped Refused) (b' : List ℕ) (plan : std.Result Plan Refused) → variant ≡ Continue
+      → JumpMet (continue_outcome p.block to id aim) O p.visits p.rows b jump b' → plan ≡ jump_plan p jump
       → Planned (terminal_step_in around w p) (GotoSeen w p O aim around) [] p.depth p.rows b plan b'
   unfolding terminal_turn visit_goto visit_continue ◌>>=◌
   goto_continue b jump b' plan v met e = jump_planned around w p (GotoSeen w p O aim around) (continue_outcome p.block to id aim) O b jump b' plan
@@ -139,13 +142,13 @@ module _ {w : List ℕ} (p : Position) {variant : Variant} {to first count id : 
       moved F R C (ok s) = refl
       moved F R C (refused a c v) = refl
 
-  pub goto_try : (b : List ℕ) (plan : Plan) → variant ≡ Try → plan ≡ leaving 65535 p.depth p.count p.rows p.visits None
+  pub goto_try : (b : List ℕ) (plan : Plan) → variant ≡ Try → plan ≡ leaving None p.depth p.count p.rows p.visits None
       → Planned (terminal_step_in around w p) (GotoSeen w p O aim around) [] p.depth p.rows b (Ok plan) b
   unfolding terminal_turn visit_goto ◌>>=◌
   goto_try b plan v e = subst (λ (z : Plan). Planned (terminal_step_in around w p) (GotoSeen w p O aim around) [] p.depth p.rows b (Ok z) b) (sym e) (record {
     out = [];
     held = λ before h. rw (append-nil before) h;
     same = λ F R C d o. ap turn (step_in around w p _ F R C (variant_is Try v)) ∙ turn_ok _
-        ∙ sym (leave_applied 65535 p.depth p.count p.rows p.visits None F (R ⊕ []) C _ refl ∙ rw (no_number, visits_same p.visits C o.seen.visits, within_all p.depth F d.deep));
-    fitting = record { change = tt; handler = rw no_number tt; scope = rw no_number tt; deep = λ z. absurd (let o : ◌≡◌ {A = ℕ} 0 1 = cc in omega arith); next = omega arith; nested = tt };
+        ∙ sym (leave_applied None p.depth p.count p.rows p.visits None F (R ⊕ []) C _ refl ∙ rw (visits_same p.visits C o.seen.visits, within_all p.depth F d.deep));
+    fitting = record { change = tt; handler = tt; scope = tt; deep = λ z. absurd (let o : ◌≡◌ {A = ℕ} 0 1 = cc in omega arith); next = omega arith; nested = tt };
   })

@@ -1,5 +1,4 @@
 -- Loops and value statements: values made one after another, the turn that all loops share, and what their plans come to.
-use Rattle.std.specs.Prelude.{None, Some, IfOk}
 use Prim.Native.Nat.{ℕ, zero, suc, ◌+◌, ◌-◌, ◌≤◌, ◌<◌}
 use native.Mathlib.Numerals.{add-one}
 use native.Mathlib.Omega.{arith}
@@ -12,12 +11,18 @@ use lib.ListN.{length}
 use borrow.Author.Tests.{ne_eqb}
 use Rattle.table.specs.declared.columns.Span.{Span}
 use Rattle.table.specs.Columns.{maybe_of}
-use Rattle.table.specs.Words.{block_count, place_count, case_count, block_word, code_at}
-use Rattle.table.specs.Promise.{InRange, BelowUnlessNone, Ends}
+use Rattle.table.specs.Words.{block_count, place_count, case_count}
+use Rattle.table.specs.Promise.{Promise, InRange, BelowUnlessNone, Ends}
+use Rattle.table.specs.declared.terminals.Terminal.{Terminal as Ending}
+use Rattle.table.specs.declared.terminals.Terminal.TheVariants as ends
+use Rattle.table.specs.declared.terminals.While.{While}
+use Rattle.table.specs.declared.terminals.For.{For}
+use Rattle.table.specs.declared.terminals.ForOf.{ForOf}
+use Rattle.table.specs.declared.terminals.ForIn.{ForIn}
+use Rattle.table.specs.Ending.{ending}
 use Rattle.table.specs.Table.{Table, Block, Terminal, absent, unreachable, throw, return, goto, if, branch, switch, do_while, while, for, for_of, for_in}
-use Rattle.table.specs.Table.{logical, ternary, optional, label, sequence, maybe_throw, try, scope, code_of, table_of, terminal_at, block_at, unless_none}
+use Rattle.table.specs.Table.{logical, ternary, optional, label, sequence, maybe_throw, try, scope, table_of, terminal_at, block_at}
 use Rattle.table.proofs.RangeLaws.{in_range_lem}
-use Rattle.table.proofs.BlockLaws.{no_number, some_number, code_at_lem}
 use Rattle.definition.proofs.Steps.{true_false}
 use Rattle.machine.proofs.Simulation.{bind_assoc}
 use Rattle.definition.proofs.Lines.{out_nil, out_assoc}
@@ -47,18 +52,20 @@ use Rattle.statements.specs.declared.plan.Position.{Position}
 use Rattle.statements.specs.declared.plan.Frame.{Frame}
 use Rattle.statements.specs.declared.plan.Change.TheVariants.{Schedule}
 use Rattle.statements.specs.declared.plan.Plan.{Plan}
-use Rattle.statements.specs.declared.refusal.Refusal.TheVariants.{MissingBlock, LoopScheduled}
+use Rattle.statements.specs.declared.refusal.Refusal.TheVariants.{LoopScheduled}
 use Rattle.statements.specs.declared.refusal.Refused as walk
+use Rattle.statements.specs.Refusal.{refused_after}
 use Rattle.statements.specs.declared.loop_parts.Loop as loops
 use Rattle.control.specs.declared.ControlFlowTarget.TheVariants.{Loop}
-use Rattle.statements.specs.Plans.{frame_of, applied, open_frame, refusing, leaving, unless_taken, entries_if, schedule_if, unschedule_if}
-use Rattle.statements.specs.Planned.{Seen, Stands, NamedChange, Fitting, PlannedBare, Entered, nowhere, terminal_step}
+use Rattle.statements.specs.Plans.{frame_of, applied, open_frame, leaving, unless_taken, entries_if, schedule_if, unschedule_if}
+use Rattle.statements.specs.Planned.{Seen, Stands, Reaches, NamedChange, Fitting, PlannedBare, Entered, nowhere, terminal_step}
 use Rattle.statements.specs.Loops.{Made, plain_made, flat_made, tested_values, for_values, for_of_values, none_made, value_made, plain_form, flat_form}
 use Rattle.statements.specs.Loops.{update_made, made_by, values_at, values_position, Making, values_step, PlannedValues, tally_of, Makes, Spent, MakesMore, MakesTested}
-use Rattle.statements.specs.Loops.{after_values, refusing_value, scheduling_loop, scheduling_value, entering_body, loop_taken, value_code, value_fallthrough}
-use Rattle.statements.proofs.PlanLaws.{within_all, within_rest, visits_same, refuse_applied, leave_applied, leave_nested, nest_applied, values_asked, off_changed, Label, label_taken, label_below, label_entries, label_if}
+use Rattle.statements.specs.Loops.{refusing_value, scheduling_loop, scheduling_value, entering_body, loop_taken, is_value, value_fallthrough}
+use Rattle.statements.proofs.PlanLaws.{within_all, within_rest, visits_same, refused_applied, leave_applied, leave_nested, nest_applied, values_asked, off_changed, Label, label_taken, label_entries, label_if}
 use Rattle.statements.proofs.StepLaws.{label_scheduled, seen_scheduled, turn_refused, turn_ok, turn_asked}
 use Rattle.statements.proofs.RefusalLaws.{refusal_planned}
+use Rattle.statements.proofs.VisitLaws.{named_if}
 use Rattle.statements.proofs.PlannedLaws.{bare_planned, step_by, few_blocks, reach_same, reached_missing, Takes}
 
 no_some : {f : ℕ} → ◌≡◌ {A = Option ℕ} none (some f) → ⊥
@@ -149,19 +156,19 @@ loop_taken_lem : (S H : Flags) (v : ℕ) (C : definition.Context) → Seen S H v
 unfolding loop_is_taken
 loop_taken_lem S H v C seen f l = ap (λ (z : Bool). z || eqb l f) (seen_scheduled S H v C seen l) ∙ or_swap (has S l || has H l) (eqb l f)
 
-body_is : (taken : Bool) (l : ℕ) → l < 1024 → body_unless taken l ≡ unless_none (unless_taken taken l)
-body_is true l h = sym no_number
-body_is false l h = sym (some_number l (λ e. omega arith))
+body_is : (taken : Bool) (l : ℕ) → body_unless taken l ≡ maybe_of (unless_taken taken l)
+body_is true l = refl
+body_is false l = refl
 
-abbrev blocks_of : (f n c l : ℕ) → loops.Loop
+abbrev blocks_of : (f : ℕ) → (n : std.Option ℕ) → (c l : ℕ) → loops.Loop
 blocks_of f n c l = record { fallthrough = f; label = n; continue_block = c; loop_block = l }
 
-schedules : (S H : Flags) (p : Position) (f c l n : ℕ) (F : List machine.Frame) (R : Output) (C : definition.Context) → Seen S H p.visits C → Stands F R p.depth p.rows → l < 1024
-    → turn (schedule_loop p.block f c l (unless_none n) F R p.count C) ≡ applied (Ok (scheduling_loop (loop_taken S H l f) p (blocks_of f n c l))) F R C
+schedules : (S H : Flags) (p : Position) (f c l : ℕ) (n : std.Option ℕ) (F : List machine.Frame) (R : Output) (C : definition.Context) → Seen S H p.visits C → Stands F R p.depth p.rows
+    → turn (schedule_loop p.block f c l (maybe_of n) F R p.count C) ≡ applied (Ok (scheduling_loop (loop_taken S H l f) p (blocks_of f n c l))) F R C
 unfolding schedule_loop
-schedules S H p f c l n F R C seen d h =
-    turn_asked (schedule (target_loop f c l) C) (making (body_unless (loop_is_taken C l f) l) (machine.frame_of p.block (unless_none n) 1 R p.count) F R)
-    ∙ rw (loop_taken_lem S H p.visits C seen f l, body_is (loop_taken S H l f) l h)
+schedules S H p f c l n F R C seen d =
+    turn_asked (schedule (target_loop f c l) C) (making (body_unless (loop_is_taken C l f) l) (machine.frame_of p.block (maybe_of n) 1 R p.count) F R)
+    ∙ rw (loop_taken_lem S H p.visits C seen f l, body_is (loop_taken S H l f) l)
     (sym (values_asked (unless_taken (loop_taken S H l f) l) (open_frame p n 1) (p.depth + 1) p.rows p.visits (Some (Schedule (Loop f c l))) F R C
     ∙ rw (visits_same p.visits C seen.visits, d.many, within_all (p.depth + 1 - 1) F (omega (arith, d.deep)))))
 
@@ -219,18 +226,18 @@ module _ (w : List ℕ) (S H : Flags) (p : Position) (en : Entered w p) where
   visit = visit_value_block (table_of w) (127 - p.depth)
 
   -- the block's turn schedules a loop with these blocks and this label
-  abbrev Turns : (f c l n : ℕ) → Type 0
+  abbrev Turns : (f c l : ℕ) → (n : std.Option ℕ) → Type 0
   Turns f c l n = (F : List machine.Frame) (R : Output) (C : definition.Context) → Seen S H p.visits C
-      → turn (terminal_step w p F R C) ≡ turn (schedule_loop p.block f c l (unless_none n) F R p.count C)
+      → turn (terminal_step w p F R C) ≡ turn (schedule_loop p.block f c l (maybe_of n) F R p.count C)
 
-  loop_planned : (f c l n : ℕ) (plan : Plan) → Turns f c l n → (f < block_count w) × (c < block_count w) × (l < block_count w) → plan ≡ scheduling_loop (loop_taken S H l f) p (blocks_of f n c l)
+  loop_planned : (f c l : ℕ) (n : std.Option ℕ) (plan : Plan) → Turns f c l n → block_count w ≤ 1024 → (f < block_count w) × (c < block_count w) × (l < block_count w) → plan ≡ scheduling_loop (loop_taken S H l f) p (blocks_of f n c l)
       → PlannedBare w S H p (Ok plan)
-  loop_planned f c l n plan turns h q = subst (λ (z : Plan). PlannedBare w S H p (Ok z)) (sym q)
+  loop_planned f c l n plan turns few h q = subst (λ (z : Plan). PlannedBare w S H p (Ok z)) (sym q)
       (bare_planned w S H p (Ok (scheduling_loop (loop_taken S H l f) p (blocks_of f n c l))) refl
-      (λ F R C d seen. turns F R C seen ∙ schedules S H p f c l n F R C seen d (few_blocks w en.promise l h.2)) (record {
-        change = (few_blocks w en.promise f h.0, few_blocks w en.promise c h.1, few_blocks w en.promise l h.2);
-        handler = rw no_number tt;
-        scope = rw no_number tt;
+      (λ F R C d seen. turns F R C seen ∙ schedules S H p f c l n F R C seen d) (record {
+        change = (few_blocks w few f h.0, few_blocks w few c h.1, few_blocks w few l h.2);
+        handler = tt;
+        scope = tt;
         deep = λ _. omega arith;
         next = omega arith;
         nested = refl;
@@ -244,10 +251,10 @@ module _ (w : List ℕ) (S H : Flags) (p : Position) (en : Entered w p) where
   Loops e f c l = (F : List machine.Frame) (R : Output) (C : definition.Context)
       → terminal_turn nowhere (table_of w) visit e p.block (block_at (table_of w) p.block) F R p.count C ≡ schedule_loop p.block f c l (unless_scheduled C f) F R p.count C
 
-  turns : (e : Terminal) (f c l n : ℕ) → Is e → Loops e f c l → f < block_count w → Takes S H f n → Turns f c l n
-  turns e f c l n q loops h o F R C seen = ap turn (step_by w p e F R C q ∙ loops F R C)
+  turns : (e : Terminal) (f c l : ℕ) (n : std.Option ℕ) → Is e → Loops e f c l → Takes S H f n → Turns f c l n
+  turns e f c l n q loops o F R C seen = ap turn (step_by w p e F R C q ∙ loops F R C)
       ∙ ap (λ (z : Option ℕ). turn (schedule_loop p.block f c l z F R p.count C))
-      (label_scheduled w en.promise S H p.visits C seen f (few_blocks w en.promise f h) ∙ ap unless_none (sym o))
+      (label_scheduled S H p.visits C seen f ∙ ap maybe_of (sym o))
 
   -- While asks first whether its fallthrough is reachable
   while_asks : (c l f : ℕ) (F : List machine.Frame) (R : Output) (C : definition.Context)
@@ -275,46 +282,46 @@ module _ {w : List ℕ} {block init test : ℕ} (update : std.Option ℕ) {l f :
 
 -- ---- what the loops' code returns. A premise is a contract's own words or a test's, so that `search` finds it among what the code has bound
 
-abbrev Schedules : Flags → Flags → Position → Plan → (f n c l : ℕ) → Type 0
+abbrev Schedules : Flags → Flags → Position → Plan → (f : ℕ) → (n : std.Option ℕ) → (c l : ℕ) → Type 0
 Schedules S H p plan f n c l = plan ≡ scheduling_loop (loop_taken S H l f) p (blocks_of f n c l)
 
 module _ {w : List ℕ} {S H : Flags} {p : Position} (en : Entered w p) where
-  pub do_while_scheduled : {l c f n : ℕ} {plan : Plan} → Ends w p.block (do_while l c f) → Takes S H f n → Schedules S H p plan f n c l → PlannedBare w S H p (Ok plan)
+  pub do_while_scheduled : {l c f : ℕ} {n : std.Option ℕ} {plan : Plan} → Ends w p.block (do_while l c f) → Takes S H f n → Schedules S H p plan f n c l → PlannedBare w S H p (Ok plan)
   unfolding terminal_turn
   do_while_scheduled {l} {c} {f} {n} {plan} ends o q =
-      loop_planned w S H p en f c l n plan (turns w S H p en (do_while l c f) f c l n ends.is (λ F R C. refl) ends.named.2 o) (ends.named.2, ends.named.1, ends.named.0) q
+      loop_planned w S H p en f c l n plan (turns w S H p en (do_while l c f) f c l n ends.is (λ F R C. refl) o) ends.few (ends.named.2, ends.named.1, ends.named.0) q
 
-  module _ {c l f kind : ℕ} (ends : Ends w p.block (while c l f)) (reached : kind ≡ block_word w f 2) where
-    pub while_missing : {plan : std.Result Plan walk.Refused} → kind ≡ 0 → plan ≡ refusing p (MissingBlock f) → PlannedBare w S H p plan
-    while_missing {plan} z q =
+  module _ {c l f : ℕ} (ends : Ends w p.block (while c l f)) where
+    pub while_missing : {e : walk.Refused} {plan : std.Result Plan walk.Refused} → Reaches w S H p f (Err e) → plan ≡ Err e → PlannedBare w S H p plan
+    while_missing {plan = plan} z q =
         reached_missing w S H p en (while c l f) f (λ F R C taken. schedule_loop p.block f c l taken F R p.count C) ends (while_asks w S H p en c l f)
-        ends.named.2 plan (sym reached ∙ z) q
+        ends.named.2 plan z.0 (q ∙ ap Err z.1)
 
-    pub while_scheduled : {n : ℕ} {plan : Plan} → (kind ≡ 0 → ⊥) → n ≡ unless_taken (eqb (block_word w f 2) 1 || (has S f || has H f)) f → Schedules S H p plan f n c l → PlannedBare w S H p (Ok plan)
-    while_scheduled {n} {plan} z o q =
+    pub while_scheduled : {n : std.Option ℕ} {plan : Plan} → Reaches w S H p f (Ok n) → Schedules S H p plan f n c l → PlannedBare w S H p (Ok plan)
+    while_scheduled {n} {plan} z q =
         loop_planned w S H p en f c l n plan
         (λ F R C seen. ap turn (step_by w p (while c l f) F R C ends.is ∙ while_asks w S H p en c l f F R C)
-        ∙ reach_same w S H p en.promise f n ends.named.2 (few_blocks w en.promise f ends.named.2) (λ y. z (reached ∙ y)) o
-        (λ taken. schedule_loop p.block f c l taken F R p.count C) C seen) (ends.named.2, ends.named.0, ends.named.1) q
+        ∙ reach_same w S H p f n z.0 z.1
+        (λ taken. schedule_loop p.block f c l taken F R p.count C) C seen) ends.few (ends.named.2, ends.named.0, ends.named.1) q
 
-  pub for_scheduled : {init test : ℕ} (update : std.Option ℕ) {l f c n : ℕ} {plan : Plan} → Ends w p.block (for init test (maybe_of update) l f) → c ≡ unwrap_or update test → Takes S H f n
+  pub for_scheduled : {init test : ℕ} (update : std.Option ℕ) {l f c : ℕ} {n : std.Option ℕ} {plan : Plan} → Ends w p.block (for init test (maybe_of update) l f) → c ≡ unwrap_or update test → Takes S H f n
       → Schedules S H p plan f n c l → PlannedBare w S H p (Ok plan)
   unfolding terminal_turn
   for_scheduled {init} {test} update {l} {f} {c} {n} {plan} ends continues o q =
       loop_planned w S H p en f c l n plan
       (turns w S H p en (for init test (maybe_of update) l f) f c l n ends.is
-      (λ F R C. ap (λ (k : ℕ). schedule_loop p.block f k l (unless_scheduled C f) F R p.count C) (continue_is test update ∙ sym continues)) ends.named.4 o)
-      (ends.named.4, continues_below update ends continues, ends.named.3) q
+      (λ F R C. ap (λ (k : ℕ). schedule_loop p.block f k l (unless_scheduled C f) F R p.count C) (continue_is test update ∙ sym continues)) o)
+      ends.few (ends.named.4, continues_below update ends continues, ends.named.3) q
 
-  pub for_of_scheduled : {c test l f n : ℕ} {plan : Plan} → Ends w p.block (for_of c test l f) → Takes S H f n → Schedules S H p plan f n c l → PlannedBare w S H p (Ok plan)
+  pub for_of_scheduled : {c test l f : ℕ} {n : std.Option ℕ} {plan : Plan} → Ends w p.block (for_of c test l f) → Takes S H f n → Schedules S H p plan f n c l → PlannedBare w S H p (Ok plan)
   unfolding terminal_turn
   for_of_scheduled {c} {test} {l} {f} {n} {plan} ends o q =
-      loop_planned w S H p en f c l n plan (turns w S H p en (for_of c test l f) f c l n ends.is (λ F R C. refl) ends.named.3 o) (ends.named.3, ends.named.0, ends.named.2) q
+      loop_planned w S H p en f c l n plan (turns w S H p en (for_of c test l f) f c l n ends.is (λ F R C. refl) o) ends.few (ends.named.3, ends.named.0, ends.named.2) q
 
-  pub for_in_scheduled : {c l f n : ℕ} {plan : Plan} → Ends w p.block (for_in c l f) → Takes S H f n → Schedules S H p plan f n c l → PlannedBare w S H p (Ok plan)
+  pub for_in_scheduled : {c l f : ℕ} {n : std.Option ℕ} {plan : Plan} → Ends w p.block (for_in c l f) → Takes S H f n → Schedules S H p plan f n c l → PlannedBare w S H p (Ok plan)
   unfolding terminal_turn
   for_in_scheduled {c} {l} {f} {n} {plan} ends o q =
-      loop_planned w S H p en f c l n plan (turns w S H p en (for_in c l f) f c l n ends.is (λ F R C. refl) ends.named.2 o) (ends.named.2, ends.named.0, ends.named.1) q
+      loop_planned w S H p en f c l n plan (turns w S H p en (for_in c l f) f c l n ends.is (λ F R C. refl) o) ends.few (ends.named.2, ends.named.0, ends.named.1) q
 
 -- ---- its values are made
 
@@ -327,7 +334,7 @@ module _ (t : Table) (visit : VisitValueBlock) (block : Block) (body : Option �
   unfolding ◌>>=◌
   nothing_made = rw (out_nil R)
 
-  pub values_made : (e : Terminal) → value_code (code_of e) ≡ false → make_at t visit e block body fr F R C ≡ made_by t visit e block.span (none_made C.visits) >>= k
+  pub values_made : (e : Terminal) → is_value e ≡ false → make_at t visit e block body fr F R C ≡ made_by t visit e block.span (none_made C.visits) >>= k
   unfolding make_at
   values_made absent z = nothing_made
   values_made unreachable z = nothing_made
@@ -369,7 +376,7 @@ module _ (t : Table) (visit : VisitValueBlock) (block : Block) (body : Option �
   values_made (scope pruned inner fallthrough number) z = nothing_made
 
   -- a value statement's turn is that of its value
-  pub statement_made : (e : Terminal) → value_code (code_of e) ≡ true → make_at t visit e block body fr F R C ≡ value_at t visit e block fr F R C
+  pub statement_made : (e : Terminal) → is_value e ≡ true → make_at t visit e block body fr F R C ≡ value_at t visit e block fr F R C
   unfolding make_at
   statement_made absent z = absurd (true_false (sym z))
   statement_made unreachable z = absurd (true_false (sym z))
@@ -394,36 +401,37 @@ module _ (t : Table) (visit : VisitValueBlock) (block : Block) (body : Option �
   statement_made (scope true inner fallthrough number) z = absurd (true_false (sym z))
   statement_made (scope false inner fallthrough number) z = absurd (true_false (sym z))
 
--- none of these codes: no value comes before the body
-abbrev pub NoValues : ℕ → Type 0
-NoValues code = (code ≡ 9 → ⊥) × (code ≡ 10 → ⊥) × (code ≡ 11 → ⊥) × (code ≡ 12 → ⊥)
+-- none of these: no value comes before the body
+abbrev pub NoValues : Ending → Type 0
+NoValues e = ((x : While) → e ≡ ends.While x → ⊥) × ((x : For) → e ≡ ends.For x → ⊥) × ((x : ForOf) → e ≡ ends.ForOf x → ⊥) × ((x : ForIn) → e ≡ ends.ForIn x → ⊥)
 
-none_before : (t : Table) (visit : VisitValueBlock) (e : Terminal) (span : Span) (made : Made) → NoValues (code_of e) → made_by t visit e span made ≡ ok made
-none_before t walk absent span made h = refl
-none_before t walk unreachable span made h = refl
-none_before t walk (throw value) span made h = refl
-none_before t walk (return value) span made h = refl
-none_before t walk (goto target variant) span made h = refl
-none_before t walk (if test consequent alternate fallthrough) span made h = refl
-none_before t walk (branch test consequent alternate) span made h = refl
-none_before t walk (switch test first number fallthrough) span made h = refl
-none_before t walk (do_while loop test fallthrough) span made h = refl
-none_before t walk (while test loop fallthrough) span made h = absurd (h.0 refl)
-none_before t walk (for init test update loop fallthrough) span made h = absurd (h.1 refl)
-none_before t walk (for_of init test loop fallthrough) span made h = absurd (h.2 refl)
-none_before t walk (for_in init loop fallthrough) span made h = absurd (h.3 refl)
-none_before t walk (logical operator test fallthrough) span made h = refl
-none_before t walk (ternary test fallthrough) span made h = refl
-none_before t walk (optional chain test fallthrough) span made h = refl
-none_before t walk (label inner fallthrough) span made h = refl
-none_before t walk (sequence inner fallthrough) span made h = refl
-none_before t walk (maybe_throw continuation) span made h = refl
-none_before t walk (try inner handler fallthrough binding) span made h = refl
-none_before t walk (scope pruned inner fallthrough number) span made h = refl
+none_before : (t : Table) (visit : VisitValueBlock) (e : Ending) (span : Span) (made : Made) → NoValues e → made_by t visit (ending e) span made ≡ ok made
+none_before t walk ends.Absent span made h = refl
+none_before t walk ends.Unreachable span made h = refl
+none_before t walk (ends.Throw x) span made h = refl
+none_before t walk (ends.Return x) span made h = refl
+none_before t walk (ends.Goto x) span made h = refl
+none_before t walk (ends.If x) span made h = refl
+none_before t walk (ends.Branch x) span made h = refl
+none_before t walk (ends.Switch x) span made h = refl
+none_before t walk (ends.DoWhile x) span made h = refl
+none_before t walk (ends.While x) span made h = absurd (h.0 x refl)
+none_before t walk (ends.For x) span made h = absurd (h.1 x refl)
+none_before t walk (ends.ForOf x) span made h = absurd (h.2 x refl)
+none_before t walk (ends.ForIn x) span made h = absurd (h.3 x refl)
+none_before t walk (ends.Logical x) span made h = refl
+none_before t walk (ends.Ternary x) span made h = refl
+none_before t walk (ends.Optional x) span made h = refl
+none_before t walk (ends.Label x) span made h = refl
+none_before t walk (ends.Sequence x) span made h = refl
+none_before t walk (ends.MaybeThrow x) span made h = refl
+none_before t walk (ends.Try x) span made h = refl
+none_before t walk (ends.Scope x) span made h = refl
+none_before t walk (ends.PrunedScope x) span made h = refl
 
 -- what `loop_values` makes
 module _ {w : List ℕ} {q : Position} (en : Entered w q) {b b' : List ℕ} {r : std.Result Tally Refused} where
-  by_terminal : (e : Terminal) → terminal_at (table_of w) q.block ≡ e
+  pub by_terminal : (e : Terminal) → terminal_at (table_of w) q.block ≡ e
       → Makes q (made_by (table_of w) (visit_value_block (table_of w) (127 - q.depth)) e (block_at (table_of w) q.block).span (none_made q.visits)) b r b' → Makes q (values_at w q) b r b'
   by_terminal e is m = subst (λ (z : Terminal). Makes q (made_by (table_of w) (visit_value_block (table_of w) (127 - q.depth)) z (block_at (table_of w) q.block).span (none_made q.visits)) b r b') (sym is) m
 
@@ -433,65 +441,59 @@ module _ {w : List ℕ} {q : Position} (en : Entered w q) {b b' : List ℕ} {r :
   pub for_in_made : {init l f : ℕ} {before : Tally} → Ends w q.block (for_in init l f) → before ≡ tally_of q → MakesMore q (flat_made w q init) before b r b' → Makes q (values_at w q) b r b'
   for_in_made ends start m = by_terminal _ ends.is (first_made _ start m)
 
-pub none_made_lem : {w : List ℕ} {q : Position} (en : Entered w q) {b : List ℕ} {before : Tally} → NoValues (code_at w q.block) → before ≡ tally_of q → Makes q (values_at w q) b (Ok before) b
-none_made_lem {w} {q} en {b} {before} h start =
+pub none_made_lem : {w : List ℕ} {q : Position} {b : List ℕ} {before : Tally} (e : Ending) → Ends w q.block (ending e) → NoValues e → before ≡ tally_of q → Makes q (values_at w q) b (Ok before) b
+none_made_lem {w} {q} {b} {before} e is h start =
     rw start (subst (λ (z : Result Made). Makes q z b (Ok (tally_of q)) b)
-    (sym (none_before (table_of w) (visit_value_block (table_of w) (127 - q.depth)) (terminal_at (table_of w) q.block) (block_at (table_of w) q.block).span (none_made q.visits)
-    (subst NoValues (sym (code_at_lem w q.block en.promise en.block)) h))) (start_made q b))
+    (sym (ap (λ (z : Terminal). made_by (table_of w) (visit_value_block (table_of w) (127 - q.depth)) z (block_at (table_of w) q.block).span (none_made q.visits)) is.is
+    ∙ none_before (table_of w) (visit_value_block (table_of w) (127 - q.depth)) e (block_at (table_of w) q.block).span (none_made q.visits) h)) (start_made q b))
 
 -- ---- the turn of a loop that is scheduled
 
 module _ (w : List ℕ) (p : Position) (frame : Frame) (ma : Making w p frame) where
-  coded : (y : Bool) → value_code (code_at w frame.block) ≡ y → value_code (code_of (terminal_at (table_of w) frame.block)) ≡ y
-  coded y e = ap value_code (code_at_lem w frame.block ma.promise ma.block) ∙ e
+  module _ (looped : is_value (terminal_at (table_of w) frame.block) ≡ false) where
+    on : (body : std.Option ℕ) → List machine.Frame → Output → definition.Context → Made → Result State
+    on body F R C made = into_body (maybe_of body) made.visits (frame_of frame) F (R ⊕ made.out) C
 
-  module _ (looped : value_code (code_at w frame.block) ≡ false) where
-    on : List machine.Frame → Output → definition.Context → Made → Result State
-    on F R C made = into_body (unless_none p.block) made.visits (frame_of frame) F (R ⊕ made.out) C
-
-    step_is : (F : List machine.Frame) (R : Output) (C : definition.Context) → C.visits ≡ p.visits → values_step w p frame F R C ≡ values_at w (values_position p frame) >>= on F R C
+    step_is : (body : std.Option ℕ) (F : List machine.Frame) (R : Output) (C : definition.Context) → C.visits ≡ p.visits → values_step w p body frame F R C ≡ values_at w (values_position p frame) >>= on body F R C
     unfolding on
-    step_is F R C v =
+    step_is body F R C v =
         let e : 128 - p.depth ≡ 127 - (p.depth - 1) = omega (arith, ma.depth, ma.deep) in
-        values_made (table_of w) (visit_value_block (table_of w) (128 - p.depth)) (block_at (table_of w) frame.block) (unless_none p.block) (frame_of frame) F R C (terminal_at (table_of w) frame.block) (coded false looped)
+        values_made (table_of w) (visit_value_block (table_of w) (128 - p.depth)) (block_at (table_of w) frame.block) (maybe_of body) (frame_of frame) F R C (terminal_at (table_of w) frame.block) looped
         ∙ rw (e, v)
 
-    pub values_refused : {b b' : List ℕ} {e : Refused} {plan : std.Result Plan walk.Refused} → Makes (values_position p frame) (values_at w (values_position p frame)) b (Err e) b' → plan ≡ refusing_value e → PlannedValues w p frame b plan b'
-    values_refused {e} m q = refusal_planned e q (λ F R C v. step_is F R C v ∙ made_off m (on F R C))
+    pub values_refused : (body : std.Option ℕ) {b b' : List ℕ} {e : Refused} {plan : std.Result Plan walk.Refused} → Makes (values_position p frame) (values_at w (values_position p frame)) b (Err e) b' → plan ≡ refusing_value e → PlannedValues w p body frame b plan b'
+    values_refused body {e = e} m q = refusal_planned e q (λ F R C v. step_is body F R C v ∙ made_off m (on body F R C))
 
     module _ {b b' : List ℕ} (r : Tally) (m : Makes (values_position p frame) (values_at w (values_position p frame)) b (Ok r) b') where
-      abbrev E : Bool → std.Result Plan walk.Refused
-      E z = entering_body z p r frame
+      abbrev E : std.Option ℕ → std.Result Plan walk.Refused
+      E body = entering_body body p r frame
 
-      body_same : (F : List machine.Frame) (out : Output) (C : definition.Context) → suc (length F) ≡ p.depth
-          → turn (into_body (unless_none p.block) r.visits (frame_of frame) F out C) ≡ applied (E (eqb p.block 65535)) (frame_of frame ∷ F) out C
-      unfolding unless_none
-      body_same F out C d = by (eqb p.block 65535)
-        where
-          by : (z : Bool) → turn (into_body (elim z [ true ↦ none | false ↦ some p.block ]) r.visits (frame_of frame) F out C) ≡ applied (E z) (frame_of frame ∷ F) out C
-          by true = unfold into_body in turn_refused 16 frame.block r.visits ∙ sym (refuse_applied (after_values p r) (LoopScheduled frame.block) (frame_of frame ∷ F) out C)
-          by false = unfold into_body in turn_ok _
-              ∙ sym (nest_applied p.block frame p.depth r.rows r.visits 65535 65535 None (frame_of frame ∷ F) out C _ refl ∙ rw (within_rest p.depth (frame_of frame) F d))
+      body_same : (body : std.Option ℕ) (F : List machine.Frame) (out : Output) (C : definition.Context) → suc (length F) ≡ p.depth
+          → turn (into_body (maybe_of body) r.visits (frame_of frame) F out C) ≡ applied (E body) (frame_of frame ∷ F) out C
+      unfolding into_body
+      body_same None F out C d = turn_refused 16 frame.block r.visits ∙ sym (refused_applied (refused_after (LoopScheduled frame.block) r.visits) (frame_of frame ∷ F) out C)
+      body_same (Some block) F out C d = turn_ok _
+          ∙ sym (nest_applied block frame p.depth r.rows r.visits None None None (frame_of frame ∷ F) out C _ refl ∙ rw (within_rest p.depth (frame_of frame) F d))
 
-      same : (F : List machine.Frame) (R : Output) (C : definition.Context) → Stands (frame_of frame ∷ F) R p.depth p.rows → C.visits ≡ p.visits
-          → turn (values_step w p frame F R C) ≡ applied (E (eqb p.block 65535)) (frame_of frame ∷ F) (R ⊕ m.out) C
-      same F R C d v = ap turn (step_is F R C v ∙ made_on m (on F R C)) ∙ unfold on in body_same F (R ⊕ m.out) C d.deep
+      same : (body : std.Option ℕ) (F : List machine.Frame) (R : Output) (C : definition.Context) → Stands (frame_of frame ∷ F) R p.depth p.rows → C.visits ≡ p.visits
+          → turn (values_step w p body frame F R C) ≡ applied (E body) (frame_of frame ∷ F) (R ⊕ m.out) C
+      same body F R C d v = ap turn (step_is body F R C v ∙ made_on m (on body F R C)) ∙ unfold on in body_same body F (R ⊕ m.out) C d.deep
 
-      pub values_planned : (plan : std.Result Plan walk.Refused) → plan ≡ E (eqb p.block 65535) → PlannedValues w p frame b plan b'
-      values_planned plan q = subst (λ (z : std.Result Plan walk.Refused). PlannedValues w p frame b z b') (sym q) (record {
+      pub values_planned : (body : std.Option ℕ) (plan : std.Result Plan walk.Refused) → plan ≡ E body → PlannedValues w p body frame b plan b'
+      values_planned body plan q = subst (λ (z : std.Result Plan walk.Refused). PlannedValues w p body frame b z b') (sym q) (record {
         out = m.out;
-        held = held (eqb p.block 65535);
-        same = same;
-        fitting = fits (eqb p.block 65535);
+        held = held body;
+        same = same body;
+        fitting = fits body;
       })
         where
-          held : (z : Bool) → IfOk (E z) (λ y. (R : List Row) → Holds b p.rows (stack.pushed R []) → Holds b' y.position.rows (stack.pushed (R ++ m.out) []))
-          held true = tt
-          held false = m.held
+          held : (body : std.Option ℕ) → IfOk (E body) (λ y. (R : List Row) → Holds b p.rows (stack.pushed R []) → Holds b' y.position.rows (stack.pushed (R ++ m.out) []))
+          held None = tt
+          held (Some block) = m.held
 
-          fits : (z : Bool) → IfOk (E z) (λ y. Fitting (frame_of frame ∷ []) p.depth y)
-          fits true = tt
-          fits false = record { change = tt; handler = rw no_number tt; scope = rw no_number tt; deep = λ _. ma.depth; next = omega arith; nested = tt }
+          fits : (body : std.Option ℕ) → IfOk (E body) (λ y. Fitting (frame_of frame ∷ []) p.depth y)
+          fits None = tt
+          fits (Some block) = record { change = tt; handler = tt; scope = tt; deep = λ _. ma.depth; next = omega arith; nested = tt }
 
 -- ---- value statements
 
@@ -541,43 +543,39 @@ value_terminal (maybe_throw continuation) f q = absurd (no_some q)
 value_terminal (try body handler fallthrough binding) f q = absurd (no_some q)
 value_terminal (scope pruned body fallthrough number) f q = absurd (no_some q)
 
-module _ {w : List ℕ} {p : Position} (en : Entered w p) {f : ℕ} (q : value_fallthrough (terminal_at (table_of w) p.block) ≡ some f) where
+module _ {w : List ℕ} {p : Position} (pr : Promise w) (en : Entered w p) {f : ℕ} (q : value_fallthrough (terminal_at (table_of w) p.block) ≡ some f) where
   pub fallthrough_few : f < 1024
   fallthrough_few =
-      few_blocks w en.promise f
-      ((value_terminal (terminal_at (table_of w) p.block) f q).below (block_count w) (place_count w) (case_count w) (in_range_lem w en.promise p.block en.block))
+      few_blocks w pr.sized.limited.blocks f
+      ((value_terminal (terminal_at (table_of w) p.block) f q).below (block_count w) (place_count w) (case_count w) (in_range_lem w pr p.block en.block))
 
   pub value_scheduled : {S H : Flags} {plan : Plan} → plan ≡ scheduling_value p (unless_taken (has S f || has H f) f) → PlannedBare w S H p (Ok plan)
   value_scheduled {S} {H} {plan} e = subst (λ (z : Plan). PlannedBare w S H p (Ok z)) (sym e)
       (bare_planned w S H p (Ok (scheduling_value p n)) refl same (record {
-        change = named (eqb n 65535) refl;
-        handler = rw no_number tt;
-        scope = rw no_number tt;
+        change = named_if S n free;
+        handler = tt;
+        scope = tt;
         deep = λ _. omega arith;
         next = omega arith;
         nested = refl;
       }))
     where
-      n : ℕ
+      n : std.Option ℕ
       n = unless_taken (has S f || has H f) f
 
       free : Label S n
       free = label_taken S H false f fallthrough_few
 
-      named : (y : Bool) → eqb n 65535 ≡ y → NamedChange 0 (schedule_if y n)
-      named true g = tt
-      named false g = label_below free g
-
       same : (F : List machine.Frame) (R : Output) (C : definition.Context) → Stands F R p.depth p.rows → Seen S H p.visits C → turn (terminal_step w p F R C) ≡ applied (Ok (scheduling_value p n)) F R C
       same F R C d seen =
           ap turn ((value_terminal (terminal_at (table_of w) p.block) f q).turns (table_of w) (visit_value_block (table_of w) (127 - p.depth)) p.block (block_at (table_of w) p.block) F R p.count C)
-          ∙ unfold schedule_value in (turn_ok _ ∙ rw (label_scheduled w en.promise S H p.visits C seen f fallthrough_few)
-          (sym (values_asked 65535 (open_frame p n (entries_if (eqb n 65535))) (p.depth + 1) p.rows p.visits (schedule_if (eqb n 65535) n) F R C
-          ∙ rw (visits_same p.visits C seen.visits, label_if free C seen.scheduled, no_number, label_entries n, d.many, within_all (p.depth + 1 - 1) F (omega (arith, d.deep))))))
+          ∙ unfold schedule_value in (turn_ok _ ∙ rw (label_scheduled S H p.visits C seen f)
+          (sym (values_asked None (open_frame p n (entries_if n)) (p.depth + 1) p.rows p.visits (schedule_if n) F R C
+          ∙ rw (visits_same p.visits C seen.visits, label_if S n free C seen.scheduled, label_entries n, d.many, within_all (p.depth + 1 - 1) F (omega (arith, d.deep))))))
 
 -- its value is made
 
-module _ (w : List ℕ) (p : Position) (frame : Frame) (ma : Making w p frame) (is : value_code (code_at w frame.block) ≡ true) where
+module _ (w : List ℕ) (p : Position) (frame : Frame) (ma : Making w p frame) (is : is_value (terminal_at (table_of w) frame.block) ≡ true) where
   abbrev outcome : Result ValueTerminalResult
   outcome =
       visit_value_block_terminal (table_of w) (visit_value_block (table_of w) (128 - p.depth)) (terminal_at (table_of w) frame.block)
@@ -586,23 +584,23 @@ module _ (w : List ℕ) (p : Position) (frame : Frame) (ma : Making w p frame) (
   -- the statement, once its value is made
   left : List machine.Frame → Output → definition.Context → ValueTerminalResult → Result State
   left F R C result =
-      ok (leave (unless_none frame.label) F ((R ⊕ value_out result.value) ⊕ (instr_row result.id result.place (block_at (table_of w) frame.block).span ∷ [])) (suc frame.count)
+      ok (leave (maybe_of frame.label) F ((R ⊕ value_out result.value) ⊕ (instr_row result.id result.place (block_at (table_of w) frame.block).span ∷ [])) (suc frame.count)
       (unscheduled_of frame.entries (with_visits result.visits C)))
 
-  value_step : (F : List machine.Frame) (R : Output) (C : definition.Context) → C.visits ≡ p.visits → values_step w p frame F R C ≡ outcome >>= left F R C
+  value_step : (body : std.Option ℕ) (F : List machine.Frame) (R : Output) (C : definition.Context) → C.visits ≡ p.visits → values_step w p body frame F R C ≡ outcome >>= left F R C
   unfolding value_at left
-  value_step F R C v =
-      statement_made (table_of w) (visit_value_block (table_of w) (128 - p.depth)) (block_at (table_of w) frame.block) (unless_none p.block) (frame_of frame) F R C (terminal_at (table_of w) frame.block)
-      (coded w p frame ma true is) ∙ rw v
+  value_step body F R C v =
+      statement_made (table_of w) (visit_value_block (table_of w) (128 - p.depth)) (block_at (table_of w) frame.block) (maybe_of body) (frame_of frame) F R C (terminal_at (table_of w) frame.block)
+      is ∙ rw v
 
   pub value_statement_refused : {x : Tally} {m : ℕ} {b b₁ b' : List ℕ} {e : Refused} {plan : std.Result Plan walk.Refused} → Met w terminal_result outcome x m b (Err e) b₁ → plan ≡ refusing_value e
-      → PlannedValues w p frame b plan b'
-  value_statement_refused {e = e} v o = refusal_planned e o (λ F R C seen. value_step F R C seen ∙ then_off (left F R C) v)
+      → (body : std.Option ℕ) → PlannedValues w p body frame b plan b'
+  value_statement_refused {e = e} v o body = refusal_planned e o (λ F R C seen. value_step body F R C seen ∙ then_off (left F R C) v)
 
   module _ {m : ℕ} {b b₁ : List ℕ} {r : code.ValueBlockResult} {x : Tally} (start : x.rows ≡ p.rows) (v : Met w terminal_result outcome x m b (Ok r) b₁) where
     pub value_statement_left : (rows : ℕ) (plan : Plan) (b' : List ℕ) → Written b₁ r.tally.rows (instr_row r.id r.place (block_at (table_of w) frame.block).span) b' rows
-        → plan ≡ leaving frame.label (p.depth - 1) (frame.count + 1) rows r.tally.visits (unschedule_if (eqb frame.entries 0)) → PlannedValues w p frame b (Ok plan) b'
-    value_statement_left rows plan b' put e = subst (λ (y : Plan). PlannedValues w p frame b (Ok y) b') (sym e) (record {
+        → plan ≡ leaving frame.label (p.depth - 1) (frame.count + 1) rows r.tally.visits (unschedule_if (eqb frame.entries 0)) → (body : std.Option ℕ) → PlannedValues w p body frame b (Ok plan) b'
+    value_statement_left rows plan b' put e body = subst (λ (y : Plan). PlannedValues w p body frame b (Ok y) b') (sym e) (record {
       out = value_out v.value ++ (last ∷ []);
       held =
           λ R h. rw (
@@ -614,11 +612,11 @@ module _ (w : List ℕ) (p : Position) (frame : Frame) (ma : Making w p frame) (
       fitting =
           record {
             change = off frame.entries refl;
-            handler = rw no_number tt;
-            scope = rw no_number tt;
+            handler = tt;
+            scope = tt;
             deep = λ y. absurd (let o : ◌≡◌ {A = ℕ} 0 1 = cc in omega arith);
             next = omega arith;
-            nested = leave_nested (eqb frame.label 65535);
+            nested = leave_nested frame.label;
           };
     })
       where
@@ -630,11 +628,11 @@ module _ (w : List ℕ) (p : Position) (frame : Frame) (ma : Making w p frame) (
         off (suc n) g = rw (ne_eqb (suc n) 0 (λ y. omega (arith, y))) (omega (arith, g))
 
         same : (F : List machine.Frame) (R : Output) (C : definition.Context) → Stands (frame_of frame ∷ F) R p.depth p.rows → C.visits ≡ p.visits
-            → turn (values_step w p frame F R C)
+            → turn (values_step w p body frame F R C)
             ≡ applied (Ok (leaving frame.label (p.depth - 1) (frame.count + 1) rows r.tally.visits (unschedule_if (eqb frame.entries 0)))) (frame_of frame ∷ F)
             (R ⊕ (value_out v.value ++ (last ∷ []))) C
         same F R C d seen =
-            ap turn (value_step F R C seen ∙ then_on_lem (left F R C) v) ∙ unfold left in (turn_ok _
+            ap turn (value_step body F R C seen ∙ then_on_lem (left F R C) v) ∙ unfold left in (turn_ok _
             ∙ rw (out_assoc R (value_out v.value) (last ∷ []))
             (sym (leave_applied frame.label (p.depth - 1) (frame.count + 1) rows r.tally.visits (unschedule_if (eqb frame.entries 0)) (frame_of frame ∷ F)
             (R ⊕ (value_out v.value ++ (last ∷ []))) C _

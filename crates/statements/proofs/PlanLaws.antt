@@ -1,16 +1,15 @@
 -- What the plans that there are come to, and what an arm's answers have to show.
-use Rattle.std.specs.Prelude.{None, Ok, Err, IfOk}
+use Rattle.std.specs.Prelude.{None, Some, Ok, Err, IfOk, IfSome}
 use Rattle.std.specs.Prelude as std
 use Prim.Native.Nat.{ℕ, zero, suc, ◌-◌, ◌≤◌, ◌<◌}
 use native.Mathlib.Omega.{arith}
 use mathlib.Core.Path.{◌≡◌, refl, sym, ap, ◌∙◌}
 use mathlib.Core.Bool.{Bool, true, false, ◌||◌}
 use mathlib.Core.List.{List, ◌∷◌}
-use mathlib.Core.Option.{none, some}
 use lib.Dec.{eqb}
 use lib.ListN.{length, drop}
-use borrow.Author.Tests.{eq-eqb, ne_eqb}
-use Rattle.table.specs.Table.{unless_none}
+use borrow.Author.Tests.{ne_eqb}
+use Rattle.table.specs.Columns.{maybe_of}
 use Rattle.definition.specs.Build.{accepted, rejected}
 use Rattle.definition.specs.Context.{Flags, has, target_if, target_switch, with_visits}
 use Rattle.definition.specs.Context as definition
@@ -19,7 +18,7 @@ use Rattle.definition.specs.Output.{Output}
 use Rattle.machine.specs.Machine as machine
 use Rattle.definition.specs.Result.{Result, ok}
 use Rattle.definition.proofs.Never.{schedule_free}
-use Rattle.definition.proofs.Steps.{true_false}
+use Rattle.machine.specs.Framed.{Below}
 use Rattle.statements.specs.declared.plan.Position.{Position}
 use Rattle.statements.specs.declared.refusal.Refusal.{Refusal}
 use Rattle.statements.specs.declared.refusal.Refused.{Refused}
@@ -73,23 +72,23 @@ pub refuse_applied : (p : Position) (refusal : Refusal) (F : List machine.Frame)
 refuse_applied p refusal F R C = refused_applied (refused_after refusal p.visits) F R C
 
 -- D is the Context that the plan's change leaves
-module _ (next depth count rows visits : ℕ) (change : std.Option Change) (F : List machine.Frame) (R : Output) (C D : definition.Context) (e : changed change (with_visits visits C) ≡ ok D) where
+module _ (next : std.Option ℕ) (depth count rows visits : ℕ) (change : std.Option Change) (F : List machine.Frame) (R : Output) (C D : definition.Context) (e : changed change (with_visits visits C) ≡ ok D) where
   -- with a line (M-101)
-  pub leave_lined : (line : std.Option Line) → applied (Ok (with_line (leaving next depth count rows visits change) line)) F R C ≡ going (leave (unless_none next) (within depth F) (lined line rows R) count D)
-  unfolding applied unless_none
+  pub leave_lined : (line : std.Option Line) → applied (Ok (with_line (leaving next depth count rows visits change) line)) F R C ≡ going (leave (maybe_of next) (within depth F) (lined line rows R) count D)
+  unfolding applied
   leave_lined line =
-      ap (λ (after : Result definition.Context). onward (stage_after (eqb next 65535)) (with_line (leaving next depth count rows visits change) line) F (lined line rows R) after) e ∙ at (eqb next 65535)
+      ap (λ (after : Result definition.Context). onward (stage_after next) (with_line (leaving next depth count rows visits change) line) F (lined line rows R) after) e ∙ at next
     where
-      at : (y : Bool) → onward (stage_after y) (with_line (leaving next depth count rows visits change) line) F (lined line rows R) (ok D)
-          ≡ going (leave (elim y [ true ↦ none | false ↦ some next ]) (within depth F) (lined line rows R) count D)
-      at true = refl
-      at false = refl
+      at : (o : std.Option ℕ) → onward (stage_after o) (with_line (leaving o depth count rows visits change) line) F (lined line rows R) (ok D)
+          ≡ going (leave (maybe_of o) (within depth F) (lined line rows R) count D)
+      at None = refl
+      at (Some block) = refl
 
-  pub leave_applied : applied (Ok (leaving next depth count rows visits change)) F R C ≡ going (leave (unless_none next) (within depth F) R count D)
+  pub leave_applied : applied (Ok (leaving next depth count rows visits change)) F R C ≡ going (leave (maybe_of next) (within depth F) R count D)
   leave_applied = leave_lined None
 
-pub nest_applied : (block : ℕ) (frame : Frame) (depth rows visits handler scope : ℕ) (change : std.Option Change) (F : List machine.Frame) (R : Output) (C D : definition.Context)
-    → changed change (scoped (unless_none scope) (handled (unless_none handler) (with_visits visits C))) ≡ ok D
+pub nest_applied : (block : ℕ) (frame : Frame) (depth rows visits : ℕ) (handler scope : std.Option ℕ) (change : std.Option Change) (F : List machine.Frame) (R : Output) (C D : definition.Context)
+    → changed change (scoped (maybe_of scope) (handled (maybe_of handler) (with_visits visits C))) ≡ ok D
     → applied (Ok (nesting block frame depth rows visits handler scope change)) F R C ≡ going (visiting block (frame_of frame ∷ within (depth - 1) F) R 0 D)
 unfolding applied
 nest_applied block frame depth rows visits handler scope change F R C D e =
@@ -97,7 +96,7 @@ nest_applied block frame depth rows visits handler scope change F R C D e =
 
 pub choose_asked : (frame : Frame) (depth rows visits : ℕ) (change : std.Option Change) (F : List machine.Frame) (R : Output) (C : definition.Context)
     → applied (Ok (choosing_next frame depth rows visits change)) F R C ≡ unless_refused (changed change (with_visits visits C)) (choosing (frame_of frame) (within (depth - 1) F) R)
-unfolding applied unless_none
+unfolding applied
 choose_asked frame depth rows visits change F R C = refl
 
 pub choose_applied : (frame : Frame) (depth rows visits : ℕ) (change : std.Option Change) (F : List machine.Frame) (R : Output) (C D : definition.Context) → changed change (with_visits visits C) ≡ ok D
@@ -107,13 +106,13 @@ choose_applied frame depth rows visits change F R C D e =
 
 pub pop_applied : (frame : Frame) (depth rows visits : ℕ) (F : List machine.Frame) (R : Output) (C : definition.Context)
     → applied (Ok (popping_next frame depth rows visits)) F R C ≡ going (popping (frame_of frame) (within (depth - 1) F) R (unscheduled (with_visits visits C)))
-unfolding applied unless_none
+unfolding applied
 pop_applied frame depth rows visits F R C = refl
 
 -- 15 is `schedule`'s
-pub values_asked : (body : ℕ) (frame : Frame) (depth rows visits : ℕ) (change : std.Option Change) (F : List machine.Frame) (R : Output) (C : definition.Context)
-    → applied (Ok (making_next body frame depth rows visits change)) F R C ≡ unless_refused (changed change (with_visits visits C)) (making (unless_none body) (frame_of frame) (within (depth - 1) F) R)
-unfolding applied unless_none
+pub values_asked : (body : std.Option ℕ) (frame : Frame) (depth rows visits : ℕ) (change : std.Option Change) (F : List machine.Frame) (R : Output) (C : definition.Context)
+    → applied (Ok (making_next body frame depth rows visits change)) F R C ≡ unless_refused (changed change (with_visits visits C)) (making (maybe_of body) (frame_of frame) (within (depth - 1) F) R)
+unfolding applied
 values_asked body frame depth rows visits change F R C = refl
 
 -- a statement's entry comes off, if it has one
@@ -128,62 +127,43 @@ accept_applied rows visits F R C = refl
 -- ---- labels
 
 -- a label is none, or one of the 1,024 blocks that is not scheduled
-pub data Label (S : Flags) (n : ℕ) : Type 0 where
-  no_label : n ≡ 65535 → Label S n
-  free_label : n < 1024 → has S n ≡ false → Label S n
+abbrev pub Label : Flags → std.Option ℕ → Type 0
+Label S None = Unit {0}
+Label S (Some block) = (block < 1024) × (has S block ≡ false)
 
 pub label_taken : (S H : Flags) (without : Bool) (f : ℕ) → f < 1024 → Label S (unless_taken (without || (has S f || has H f)) f)
-label_taken S H true f h = no_label refl
+label_taken S H true f h = tt
 label_taken S H false f h = at (has S f) refl (has H f)
   where
     at : (y : Bool) → has S f ≡ y → (z : Bool) → Label S (unless_taken (y || z) f)
-    at true e z = no_label refl
-    at false e true = no_label refl
-    at false e false = free_label h e
+    at true e z = tt
+    at false e true = tt
+    at false e false = (h, e)
 
-pub label_most : {S : Flags} (n : ℕ) → Label S n → n ≤ 65535
-label_most n (no_label e) = omega arith
-label_most n (free_label h e) = omega arith
+-- a word holds its number
+pub label_most : (S : Flags) (n : std.Option ℕ) → Label S n → IfSome n (λ block. block ≤ 65535)
+label_most S None l = tt
+label_most S (Some block) l = omega (arith, l.0)
 
-pub label_entries : (n : ℕ) → entries_if (eqb n 65535) ≡ opens (unless_none n)
-unfolding unless_none
-label_entries n = at (eqb n 65535)
-  where
-    at : (y : Bool) → entries_if y ≡ opens (elim y [ true ↦ none | false ↦ some n ])
-    at true = refl
-    at false = refl
+pub label_entries : (n : std.Option ℕ) → entries_if n ≡ opens (maybe_of n)
+label_entries None = refl
+label_entries (Some block) = refl
 
-module _ {S : Flags} {n : ℕ} (l : Label S n) where
-  label_named : eqb n 65535 ≡ false → (n < 1024) × (has S n ≡ false)
-  label_named e = at l
-    where
-      at : Label S n → (n < 1024) × (has S n ≡ false)
-      at (no_label q) = absurd (true_false (sym (eq-eqb n 65535 q) ∙ e))
-      at (free_label h q) = (h, q)
+pub label_below : (S : Flags) (n : std.Option ℕ) → Label S n → Below 1024 (maybe_of n)
+label_below S None l = tt
+label_below S (Some block) l = l.0
 
-  pub label_below : eqb n 65535 ≡ false → n < 1024
-  label_below e = (label_named e).0
+label_free : (S : Flags) (C : definition.Context) (block : ℕ) → has S block ≡ false → C.scheduled ≡ S → has C.scheduled block ≡ false
+label_free S C block q e = ap (λ (z : Flags). has z block) e ∙ q
 
-  module _ (C : definition.Context) (e : C.scheduled ≡ S) where
-    label_free : eqb n 65535 ≡ false → has C.scheduled n ≡ false
-    label_free q = ap (λ (z : Flags). has z n) e ∙ (label_named q).1
+pub label_if : (S : Flags) (n : std.Option ℕ) → Label S n → (C : definition.Context) → C.scheduled ≡ S → changed (schedule_if n) C ≡ ok (scheduled_if (maybe_of n) C)
+label_if S None l C e = refl
+label_if S (Some block) l C e = schedule_free (target_if block) C (label_free S C block l.1 e)
 
-    pub label_if : changed (schedule_if (eqb n 65535) n) C ≡ ok (scheduled_if (unless_none n) C)
-    unfolding unless_none
-    label_if = at (eqb n 65535) refl
-      where
-        at : (y : Bool) → eqb n 65535 ≡ y → changed (schedule_if y n) C ≡ ok (scheduled_if (elim y [ true ↦ none | false ↦ some n ]) C)
-        at true q = refl
-        at false q = schedule_free (target_if n) C (label_free q)
+pub label_switch : (S : Flags) (n : std.Option ℕ) → Label S n → (C : definition.Context) → C.scheduled ≡ S → changed (schedule_switch n) C ≡ ok (scheduled_switch (maybe_of n) C)
+label_switch S None l C e = refl
+label_switch S (Some block) l C e = schedule_free (target_switch block) C (label_free S C block l.1 e)
 
-    pub label_switch : changed (schedule_switch (eqb n 65535) n) C ≡ ok (scheduled_switch (unless_none n) C)
-    unfolding unless_none
-    label_switch = at (eqb n 65535) refl
-      where
-        at : (y : Bool) → eqb n 65535 ≡ y → changed (schedule_switch y n) C ≡ ok (scheduled_switch (elim y [ true ↦ none | false ↦ some n ]) C)
-        at true q = refl
-        at false q = schedule_free (target_switch n) C (label_free q)
-
-pub leave_nested : (y : Bool) → Nested (stage_after y) false
-leave_nested true = tt
-leave_nested false = tt
+pub leave_nested : (next : std.Option ℕ) → Nested (stage_after next) None
+leave_nested None = tt
+leave_nested (Some block) = tt

@@ -1,19 +1,18 @@
 -- What every arm shows: a plan that is the machine's turn, with no row or after some.
-use Rattle.std.specs.Prelude.{Ok, Err, IfOk}
+use Rattle.std.specs.Prelude.{Ok, Err, IfOk, IfSome}
 use Rattle.std.specs.Prelude as std
 use Prim.Native.Nat.{ℕ, ◌+◌, ◌-◌, ◌≤◌, ◌<◌}
 use native.Mathlib.Omega.{arith}
-use mathlib.Core.Path.{◌≡◌, refl, sym, ap, ◌∙◌, subst}
-use mathlib.Core.Bool.{false, ◌||◌}
+use mathlib.Core.Path.{◌≡◌, refl, sym, ap, ◌∙◌}
+use mathlib.Core.Bool.{true, false, ◌||◌}
 use mathlib.Core.List.{List, [], ◌++◌, append-nil, append_assoc}
 use mathlib.Core.Option.{Option}
-use lib.Dec.{eqb}
 use lib.ListN.{length, length-append}
-use Rattle.table.specs.Words.{block_count, place_count, case_count, block_word, code_at}
-use Rattle.table.specs.Promise.{Promise, InRange, Ends}
+use Rattle.table.specs.Words.{block_count}
+use Rattle.table.specs.Promise.{Ends}
 use Rattle.table.specs.Table.{Terminal, absent, unreachable, throw, return, goto, if, branch, switch, do_while, while, for, for_of, for_in, logical, ternary}
-use Rattle.table.specs.Table.{optional, label, sequence, maybe_throw, try, scope, code_of, Table, Block, table_of, terminal_at, block_at, unless_none}
-use Rattle.table.proofs.RangeLaws.{in_range_lem}
+use Rattle.table.specs.Table.{optional, label, sequence, maybe_throw, try, scope, code_of, Table, Block, table_of, terminal_at, block_at, is_absent, is_unreachable}
+use Rattle.table.specs.Columns.{maybe_of}
 use Rattle.definition.specs.Build.{rejected}
 use Rattle.definition.specs.Context.{Flags, has, pushed, with_visits}
 use Rattle.definition.specs.Context as definition
@@ -124,26 +123,23 @@ around_unread a t v (try x y q z) at k F R n C f g = refl
 around_unread a t v (scope o x q z) at k F R n C f g = refl
 
 -- a fallthrough that is not there
-missing_same : (w : List ℕ) (S H : Flags) (p : Position) → Promise w → (f : ℕ) → f < block_count w → block_word w f 2 ≡ 0 → (k : definition.Context → Option ℕ → Result State)
+missing_same : (w : List ℕ) (S H : Flags) (p : Position) (f : ℕ) → is_absent (terminal_at (table_of w) f) ≡ true → (k : definition.Context → Option ℕ → Result State)
     → (F : List machine.Frame) (R : Output) (C : definition.Context) → Seen S H p.visits C → turn (unless_unreachable (table_of w) C f >>= k C) ≡ applied (refusing p (MissingBlock f)) F R C
 unfolding ◌>>=◌
-missing_same w S H p pr f h e k F R C seen =
-    ap (λ (z : Result (Option ℕ)). turn (z >>= k C)) (label_missing w pr S H p.visits C seen f h e) ∙ turn_refused 10 f C.visits ∙ ap (λ (v : ℕ). halt (rejected 10 f v)) seen.visits
+missing_same w S H p f e k F R C seen =
+    ap (λ (z : Result (Option ℕ)). turn (z >>= k C)) (label_missing S H p.visits C seen (table_of w) f e) ∙ turn_refused 10 f C.visits ∙ ap (λ (v : ℕ). halt (rejected 10 f v)) seen.visits
     ∙ sym (refuse_applied p (MissingBlock f) F R C)
 
-pub reach_same : (w : List ℕ) (S H : Flags) (p : Position) → Promise w → (f n : ℕ) → f < block_count w → f < 1024 → (block_word w f 2 ≡ 0 → ⊥)
-    → n ≡ unless_taken (eqb (block_word w f 2) 1 || (has S f || has H f)) f → (k : Option ℕ → Result State) (C : definition.Context) → Seen S H p.visits C
-    → turn (unless_unreachable (table_of w) C f >>= k) ≡ turn (k (unless_none n))
+pub reach_same : (w : List ℕ) (S H : Flags) (p : Position) (f : ℕ) (n : std.Option ℕ) → is_absent (terminal_at (table_of w) f) ≡ false
+    → n ≡ unless_taken (is_unreachable (terminal_at (table_of w) f) || (has S f || has H f)) f → (k : Option ℕ → Result State) (C : definition.Context) → Seen S H p.visits C
+    → turn (unless_unreachable (table_of w) C f >>= k) ≡ turn (k (maybe_of n))
 unfolding ◌>>=◌
-reach_same w S H p pr f n h u e q k C seen = ap (λ (z : Result (Option ℕ)). turn (z >>= k)) (label_reached w pr S H p.visits C seen f h u e) ∙ ap (λ (z : ℕ). turn (k (unless_none z))) (sym q)
+reach_same w S H p f n e q k C seen = ap (λ (z : Result (Option ℕ)). turn (z >>= k)) (label_reached S H p.visits C seen (table_of w) f e) ∙ ap (λ (z : std.Option ℕ). turn (k (maybe_of z))) (sym q)
 
 -- ---- ranges
 
-pub few_blocks : (w : List ℕ) → Promise w → (b : ℕ) → b < block_count w → b < 1024
-few_blocks w pr b h = omega (arith, pr.sized.limited.blocks)
-
-pub ranges : (w : List ℕ) → Promise w → (b : ℕ) → b < block_count w → (e : Terminal) → terminal_at (table_of w) b ≡ e → InRange (block_count w) (place_count w) (case_count w) e
-ranges w pr b h e q = subst (λ (z : Terminal). InRange (block_count w) (place_count w) (case_count w) z) q (in_range_lem w pr b h)
+pub few_blocks : (w : List ℕ) → block_count w ≤ 1024 → (b : ℕ) → b < block_count w → b < 1024
+few_blocks w few b h = omega (arith, few)
 
 -- ---- terminals that ask whether their fallthrough is reachable
 
@@ -156,33 +152,33 @@ Asks w p e f k = (F : List machine.Frame) (R : Output) (C : definition.Context)
     → terminal_turn nowhere (table_of w) (visit_value_block (table_of w) (127 - p.depth)) e p.block (block_at (table_of w) p.block) F R p.count C ≡ unless_unreachable (table_of w) C f >>= k F R C
 
 -- the label that the code takes
-abbrev pub Reached : List ℕ → Flags → Flags → (f n : ℕ) → Type 0
-Reached w S H f n = n ≡ unless_taken (eqb (code_at w f) 1 || (has S f || has H f)) f
+abbrev pub Reached : List ℕ → Flags → Flags → (f : ℕ) → (n : std.Option ℕ) → Type 0
+Reached w S H f n = n ≡ unless_taken (is_unreachable (terminal_at (table_of w) f) || (has S f || has H f)) f
 
-abbrev pub Takes : Flags → Flags → (f n : ℕ) → Type 0
+abbrev pub Takes : Flags → Flags → (f : ℕ) → (n : std.Option ℕ) → Type 0
 Takes S H f n = n ≡ unless_taken (has S f || has H f) f
 
 abbrev pub here : Position → Output → Option ℕ → machine.Frame
 here p out taken = machine.frame_of p.block taken (opens taken) out p.count
 
--- a label is a block's number, or 65,535
-pub reached_most : (w : List ℕ) (S H : Flags) (f : ℕ) {n : ℕ} → Reached w S H f n → f < 1024 → n ≤ 65535
-reached_most w S H f q h = rw q (label_most _ (label_taken S H (eqb (code_at w f) 1) f h))
+-- a word holds a label
+pub reached_most : (w : List ℕ) (S H : Flags) (f : ℕ) {n : std.Option ℕ} → Reached w S H f n → f < 1024 → IfSome n (λ block. block ≤ 65535)
+reached_most w S H f q h = rw q (label_most S _ (label_taken S H (is_unreachable (terminal_at (table_of w) f)) f h))
 
-pub takes_most : (S H : Flags) (f : ℕ) {n : ℕ} → Takes S H f n → f < 1024 → n ≤ 65535
-takes_most S H f q h = rw q (label_most _ (label_taken S H false f h))
+pub takes_most : (S H : Flags) (f : ℕ) {n : std.Option ℕ} → Takes S H f n → f < 1024 → IfSome n (λ block. block ≤ 65535)
+takes_most S H f q h = rw q (label_most S _ (label_taken S H false f h))
 
 module _ (w : List ℕ) (S H : Flags) (p : Position) (en : Entered w p) (e : Terminal) (f : ℕ) (k : Rest) (ends : Ends w p.block e) (asks : Asks w p e f k) (h : f < block_count w) where
-  pub reached_missing : (plan : std.Result Plan Refused) → code_at w f ≡ 0 → plan ≡ refusing p (MissingBlock f) → PlannedBare w S H p plan
+  pub reached_missing : (plan : std.Result Plan Refused) → is_absent (terminal_at (table_of w) f) ≡ true → plan ≡ refusing p (MissingBlock f) → PlannedBare w S H p plan
   reached_missing plan z r = rw r (bare_planned w S H p (refusing p (MissingBlock f)) tt (λ F R C d seen.
-      ap turn (step_by w p e F R C ends.is ∙ asks F R C) ∙ missing_same w S H p en.promise f h z (λ D taken. k F R D taken) F R C seen) tt)
+      ap turn (step_by w p e F R C ends.is ∙ asks F R C) ∙ missing_same w S H p f z (λ D taken. k F R D taken) F R C seen) tt)
 
-  pub reached_same : (n : ℕ) (plan : std.Result Plan Refused) → (code_at w f ≡ 0 → ⊥) → Reached w S H f n
+  pub reached_same : (n : std.Option ℕ) (plan : std.Result Plan Refused) → is_absent (terminal_at (table_of w) f) ≡ false → Reached w S H f n
       → IfOk plan (λ x. x.position.rows ≡ p.rows) → IfOk plan (λ x. Fitting [] p.depth x)
-      → ((F : List machine.Frame) (R : Output) (C : definition.Context) → Stands F R p.depth p.rows → Seen S H p.visits C → turn (k F R C (unless_none n)) ≡ applied plan F R C)
+      → ((F : List machine.Frame) (R : Output) (C : definition.Context) → Stands F R p.depth p.rows → Seen S H p.visits C → turn (k F R C (maybe_of n)) ≡ applied plan F R C)
       → PlannedBare w S H p plan
   reached_same n plan z r rows fit same = bare_planned w S H p plan rows (λ F R C d seen.
-      ap turn (step_by w p e F R C ends.is ∙ asks F R C) ∙ reach_same w S H p en.promise f n h (omega (arith, h, ends.few)) z r (k F R C) C seen ∙ same F R C d seen) fit
+      ap turn (step_by w p e F R C ends.is ∙ asks F R C) ∙ reach_same w S H p f n z r (k F R C) C seen ∙ same F R C d seen) fit
 
-  pub reached_label : (n : ℕ) → Reached w S H f n → Label S n
-  reached_label n q = rw q (label_taken S H (eqb (code_at w f) 1) f (omega (arith, h, ends.few)))
+  pub reached_label : (n : std.Option ℕ) → Reached w S H f n → Label S n
+  reached_label n q = rw q (label_taken S H (is_unreachable (terminal_at (table_of w) f)) f (omega (arith, h, ends.few)))

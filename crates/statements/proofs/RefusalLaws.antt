@@ -1,5 +1,4 @@
 -- A turn that ends at a refusal.
-use Rattle.std.specs.Prelude.{Ok, Err, IsErr, IsErrAnd}
 use Rattle.std.specs.Prelude as std
 use Prim.Native.Nat.{ℕ}
 use native.Mathlib.Omega.{arith}
@@ -65,8 +64,3 @@ refusal_planned {step} {On} {top} {depth} {rows} {b} {b'} e q steps = subst (λ 
       ∙ sym (refused_applied (refused_after (kind.Value e.refusal) e.visits) (top ++ F) (R ⊕ []) C);
   fitting = tt;
 })
-
--- a `?` hands on the refusal that it meets
-pub handed_on : {T : Type 0} {r : std.Result T stopped.Refused} {e : stopped.Refused} → IsErr r × IsErrAnd r (λ y. y ≡ e) → r ≡ Err e
-handed_on {r = Ok t} h = absurd h.1
-handed_on {r = Err y} h = ap Err h.1

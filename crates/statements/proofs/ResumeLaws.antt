@@ -10,12 +10,19 @@ use mathlib.Core.Option.{Option, none}
 use lib.Dec.{eqb}
 use lib.ListN.{length}
 use borrow.Author.Tests.{eq-eqb, ne_eqb}
-use Rattle.table.specs.Words.{block_count, case_count, code_at}
+use Rattle.table.specs.Words.{block_count, case_count}
 use Rattle.table.specs.Promise.{Ends, Chooses}
-use Rattle.table.specs.Table.{Table, Block, Case, Terminal, absent, unreachable, throw, return, goto, if, branch, switch, do_while, while, for, for_of, for_in}
-use Rattle.table.specs.Table.{logical, ternary, optional, label, sequence, maybe_throw, try, scope, code_of, table_of, terminal_at, block_at}
+use Rattle.table.specs.declared.terminals.Terminal.{Terminal as Ending}
+use Rattle.table.specs.declared.terminals.Terminal.TheVariants as ends
+use Rattle.table.specs.declared.terminals.If.{If}
+use Rattle.table.specs.declared.terminals.Branch.{Branch}
+use Rattle.table.specs.declared.terminals.Switch.{Switch}
+use Rattle.table.specs.declared.terminals.DoWhile.{DoWhile}
+use Rattle.table.specs.declared.terminals.Try.{Try}
+use Rattle.table.specs.Ending.{ending}
+use Rattle.table.specs.Table.{Table, Block, Case, Terminal, if, branch, switch, do_while}
+use Rattle.table.specs.Table.{try, table_of, terminal_at, block_at}
 use Rattle.table.proofs.TableLaws.{length_blocks, length_cases}
-use Rattle.table.proofs.BlockLaws.{no_number, code_at_lem}
 use Rattle.definition.specs.Build.{rejected, accepted}
 use Rattle.definition.specs.Context.{Flags, has, is_scheduled, target_case, schedule, with_visits}
 use Rattle.definition.specs.Context as definition
@@ -105,14 +112,14 @@ module _ (w : List ℕ) (p : Position) (frame : Frame) where
         out = [];
         held = λ before h. rw (append-nil before) h;
         same = λ F R C d seen. rw (out_nil R) (ap turn (e F R C ∙ into_free block (refusal_code r) (refusal_place r) (second_part (frame_of frame)) F R C (seen_scheduled S H p.visits C seen block ∙ u)) ∙ turn_ok _
-            ∙ sym (nest_applied block (second frame) p.depth p.rows p.visits 65535 65535 None (frame_of frame ∷ F) R C _ refl ∙ rw
-            (no_number, visits_same p.visits C seen.visits, within_rest p.depth (frame_of frame) F d.deep)));
-        fitting = record { change = tt; handler = rw no_number tt; scope = rw no_number tt; deep = λ _. deep; next = omega arith; nested = tt };
+            ∙ sym (nest_applied block (second frame) p.depth p.rows p.visits None None None (frame_of frame ∷ F) R C _ refl ∙ rw
+            (visits_same p.visits C seen.visits, within_rest p.depth (frame_of frame) F d.deep)));
+        fitting = record { change = tt; handler = tt; scope = tt; deep = λ _. deep; next = omega arith; nested = tt };
       }
 
   module _ (re : Resuming w p frame) where
     pub closing_of : Closing w p frame
-    closing_of = record { promise = re.promise; block = re.block; depth = re.depth; rows = omega (arith, re.rows); count = re.count }
+    closing_of = record { block = re.block; depth = re.depth; rows = omega (arith, re.rows); count = re.count }
 
     resume_at_lem : (e : Terminal) (F : List machine.Frame) (R : Output) (C : definition.Context) → terminal_at t frame.block ≡ e
         → resume_step w p frame F R C ≡ resume_at t visit e (block_at t frame.block) (frame_of frame) F R C
@@ -173,14 +180,14 @@ module _ (w : List ℕ) (p : Position) (frame : Frame) where
       try_goes_on s F R C = resume_at_lem _ F R C ends.is ∙ rw s
 
       pub try_handler : (plan : Plan) (buffer : List ℕ) → frame.second ≡ false
-          → plan ≡ nesting y (second frame) p.depth p.rows p.visits 65535 65535 None → PlannedOn w p frame buffer (Ok plan) buffer
+          → plan ≡ nesting y (second frame) p.depth p.rows p.visits None None None → PlannedOn w p frame buffer (Ok plan) buffer
       try_handler plan buffer s q = subst (λ (q : Plan). PlannedOn w p frame buffer (Ok q) buffer) (sym q) (record {
         out = [];
         held = λ before h. rw (append-nil before) h;
         same = λ F R C d on. rw (out_nil R) (ap turn (try_goes_on s F R C) ∙ turn_ok _
-            ∙ sym (nest_applied y (second frame) p.depth p.rows p.visits 65535 65535 None (frame_of frame ∷ F) R C _ refl ∙ rw
-            (no_number, visits_same p.visits C on, within_rest p.depth (frame_of frame) F d.deep)));
-        fitting = record { change = tt; handler = rw no_number tt; scope = rw no_number tt; deep = λ _. re.depth; next = omega arith; nested = tt };
+            ∙ sym (nest_applied y (second frame) p.depth p.rows p.visits None None None (frame_of frame ∷ F) R C _ refl ∙ rw
+            (visits_same p.visits C on, within_rest p.depth (frame_of frame) F d.deep)));
+        fitting = record { change = tt; handler = tt; scope = tt; deep = λ _. re.depth; next = omega arith; nested = tt };
       })
 
     -- ---- Switch
@@ -214,7 +221,7 @@ module _ (w : List ℕ) (p : Position) (frame : Frame) where
               λ F R C d on. ap turn (case_goes_on F R C) ∙ turn_asked _ _ ∙ sym
               (choose_asked (one_built frame) p.depth rows p.visits (Some (Schedule (CaseTarget block))) (frame_of frame ∷ F) (R ⊕ (case_row ∷ [])) C
               ∙ rw (visits_same p.visits C on, within_rest p.depth (frame_of frame) F d.deep, more frame.entries, more frame.built));
-          fitting = record { change = case_below; handler = rw no_number tt; scope = rw no_number tt; deep = λ _. re.depth; next = omega arith; nested = refl };
+          fitting = record { change = case_below; handler = tt; scope = tt; deep = λ _. re.depth; next = omega arith; nested = refl };
         })
           where
             more : (n : ℕ) → n + 1 ≡ suc n
@@ -249,36 +256,39 @@ module _ (w : List ℕ) (p : Position) (frame : Frame) where
 
     -- ---- any other
 
-    abbrev pub Other : ℕ → Type 0
-    Other c = (c ≡ 5 → ⊥) × (c ≡ 6 → ⊥) × (c ≡ 7 → ⊥) × (c ≡ 8 → ⊥) × (c ≡ 19 → ⊥)
+    abbrev pub Other : Ending → Type 0
+    Other e =
+        ((x : If) → e ≡ ends.If x → ⊥) × ((x : Branch) → e ≡ ends.Branch x → ⊥) × ((x : Switch) → e ≡ ends.Switch x → ⊥) × ((x : DoWhile) → e ≡ ends.DoWhile x → ⊥)
+        × ((x : Try) → e ≡ ends.Try x → ⊥)
 
-    other_closes : (e : Terminal) (b : Block) → Other (code_of e) → (F : List machine.Frame) (R : Output) (C : definition.Context)
-        → resume_at t visit e b (frame_of frame) F R C ≡ close_step w frame F R C
+    other_closes : (e : Ending) (b : Block) → Other e → (F : List machine.Frame) (R : Output) (C : definition.Context)
+        → resume_at t visit (ending e) b (frame_of frame) F R C ≡ close_step w frame F R C
     unfolding resume_at
-    other_closes absent b h F R C = refl
-    other_closes unreachable b h F R C = refl
-    other_closes (throw x) b h F R C = refl
-    other_closes (return x) b h F R C = refl
-    other_closes (goto x y) b h F R C = refl
-    other_closes (if x y z u) b h F R C = absurd (h.0 refl)
-    other_closes (branch x y z) b h F R C = absurd (h.1 refl)
-    other_closes (switch x y z u) b h F R C = absurd (h.2 refl)
-    other_closes (do_while x y z) b h F R C = absurd (h.3 refl)
-    other_closes (while x y z) b h F R C = refl
-    other_closes (for x y z u v) b h F R C = refl
-    other_closes (for_of x y z u) b h F R C = refl
-    other_closes (for_in x y z) b h F R C = refl
-    other_closes (logical x y z) b h F R C = refl
-    other_closes (ternary x y) b h F R C = refl
-    other_closes (optional x y z) b h F R C = refl
-    other_closes (label x y) b h F R C = refl
-    other_closes (sequence x y) b h F R C = refl
-    other_closes (maybe_throw x) b h F R C = refl
-    other_closes (try x y z u) b h F R C = absurd (h.4 refl)
-    other_closes (scope x y z u) b h F R C = refl
+    other_closes ends.Absent b h F R C = refl
+    other_closes ends.Unreachable b h F R C = refl
+    other_closes (ends.Throw x) b h F R C = refl
+    other_closes (ends.Return x) b h F R C = refl
+    other_closes (ends.Goto x) b h F R C = refl
+    other_closes (ends.If x) b h F R C = absurd (h.0 x refl)
+    other_closes (ends.Branch x) b h F R C = absurd (h.1 x refl)
+    other_closes (ends.Switch x) b h F R C = absurd (h.2 x refl)
+    other_closes (ends.DoWhile x) b h F R C = absurd (h.3 x refl)
+    other_closes (ends.While x) b h F R C = refl
+    other_closes (ends.For x) b h F R C = refl
+    other_closes (ends.ForOf x) b h F R C = refl
+    other_closes (ends.ForIn x) b h F R C = refl
+    other_closes (ends.Logical x) b h F R C = refl
+    other_closes (ends.Ternary x) b h F R C = refl
+    other_closes (ends.Optional x) b h F R C = refl
+    other_closes (ends.Label x) b h F R C = refl
+    other_closes (ends.Sequence x) b h F R C = refl
+    other_closes (ends.MaybeThrow x) b h F R C = refl
+    other_closes (ends.Try x) b h F R C = absurd (h.4 x refl)
+    other_closes (ends.Scope x) b h F R C = refl
+    other_closes (ends.PrunedScope x) b h F R C = refl
 
-    pub other_closed : Other (code_at w frame.block) → Closed
-    other_closed h F R C = other_closes (terminal_at t frame.block) (block_at t frame.block) (subst Other (sym (code_at_lem w frame.block re.promise re.block)) h) F R C
+    pub other_closed : (e : Ending) → Ends w frame.block (ending e) → Other e → Closed
+    other_closed e is h F R C = resume_at_lem (ending e) F R C is.is ∙ other_closes e (block_at t frame.block) h F R C
 
 -- ---- a Switch chooses
 
@@ -324,18 +334,18 @@ module _ (w : List ℕ) (p : Position) (frame : Frame) (ch : Choosing w p frame)
           ∙ ap (λ (y : Bool). chosen y block (frame.left - 1) F R C) (seen_scheduled S H p.visits C seen block ∙ e)
 
       fits : Fitting (frame_of frame ∷ []) p.depth (choosing_next (left_less frame) p.depth p.rows p.visits None)
-      fits = record { change = tt; handler = rw no_number tt; scope = rw no_number tt; deep = λ _. ch.closing.depth; next = omega arith; nested = refl }
+      fits = record { change = tt; handler = tt; scope = tt; deep = λ _. ch.closing.depth; next = omega arith; nested = refl }
 
       pub choice_visits : (plan : Plan) (buffer : List ℕ) → has S block || has H block ≡ false
-          → plan ≡ nesting block (left_less frame) p.depth p.rows p.visits 65535 65535 None → PlannedChoice w S H p frame buffer (Ok plan) buffer
+          → plan ≡ nesting block (left_less frame) p.depth p.rows p.visits None None None → PlannedChoice w S H p frame buffer (Ok plan) buffer
       choice_visits plan buffer e q = subst (λ (y : Plan). PlannedChoice w S H p frame buffer (Ok y) buffer) (sym q) (record {
         out = [];
         held = λ before h. rw (append-nil before) h;
         same =
             λ F R C d seen. rw (out_nil R) (ap turn (case_chosen false F R C seen e) ∙ turn_ok _
-            ∙ sym (nest_applied block (left_less frame) p.depth p.rows p.visits 65535 65535 None (frame_of frame ∷ F) R C _ refl ∙ rw
-            (no_number, visits_same p.visits C seen.visits, within_rest p.depth (frame_of frame) F d.deep)));
-        fitting = record { change = tt; handler = rw no_number tt; scope = rw no_number tt; deep = λ _. ch.closing.depth; next = omega arith; nested = tt };
+            ∙ sym (nest_applied block (left_less frame) p.depth p.rows p.visits None None None (frame_of frame ∷ F) R C _ refl ∙ rw
+            (visits_same p.visits C seen.visits, within_rest p.depth (frame_of frame) F d.deep)));
+        fitting = record { change = tt; handler = tt; scope = tt; deep = λ _. ch.closing.depth; next = omega arith; nested = tt };
       })
 
       abbrev refusal : (same : Bool) → List machine.Frame → Output → definition.Context → Result State
@@ -406,7 +416,7 @@ module _ (w : List ℕ) (p : Position) (frame : Frame) where
   pub closing_at_pop : Ready w p frame → p.stage ≡ Pop → Closing w p frame
   closing_at_pop ready e =
       let at : StageFits w Pop p frame = subst (λ (s : Stage). StageFits w s p frame) e ready.stage in
-      record { promise = ready.promise; block = rw (length_blocks w) at at.1.framed.block; depth = at.0; rows = omega (arith, ready.rows); count = at.1.count }
+      record { block = rw (length_blocks w) at at.1.framed.block; depth = at.0; rows = omega (arith, ready.rows); count = at.1.count }
 
   pub popped : {around : Around} {buffer buffer' : List ℕ} {plan : std.Result Plan stopped.Refused} → Ready w p frame → p.stage ≡ Pop → PlannedClose w p frame buffer plan buffer' → PlannedTurn w around (Begun p.visits) p frame buffer plan buffer'
   unfolding step
@@ -422,7 +432,6 @@ module _ (w : List ℕ) (p : Position) (frame : Frame) where
       let fits : FrameFits w 0 p.rows frame = ended_fits ready e deep in
       let below : frame.block < block_count w = rw (length_blocks w) at fits.framed.block in
       record {
-        promise = ready.promise;
         block = below;
         depth = omega (arith, d);
         deep = omega (arith, d, ready.depth);
@@ -445,8 +454,8 @@ module _ (w : List ℕ) (p : Position) (frame : Frame) where
     fitting =
         rw (e, z) (record {
           change = tt;
-          handler = rw no_number tt;
-          scope = rw no_number tt;
+          handler = tt;
+          scope = tt;
           deep = λ y. absurd (let o : ◌≡◌ {A = ℕ} 0 1 = cc in omega arith);
           next = omega arith;
           nested = tt;
@@ -477,37 +486,13 @@ module _ (w : List ℕ) (p : Position) (frame : Frame) where
 
   -- ---- a Switch chooses
 
-  switch_code : (e : Terminal) → is_switch e ≡ true → code_of e ≡ 7
-  switch_code absent h = cc
-  switch_code unreachable h = cc
-  switch_code (throw x) h = cc
-  switch_code (return x) h = cc
-  switch_code (goto x y) h = cc
-  switch_code (if x y z u) h = cc
-  switch_code (branch x y z) h = cc
-  switch_code (switch x y z u) h = refl
-  switch_code (do_while x y z) h = cc
-  switch_code (while x y z) h = cc
-  switch_code (for x y z u v) h = cc
-  switch_code (for_of x y z u) h = cc
-  switch_code (for_in x y z) h = cc
-  switch_code (logical x y z) h = cc
-  switch_code (ternary x y) h = cc
-  switch_code (optional x y z) h = cc
-  switch_code (label x y) h = cc
-  switch_code (sequence x y) h = cc
-  switch_code (maybe_throw x) h = cc
-  switch_code (try x y z u) h = cc
-  switch_code (scope x y z u) h = cc
-
   pub choosing_fits : Ready w p frame → p.stage ≡ Choose → Choosing w p frame
   choosing_fits ready e =
       let here : StageFits w Choose p frame = subst (λ (s : Stage). StageFits w s p frame) e ready.stage in
       let below : frame.block < block_count w = rw (length_blocks w) at here.2.framed.block in
-      let code : code_at w frame.block ≡ 7 = sym (code_at_lem w frame.block ready.promise below) ∙ switch_code (terminal_at (table_of w) frame.block) here.1 in
       record {
-        code = code;
-        closing = record { promise = ready.promise; block = below; depth = here.0; rows = omega (arith, ready.rows); count = here.2.count };
+        switches = here.1;
+        closing = record { block = below; depth = here.0; rows = omega (arith, ready.rows); count = here.2.count };
         case = omega (arith, length_cases w, here.2.framed.case here.1);
       }
 

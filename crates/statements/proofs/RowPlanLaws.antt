@@ -8,11 +8,10 @@ use mathlib.Core.Path.{◌≡◌, refl, sym, ap, ◌∙◌, subst}
 use mathlib.Core.Bool.{Bool, true, false, ◌||◌}
 use mathlib.Core.List.{List, [], ◌∷◌, ◌++◌}
 use mathlib.Core.Option.{Option, none, some}
-use lib.Dec.{eqb}
 use Rattle.table.specs.declared.columns.Span.{Span}
 use Rattle.table.specs.Promise.{Ends, Heads}
-use Rattle.table.specs.Table.{unless_none, throw, return, scope}
-use Rattle.table.proofs.BlockLaws.{no_number, some_number}
+use Rattle.table.specs.Columns.{maybe_of}
+use Rattle.table.specs.Table.{throw, return, scope}
 use Rattle.definition.specs.Build.{rejected}
 use Rattle.definition.specs.Context.{Flags, has, pushed, is_scheduled, mark_scope_fallthrough}
 use Rattle.definition.specs.Context as definition
@@ -22,7 +21,6 @@ use Rattle.machine.specs.Machine as machine
 use Rattle.definition.specs.Result.{ok}
 use Rattle.definition.specs.Statement.{unless_scheduled, mark_scope_fallthrough_if}
 use Rattle.definition.specs.Tree.{Row, row}
-use Rattle.machine.specs.Framed.{Below}
 use Rattle.values.specs.Rows.{Holds, Written}
 use Rattle.values.specs.Stack as stack
 use Rattle.values.proofs.RowLaws.{written_held}
@@ -33,16 +31,12 @@ use Rattle.statements.specs.declared.refusal.Refusal.TheVariants.{ScopeBlockSche
 use Rattle.statements.specs.declared.refusal.Refused.{Refused}
 use Rattle.statements.specs.Plans.{scoped, applied, open_frame, leaving, entries_if, schedule_if, scheduled_with, enclosing, with_scope}
 use Rattle.statements.specs.Planned.{Stands, Seen, Fitting, Planned, PlannedBare, Entered, terminal_step, SameVisits}
-use Rattle.statements.proofs.PlanLaws.{within_all, visits_same, refuse_applied, leave_applied, nest_applied, Label, no_label, free_label, label_taken, label_entries, label_if}
+use Rattle.statements.proofs.PlanLaws.{within_all, visits_same, refuse_applied, leave_applied, nest_applied, Label, label_taken, label_below, label_entries, label_if}
 use Rattle.statements.proofs.StepLaws.{label_scheduled, into_busy, into_free, turn_refused, turn_ok, busy_with}
 use Rattle.statements.proofs.PlannedLaws.{bare_planned, step_by, Takes}
 use Rattle.statements.proofs.VisitLaws.{named_if}
 
 -- ---- scopes
-
-label_in : {S : Flags} (n : ℕ) → Label S n → Below 1024 (unless_none n)
-label_in n (no_label e) = subst (λ (z : Option ℕ). Below 1024 z) (sym (ap unless_none e ∙ no_number)) tt
-label_in n (free_label h _) = subst (λ (z : Option ℕ). Below 1024 z) (sym (some_number n (λ q. omega arith))) h
 
 scope_moved : (g : Option ℕ) (C : definition.Context) → mark_scope_fallthrough_if g (scheduled_if g C) ≡ scheduled_if g (scoped g C)
 unfolding mark_scope_fallthrough_if
@@ -64,19 +58,19 @@ scope_visits none C = refl
 scope_visits (some f) C = unfold pushed mark_scope_fallthrough in refl
 
 -- with the scope of a plan, if it is one
-abbrev pub scoping : std.Result Plan Refused → ℕ → std.Result Plan Refused
+abbrev pub scoping : std.Result Plan Refused → std.Option ℕ → std.Result Plan Refused
 scoping (Ok plan) n = Ok (with_scope plan n)
 scoping (Err e) n = Err e
 
-module _ (w : List ℕ) (S H : Flags) (p : Position) (en : Entered w p) (pruned : Bool) (x f s n : ℕ) (ends : Ends w p.block (scope pruned x f s)) (takes : Takes S H f n) where
+module _ (w : List ℕ) (S H : Flags) (p : Position) (en : Entered w p) (pruned : Bool) (x f s : ℕ) (n : std.Option ℕ) (ends : Ends w p.block (scope pruned x f s)) (takes : Takes S H f n) where
   few : (x < 1024) × (f < 1024)
   few = (omega (arith, ends.named.0, ends.few), omega (arith, ends.named.1, ends.few))
 
   l : Label S n
   l = rw takes (label_taken S H false f few.1)
 
-  label_is : (C : definition.Context) → Seen S H p.visits C → unless_scheduled C f ≡ unless_none n
-  label_is C seen = label_scheduled w en.promise S H p.visits C seen f few.1 ∙ ap unless_none (sym takes)
+  label_is : (C : definition.Context) → Seen S H p.visits C → unless_scheduled C f ≡ maybe_of n
+  label_is C seen = label_scheduled S H p.visits C seen f ∙ ap maybe_of (sym takes)
 
   abbrev E : Bool → std.Result Plan Refused
   E b = scoping (enclosing b p n x (ScopeBlockScheduled p.block)) n
@@ -87,23 +81,23 @@ module _ (w : List ℕ) (S H : Flags) (p : Position) (en : Entered w p) (pruned 
 
   fits : (b : Bool) → IfOk (E b) (λ y. Fitting [] p.depth y)
   fits true = tt
-  fits false = record { change = named_if n l; handler = rw no_number tt; scope = label_in n l; deep = λ _. omega arith; next = omega arith; nested = tt }
+  fits false = record { change = named_if S n l; handler = tt; scope = label_below S n l; deep = λ _. omega arith; next = omega arith; nested = tt }
 
-  scoped_by : (F : List machine.Frame) (R : Output) (C : definition.Context) → Stands F R p.depth p.rows → Seen S H p.visits C → (b : Bool) → eqb x n || (has S x || has H x) ≡ b
-      → turn (into x 18 p.block (machine.frame_of p.block (unless_none n) (opens (unless_none n)) R p.count) F R
-      (mark_scope_fallthrough_if (unless_none n) (scheduled_if (unless_none n) C))) ≡ applied (E b) F R C
+  scoped_by : (F : List machine.Frame) (R : Output) (C : definition.Context) → Stands F R p.depth p.rows → Seen S H p.visits C → (b : Bool) → scheduled_with (has S x || has H x) n x ≡ b
+      → turn (into x 18 p.block (machine.frame_of p.block (maybe_of n) (opens (maybe_of n)) R p.count) F R
+      (mark_scope_fallthrough_if (maybe_of n) (scheduled_if (maybe_of n) C))) ≡ applied (E b) F R C
   scoped_by F R C d seen true o =
-      ap turn (into_busy x 18 p.block _ F R _ (scope_busy (unless_none n) (unless_none n) C x ∙ busy_with S H p.visits n x C l few.0 seen ∙ o)) ∙ turn_refused 18 p.block _
-      ∙ ap (λ (v : ℕ). halt (rejected 18 p.block v)) (scope_visits (unless_none n) C ∙ seen.visits) ∙ sym (refuse_applied p (ScopeBlockScheduled p.block) F R C)
+      ap turn (into_busy x 18 p.block _ F R _ (scope_busy (maybe_of n) (maybe_of n) C x ∙ busy_with S H p.visits n x C l seen ∙ o)) ∙ turn_refused 18 p.block _
+      ∙ ap (λ (v : ℕ). halt (rejected 18 p.block v)) (scope_visits (maybe_of n) C ∙ seen.visits) ∙ sym (refuse_applied p (ScopeBlockScheduled p.block) F R C)
   scoped_by F R C d seen false o =
-      ap turn (into_free x 18 p.block _ F R _ (scope_busy (unless_none n) (unless_none n) C x ∙ busy_with S H p.visits n x C l few.0 seen ∙ o)) ∙ turn_ok _
-      ∙ sym (nest_applied x (open_frame p n (entries_if (eqb n 65535))) (p.depth + 1) p.rows p.visits 65535 n (schedule_if (eqb n 65535) n) F R C
-      (mark_scope_fallthrough_if (unless_none n) (scheduled_if (unless_none n) C))
-      (rw (no_number, visits_same p.visits C seen.visits, scope_moved (unless_none n) C) (label_if l (scoped (unless_none n) C) (scope_seen (unless_none n) C ∙ seen.scheduled)))
+      ap turn (into_free x 18 p.block _ F R _ (scope_busy (maybe_of n) (maybe_of n) C x ∙ busy_with S H p.visits n x C l seen ∙ o)) ∙ turn_ok _
+      ∙ sym (nest_applied x (open_frame p n (entries_if n)) (p.depth + 1) p.rows p.visits None n (schedule_if n) F R C
+      (mark_scope_fallthrough_if (maybe_of n) (scheduled_if (maybe_of n) C))
+      (rw (visits_same p.visits C seen.visits, scope_moved (maybe_of n) C) (label_if S n l (scoped (maybe_of n) C) (scope_seen (maybe_of n) C ∙ seen.scheduled)))
       ∙ rw (label_entries n, d.many, within_all (p.depth + 1 - 1) F (omega (arith, d.deep))))
 
   abbrev busy_now : Bool
-  busy_now = eqb x n || (has S x || has H x)
+  busy_now = scheduled_with (has S x || has H x) n x
 
   scope_enclosed : (plan : std.Result Plan Refused) {busy : Bool} {inner : std.Result Plan Refused} → busy ≡ has S x || has H x → inner ≡ enclosing (scheduled_with busy n x) p n x (ScopeBlockScheduled p.block)
       → plan ≡ scoping inner n → PlannedBare w S H p plan
@@ -114,7 +108,7 @@ module _ (w : List ℕ) (S H : Flags) (p : Position) (en : Entered w p) (pruned 
 
 -- what the code of a scope returns
 module _ {w : List ℕ} {S H : Flags} {p : Position} {plan : std.Result Plan Refused} (en : Entered w p) {pruned : Bool} {x f s : ℕ} (ends : Ends w p.block (scope pruned x f s)) where
-  pub scope_nested : {n : ℕ} {busy : Bool} {inner : std.Result Plan Refused} → Takes S H f n → busy ≡ has S x || has H x
+  pub scope_nested : {n : std.Option ℕ} {busy : Bool} {inner : std.Result Plan Refused} → Takes S H f n → busy ≡ has S x || has H x
       → inner ≡ enclosing (scheduled_with busy n x) p n x (ScopeBlockScheduled p.block) → plan ≡ scoping inner n → PlannedBare w S H p plan
   scope_nested {n} takes b i e = scope_enclosed w S H p en pruned x f s n ends takes plan b i e
 
@@ -124,29 +118,29 @@ module _ {w : List ℕ} {S H : Flags} {p : Position} {plan : std.Result Plan Ref
 pub left_planned : (w : List ℕ) (p : Position) (out : List Row) (b b' : List ℕ) (rows' count' : ℕ) (plan : Plan)
     → ((before : List Row) → Holds b p.rows (stack.pushed before []) → Holds b' rows' (stack.pushed (before ++ out) []))
     → ((F : List machine.Frame) (R : Output) (C : definition.Context) → Stands F R p.depth p.rows → C.visits ≡ p.visits → terminal_step w p F R C ≡ ok (ended F (R ⊕ out) count' C))
-    → plan ≡ leaving 65535 p.depth count' rows' p.visits None
+    → plan ≡ leaving None p.depth count' rows' p.visits None
     → Planned (terminal_step w p) (λ C. C.visits ≡ p.visits) [] p.depth p.rows b (Ok plan) b'
 left_planned w p out b b' rows' count' plan held same e = subst (λ (z : Plan). Planned (terminal_step w p) (λ C. C.visits ≡ p.visits) [] p.depth p.rows b (Ok z) b') (sym e) (record {
   out = out;
   held = λ before h. held before h;
   same =
       λ F R C d v. ap turn (same F R C d v) ∙ turn_ok _ ∙ sym
-      (leave_applied 65535 p.depth count' rows' p.visits None F (R ⊕ out) C _ refl ∙ rw
-      (no_number, visits_same p.visits C v, within_all p.depth F d.deep));
-  fitting = record { change = tt; handler = rw no_number tt; scope = rw no_number tt; deep = λ z. absurd (let o : ◌≡◌ {A = ℕ} 0 1 = cc in omega arith); next = omega arith; nested = tt };
+      (leave_applied None p.depth count' rows' p.visits None F (R ⊕ out) C _ refl ∙ rw
+      (visits_same p.visits C v, within_all p.depth F d.deep));
+  fitting = record { change = tt; handler = tt; scope = tt; deep = λ z. absurd (let o : ◌≡◌ {A = ℕ} 0 1 = cc in omega arith); next = omega arith; nested = tt };
 })
 
 pub row_held : (b b' : List ℕ) (n n' : ℕ) (r : Row) → Written b n r b' n' → (before : List Row) → Holds b n (stack.pushed before []) → Holds b' n' (stack.pushed (before ++ (r ∷ [])) [])
 row_held b b' n n' r h before k = rw (push_row_after) at (written_held h (stack.pushed before []) k)
 
 module _ {w : List ℕ} {p : Position} {plan : Plan} {b b' : List ℕ} {rows' v first count id : ℕ} {span : Span} (en : Entered w p) (heads : Heads w p.block first count id span) where
-  pub return_left : Ends w p.block (return v) → Written b p.rows (row 22 v id 0 0 0) b' rows' → plan ≡ leaving 65535 p.depth (p.count + 1) rows' p.visits None
+  pub return_left : Ends w p.block (return v) → Written b p.rows (row 22 v id 0 0 0) b' rows' → plan ≡ leaving None p.depth (p.count + 1) rows' p.visits None
       → Planned (terminal_step w p) (SameVisits p) [] p.depth p.rows b (Ok plan) b'
   unfolding terminal_turn
   return_left ends h e = left_planned w p (row 22 v id 0 0 0 ∷ []) b b' rows' (p.count + 1) plan (row_held b b' p.rows rows' _ h)
       (λ F R C d s. step_by w p _ F R C ends.is ∙ rw (heads.is_id, add-one)) e
 
-  pub throw_left : Ends w p.block (throw v) → Written b p.rows (row 23 v id 0 0 0) b' rows' → plan ≡ leaving 65535 p.depth (p.count + 1) rows' p.visits None
+  pub throw_left : Ends w p.block (throw v) → Written b p.rows (row 23 v id 0 0 0) b' rows' → plan ≡ leaving None p.depth (p.count + 1) rows' p.visits None
       → Planned (terminal_step w p) (SameVisits p) [] p.depth p.rows b (Ok plan) b'
   unfolding terminal_turn
   throw_left ends h e = left_planned w p (row 23 v id 0 0 0 ∷ []) b b' rows' (p.count + 1) plan (row_held b b' p.rows rows' _ h)

@@ -1,7 +1,7 @@
 -- What a block's jump looks for, and the search of the stack for it, an entry at a time.
 use Rattle.std.specs.Prelude.{None, Some}
 use Rattle.std.specs.Prelude as std
-use Prim.Native.Nat.{ℕ, ◌+◌, ◌-◌, ◌<◌, ◌≤◌}
+use Prim.Native.Nat.{ℕ, ◌+◌, ◌-◌, ◌≤◌}
 use native.Mathlib.Omega.{arith}
 use mathlib.Core.Path.{◌≡◌, refl, sym, ap, ◌∙◌, subst}
 use mathlib.Core.Bool.{Bool, true, false, ◌||◌}
@@ -9,11 +9,14 @@ use mathlib.Core.List.{List}
 use mathlib.Core.Option.{Option, none}
 use lib.Dec.{eqb}
 use borrow.Author.Tests.{eq-eqb, ne_eqb, eqb-true, eqb-false}
-use Rattle.table.specs.Words.{block_count, code_at}
-use Rattle.table.specs.Promise.{Promise, Ends}
-use Rattle.table.specs.Table.{Terminal, absent, unreachable, throw, return, goto, if, branch, switch, do_while, while, for, for_of, for_in, logical, ternary}
-use Rattle.table.specs.Table.{optional, label, sequence, maybe_throw, try, scope, code_of, table_of, terminal_at, Break, Continue, Try}
-use Rattle.table.proofs.BlockLaws.{code_at_lem}
+use Rattle.table.specs.Promise.{Ends}
+use Rattle.table.specs.declared.terminals.Terminal.{Terminal as Ending}
+use Rattle.table.specs.declared.terminals.Terminal.TheVariants as ends
+use Rattle.table.specs.declared.terminals.Goto.{Goto}
+use Rattle.table.specs.declared.terminals.Branch.{Branch}
+use Rattle.table.specs.Ending.{ending}
+use Rattle.table.specs.Table.{Terminal, goto, branch}
+use Rattle.table.specs.Table.{Break, Continue, Try}
 use Rattle.definition.specs.Context.{Flags, has, is_scheduled, loops_of, break_target_from, continue_target_from, get_break_target, get_continue_target}
 use Rattle.definition.specs.Context as definition
 use Rattle.definition.specs.Around.{Around}
@@ -27,33 +30,33 @@ use Rattle.statements.specs.Turn.{Resolves}
 use Rattle.statements.specs.Search.{found_by, searched_from, is_met, resolved_at, Searches}
 
 -- a terminal that is no jump
-quiet : (e : Terminal) (around : Around) (cx : definition.Context) (aim : Option Goal) → (code_of e ≡ 4 → ⊥) → (code_of e ≡ 6 → ⊥) → Resolves e around cx aim
-quiet absent around cx aim f g = tt
-quiet unreachable around cx aim f g = tt
-quiet (throw value) around cx aim f g = tt
-quiet (return value) around cx aim f g = tt
-quiet (goto target variant) around cx aim f g = absurd (f refl)
-quiet (if test consequent alternate fallthrough) around cx aim f g = tt
-quiet (branch test consequent alternate) around cx aim f g = absurd (g refl)
-quiet (switch test first number fallthrough) around cx aim f g = tt
-quiet (do_while loop test fallthrough) around cx aim f g = tt
-quiet (while test loop fallthrough) around cx aim f g = tt
-quiet (for init test update loop fallthrough) around cx aim f g = tt
-quiet (for_of init test loop fallthrough) around cx aim f g = tt
-quiet (for_in init loop fallthrough) around cx aim f g = tt
-quiet (logical operator test fallthrough) around cx aim f g = tt
-quiet (ternary test fallthrough) around cx aim f g = tt
-quiet (optional chain test fallthrough) around cx aim f g = tt
-quiet (label body fallthrough) around cx aim f g = tt
-quiet (sequence body fallthrough) around cx aim f g = tt
-quiet (maybe_throw continuation) around cx aim f g = tt
-quiet (try body handler fallthrough binding) around cx aim f g = tt
-quiet (scope pruned body fallthrough number) around cx aim f g = tt
+quiet : (e : Ending) (around : Around) (cx : definition.Context) (aim : Option Goal) → ((x : Goto) → e ≡ ends.Goto x → ⊥) → ((x : Branch) → e ≡ ends.Branch x → ⊥) → Resolves (ending e) around cx aim
+quiet ends.Absent around cx aim f g = tt
+quiet ends.Unreachable around cx aim f g = tt
+quiet (ends.Throw x) around cx aim f g = tt
+quiet (ends.Return x) around cx aim f g = tt
+quiet (ends.Goto x) around cx aim f g = absurd (f x refl)
+quiet (ends.If x) around cx aim f g = tt
+quiet (ends.Branch x) around cx aim f g = absurd (g x refl)
+quiet (ends.Switch x) around cx aim f g = tt
+quiet (ends.DoWhile x) around cx aim f g = tt
+quiet (ends.While x) around cx aim f g = tt
+quiet (ends.For x) around cx aim f g = tt
+quiet (ends.ForOf x) around cx aim f g = tt
+quiet (ends.ForIn x) around cx aim f g = tt
+quiet (ends.Logical x) around cx aim f g = tt
+quiet (ends.Ternary x) around cx aim f g = tt
+quiet (ends.Optional x) around cx aim f g = tt
+quiet (ends.Label x) around cx aim f g = tt
+quiet (ends.Sequence x) around cx aim f g = tt
+quiet (ends.MaybeThrow x) around cx aim f g = tt
+quiet (ends.Try x) around cx aim f g = tt
+quiet (ends.Scope x) around cx aim f g = tt
+quiet (ends.PrunedScope x) around cx aim f g = tt
 
 module _ (w : List ℕ) (S H : Flags) (b : ℕ) where
-  pub no_jump : Promise w → b < block_count w → (code_at w b ≡ 4 → ⊥) → (code_at w b ≡ 6 → ⊥) → Searches w S H b None
-  no_jump pr below f g =
-      record { resolves = λ around cx s h. quiet (terminal_at (table_of w) b) around cx none (λ e. f (sym (code_at_lem w b pr below) ∙ e)) (λ e. g (sym (code_at_lem w b pr below) ∙ e)) }
+  pub no_jump : (e : Ending) → Ends w b (ending e) → ((x : Goto) → e ≡ ends.Goto x → ⊥) → ((x : Branch) → e ≡ ends.Branch x → ⊥) → Searches w S H b None
+  no_jump e is f g = record { resolves = λ around cx s h. subst (λ (z : Terminal). Resolves z around cx none) (sym is.is) (quiet e around cx none f g) }
 
   -- ---- Goto
 

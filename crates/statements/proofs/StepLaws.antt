@@ -1,4 +1,6 @@
 -- The machine's steps by what an arm sees: the words and the sets.
+use Rattle.std.specs.Prelude.{None, Some}
+use Rattle.std.specs.Prelude as std
 use Prim.Native.Nat.{ℕ, ◌+◌, ◌-◌, ◌<◌}
 use native.Mathlib.Omega.{arith}
 use mathlib.Core.Path.{◌≡◌, refl, sym, ap, ◌∙◌}
@@ -10,10 +12,8 @@ use lib.ListN.{length, get_or, set}
 use lib.Seq.{get_or-set_same, get_or-set_other}
 use borrow.Author.Tests.{eq-eqb, ne_eqb}
 use native.Mathlib.Decide.{ℕ_discrete}
-use Rattle.table.specs.Words.{block_count, block_word}
-use Rattle.table.specs.Promise.{Promise}
-use Rattle.table.specs.Table.{table_of, unless_none}
-use Rattle.table.proofs.BlockLaws.{no_number, some_number, code_at_lem}
+use Rattle.table.specs.Columns.{maybe_of}
+use Rattle.table.specs.Table.{Table, terminal_at, is_absent, is_unreachable}
 use Rattle.definition.specs.Build.{rejected}
 use Rattle.definition.specs.Context.{Flags, has, add, is_scheduled, pushed, target_if}
 use Rattle.definition.specs.Context as definition
@@ -27,7 +27,7 @@ use Rattle.statements.specs.declared.refusal.Refusal.{Refusal}
 use Rattle.statements.specs.Refusal.{refusal_code, refusal_place}
 use Rattle.statements.specs.Plans.{unless_refused, applied, open_frame, unless_taken, entries_if, schedule_if, scheduled_with, enclosing}
 use Rattle.statements.specs.Planned.{Seen, Stands}
-use Rattle.statements.proofs.PlanLaws.{within_all, visits_same, refuse_applied, nest_applied, Label, no_label, free_label, label_entries, label_if}
+use Rattle.statements.proofs.PlanLaws.{within_all, visits_same, refuse_applied, nest_applied, Label, label_entries, label_if}
 
 -- ---- sets
 
@@ -45,27 +45,27 @@ pub seen_scheduled : (S H : Flags) (v : ℕ) (C : definition.Context) → Seen S
 unfolding is_scheduled
 seen_scheduled S H v C seen x = rw (seen.scheduled, seen.handlers)
 
-module _ (ws : List ℕ) (pr : Promise ws) (S H : Flags) (v : ℕ) (C : definition.Context) (seen : Seen S H v C) where
-  pub label_scheduled : (f : ℕ) → f < 1024 → unless_scheduled C f ≡ unless_none (unless_taken (has S f || has H f) f)
+module _ (S H : Flags) (v : ℕ) (C : definition.Context) (seen : Seen S H v C) where
+  pub label_scheduled : (f : ℕ) → unless_scheduled C f ≡ maybe_of (unless_taken (has S f || has H f) f)
   unfolding unless_scheduled
-  label_scheduled f h = rw (seen_scheduled S H v C seen f, unless_scheduled) (at (has S f || has H f))
+  label_scheduled f = rw (seen_scheduled S H v C seen f, unless_scheduled) (at (has S f || has H f))
     where
-      at : (y : Bool) → elim y [ true ↦ none | false ↦ some f ] ≡ unless_none (unless_taken y f)
-      at true = sym no_number
-      at false = sym (some_number f (λ e. omega arith))
+      at : (y : Bool) → elim y [ true ↦ none | false ↦ some f ] ≡ maybe_of (unless_taken y f)
+      at true = refl
+      at false = refl
 
-  pub label_missing : (f : ℕ) → f < block_count ws → block_word ws f 2 ≡ 0 → unless_unreachable (table_of ws) C f ≡ refused 10 f C.visits
+  pub label_missing : (t : Table) (f : ℕ) → is_absent (terminal_at t f) ≡ true → unless_unreachable t C f ≡ refused 10 f C.visits
   unfolding unless_unreachable refuse_if ◌>>=◌
-  label_missing f h e = rw (code_at_lem ws f pr h ∙ e)
+  label_missing t f e = rw e
 
-  pub label_reached : (f : ℕ) → f < block_count ws → f < 1024 → (block_word ws f 2 ≡ 0 → ⊥)
-      → unless_unreachable (table_of ws) C f ≡ ok (unless_none (unless_taken (eqb (block_word ws f 2) 1 || (has S f || has H f)) f))
+  pub label_reached : (t : Table) (f : ℕ) → is_absent (terminal_at t f) ≡ false
+      → unless_unreachable t C f ≡ ok (maybe_of (unless_taken (is_unreachable (terminal_at t f) || (has S f || has H f)) f))
   unfolding unless_unreachable refuse_if ◌>>=◌
-  label_reached f h k e = rw (code_at_lem ws f pr h, ne_eqb (block_word ws f 2) 0 e) (at (eqb (block_word ws f 2) 1))
+  label_reached t f e = rw e (at (is_unreachable (terminal_at t f)))
     where
-      at : (y : Bool) → ok (elim y [ true ↦ none | false ↦ unless_scheduled C f ]) ≡ ok (unless_none (unless_taken (y || (has S f || has H f)) f))
-      at true = ap ok (sym no_number)
-      at false = ap ok (label_scheduled f k)
+      at : (y : Bool) → ok (elim y [ true ↦ none | false ↦ unless_scheduled C f ]) ≡ ok (maybe_of (unless_taken (y || (has S f || has H f)) f))
+      at true = refl
+      at false = ap ok (label_scheduled f)
 
 -- ---- a statement with a label and one nested block
 
@@ -94,44 +94,40 @@ unfolding into refuse_if ◌>>=◌
 into_free block code at fr F R C e = rw e
 
 -- whether a block is scheduled once the label is
-pub busy_with : (S H : Flags) (v n block : ℕ) (C : definition.Context) → Label S n → block < 1024 → Seen S H v C
-    → is_scheduled (scheduled_if (unless_none n) C) block ≡ eqb block n || (has S block || has H block)
-busy_with S H v n block C (no_label e) k seen =
-    ap (λ (z : Option ℕ). is_scheduled (scheduled_if z C) block) (ap unless_none e ∙ no_number) ∙ seen_scheduled S H v C seen block
-    ∙ sym (ap (λ (y : Bool). y || (has S block || has H block)) (ne_eqb block n (λ q. omega arith)))
-busy_with S H v n block C (free_label h _) k seen =
-    ap (λ (z : Option ℕ). is_scheduled (scheduled_if z C) block) (some_number n (λ q. omega arith)) ∙ scheduled_push n block C (wide h) ∙ ap
-    (λ (y : Bool). eqb block n || y) (seen_scheduled S H v C seen block)
+pub busy_with : (S H : Flags) (v : ℕ) (n : std.Option ℕ) (block : ℕ) (C : definition.Context) → Label S n → Seen S H v C
+    → is_scheduled (scheduled_if (maybe_of n) C) block ≡ scheduled_with (has S block || has H block) n block
+busy_with S H v None block C l seen = seen_scheduled S H v C seen block
+busy_with S H v (Some taken) block C l seen = scheduled_push taken block C wide ∙ ap (λ (y : Bool). eqb block taken || y) (seen_scheduled S H v C seen block)
   where
-    wide : n < 1024 → n < length C.scheduled
-    wide h = rw seen.scheduled (omega (arith, seen.wide))
+    wide : taken < length C.scheduled
+    wide = rw seen.scheduled (omega (arith, seen.wide, l.0))
 
 -- what `enclose` plans is what the machine does
-pub enclose_same : (S H : Flags) (p : Position) (n block : ℕ) (r : Refusal) (F : List machine.Frame) (R : Output) (C : definition.Context)
-    → Label S n → block < 1024 → Seen S H p.visits C → Stands F R p.depth p.rows
-    → turn (into block (refusal_code r) (refusal_place r) (machine.frame_of p.block (unless_none n) (opens (unless_none n)) R p.count) F R (scheduled_if (unless_none n) C))
+pub enclose_same : (S H : Flags) (p : Position) (n : std.Option ℕ) (block : ℕ) (r : Refusal) (F : List machine.Frame) (R : Output) (C : definition.Context)
+    → Label S n → Seen S H p.visits C → Stands F R p.depth p.rows
+    → turn (into block (refusal_code r) (refusal_place r) (machine.frame_of p.block (maybe_of n) (opens (maybe_of n)) R p.count) F R (scheduled_if (maybe_of n) C))
     ≡ applied (enclosing (scheduled_with (has S block || has H block) n block) p n block r) F R C
-enclose_same S H p n block r F R C l k seen d = by (eqb block n || (has S block || has H block)) refl
+enclose_same S H p n block r F R C l seen d = by (scheduled_with (has S block || has H block) n block) refl
   where
     fr : machine.Frame
-    fr = machine.frame_of p.block (unless_none n) (opens (unless_none n)) R p.count
+    fr = machine.frame_of p.block (maybe_of n) (opens (maybe_of n)) R p.count
 
     D : definition.Context
-    D = scheduled_if (unless_none n) C
+    D = scheduled_if (maybe_of n) C
 
-    busy : is_scheduled D block ≡ eqb block n || (has S block || has H block)
-    busy = busy_with S H p.visits n block C l k seen
+    busy : is_scheduled D block ≡ scheduled_with (has S block || has H block) n block
+    busy = busy_with S H p.visits n block C l seen
 
     visits : (z : Option ℕ) → (scheduled_if z C).visits ≡ p.visits
     visits none = seen.visits
     visits (some f) = unfold pushed in seen.visits
 
-    by : (y : Bool) → eqb block n || (has S block || has H block) ≡ y → turn (into block (refusal_code r) (refusal_place r) fr F R D) ≡ applied (enclosing y p n block r) F R C
+    by : (y : Bool) → scheduled_with (has S block || has H block) n block ≡ y → turn (into block (refusal_code r) (refusal_place r) fr F R D) ≡ applied (enclosing y p n block r) F R C
     by true e =
-        ap turn (into_busy block (refusal_code r) (refusal_place r) fr F R D (busy ∙ e) ∙ ap (λ (v : ℕ). refused (refusal_code r) (refusal_place r) v) (visits (unless_none n)))
+        ap turn (into_busy block (refusal_code r) (refusal_place r) fr F R D (busy ∙ e) ∙ ap (λ (v : ℕ). refused (refusal_code r) (refusal_place r) v) (visits (maybe_of n)))
         ∙ turn_refused (refusal_code r) (refusal_place r) p.visits ∙ sym (refuse_applied p r F R C)
     by false e =
         ap turn (into_free block (refusal_code r) (refusal_place r) fr F R D (busy ∙ e)) ∙ turn_ok _
-        ∙ sym (nest_applied block (open_frame p n (entries_if (eqb n 65535))) (p.depth + 1) p.rows p.visits 65535 65535 (schedule_if (eqb n 65535) n) F R C D
-        (rw (no_number, visits_same p.visits C seen.visits) (label_if l C seen.scheduled))
+        ∙ sym (nest_applied block (open_frame p n (entries_if n)) (p.depth + 1) p.rows p.visits None None (schedule_if n) F R C D
+        (rw (visits_same p.visits C seen.visits) (label_if S n l C seen.scheduled))
         ∙ rw (label_entries n, d.many, within_all (p.depth + 1 - 1) F (omega (arith, d.deep))))

@@ -1,23 +1,21 @@
 -- The visit of a block: what comes before its terminal, and what the terminal's arms see.
 use Rattle.std.specs.Prelude.{IfOk}
 use Rattle.std.specs.Prelude as std
-use Prim.Native.Nat.{ℕ, zero, suc, ◌+◌, ◌-◌, ◌≤◌, ◌<◌}
+use Prim.Native.Nat.{ℕ, suc, ◌+◌, ◌≤◌, ◌<◌}
 use native.Mathlib.Omega.{arith}
 use mathlib.Core.Path.{◌≡◌, refl, sym, ap, ◌∙◌, subst}
-use mathlib.Core.Logic.{◌⊎◌, inl, inr}
 use mathlib.Core.Bool.{true, false, ◌||◌}
 use mathlib.Core.List.{List, [], ◌++◌, append_assoc}
 use mathlib.Core.Option.{Option}
 use lib.Dec.{eqb}
 use lib.ListN.{length}
-use borrow.Author.Tests.{eq-eqb, ne_eqb, le-leb, lt-leb}
+use borrow.Author.Tests.{le-leb, lt-leb}
 use Rattle.table.specs.declared.columns.Span.{Span}
-use Rattle.table.specs.Words.{code_at}
-use Rattle.table.specs.Promise.{Heads}
+use Rattle.table.specs.Promise.{Ends, Heads}
 use Rattle.table.specs.Table.{Table, Terminal, absent, unreachable, throw, return, goto, if, branch, switch, do_while, while, for, for_of, for_in}
 use Rattle.table.specs.Table.{logical, ternary, optional, label, sequence, maybe_throw, try, scope, Break, Continue, Try, code_of, table_of}
-use Rattle.table.specs.Table.{terminal_at, block_at, rows_from, instruction_rows_at}
-use Rattle.table.proofs.BlockLaws.{code_at_lem, length_rows}
+use Rattle.table.specs.Table.{terminal_at, is_absent, block_at, rows_from, instruction_rows_at}
+use Rattle.table.proofs.BlockLaws.{length_rows}
 use Rattle.definition.specs.Context.{Flags, has, emit, with_visits, is_scheduled, get_break_target, get_continue_target}
 use Rattle.definition.specs.Context as definition
 use Rattle.definition.proofs.Lines.{out_assoc}
@@ -48,7 +46,6 @@ use Rattle.statements.specs.declared.refusal.Refusal.TheVariants.{MissingBlock, 
 use Rattle.statements.specs.Refusal.{refusal_code, refusal_place}
 use Rattle.statements.specs.Plans.{state_at, applied, refusing}
 use Rattle.statements.specs.Planned.{Stands, Seen, Fitting, Planned, Entered, terminal_step_in, terminal_step}
-use Rattle.statements.specs.Loops.{value_code}
 use Rattle.statements.specs.Jumps.{JumpSeen, GotoSeen, BranchSeen}
 use Rattle.statements.specs.Turn.{Resolves, Shown, AtTerminal, Visits, in_hand, StageFits, Ready, emitting, PlannedTurn}
 use Rattle.statements.proofs.PlanLaws.{ok_to, refuse_applied}
@@ -68,19 +65,16 @@ module _ {w : List ℕ} {S H Z : Flags} {p : Position} {aim : std.Option code.Go
   pub branch_seen : BranchSeen w p S H Z aim around C
   branch_seen = record { seen = jump_seen; sets = A.seen; jump = A.jump }
 
--- a terminal that is no jump, by its code, with anything around
-pub elsewhere : (around : Around) {w : List ℕ} {p : Position} {On On' : definition.Context → Type 0} {buffer buffer' : List ℕ} {plan : std.Result Plan Refused} {read n : ℕ} → Entered w p
-    → read ≡ code_at w p.block → read ≡ n → eqb n 4 || eqb n 6 ≡ false → ((C : definition.Context) → On' C → On C)
+-- a terminal that is no jump, with anything around
+pub elsewhere : (around : Around) {w : List ℕ} {p : Position} {On On' : definition.Context → Type 0} {buffer buffer' : List ℕ} {plan : std.Result Plan Refused} {e : Terminal}
+    → Entered w p → Ends w p.block e → eqb (code_of e) 4 || eqb (code_of e) 6 ≡ false → ((C : definition.Context) → On' C → On C)
     → Planned (terminal_step w p) On [] p.depth p.rows buffer plan buffer' → Planned (terminal_step_in around w p) On' [] p.depth p.rows buffer plan buffer'
-elsewhere around {w} {p} {n = n} en q k other on m =
+elsewhere around {w} {p} {e = e} en ends other on m =
     planned_as (λ F R C. around_unread around (table_of w) _ (terminal_at (table_of w) p.block) p.block _ F R p.count C
-    (λ e. apart (ap (λ (z : ℕ). eqb z 4 || eqb z 6) (sym code ∙ e))) (λ e. apart (ap (λ (z : ℕ). eqb z 4 || eqb z 6) (sym code ∙ e)))) on m
+    (λ k. apart (ap (λ (z : ℕ). eqb z 4 || eqb z 6) (sym (ap code_of ends.is) ∙ k))) (λ k. apart (ap (λ (z : ℕ). eqb z 4 || eqb z 6) (sym (ap code_of ends.is) ∙ k)))) on m
   where
-    code : code_of (terminal_at (table_of w) p.block) ≡ n
-    code = code_at_lem w p.block en.promise en.block ∙ sym q ∙ k
-
-    apart : eqb n 4 || eqb n 6 ≡ true → ⊥
-    apart e = true_false (sym e ∙ other)
+    apart : eqb (code_of e) 4 || eqb (code_of e) 6 ≡ true → ⊥
+    apart k = true_false (sym k ∙ other)
 
 -- ---- before the terminal
 
@@ -129,15 +123,15 @@ module _ (rule : Rule) (t : Table) (b : ℕ) (F : List machine.Frame) (R : Outpu
   unfolding enter_block begin_visit refuse_if ◌>>=◌
   many_visits h = rw (le-leb 8192 C.visits h)
 
-  no_block : C.visits < 8192 → eqb (code_of (terminal_at t b)) 0 ≡ true → enter_block t b C ≡ refused 10 b (suc C.visits)
+  no_block : C.visits < 8192 → is_absent (terminal_at t b) ≡ true → enter_block t b C ≡ refused 10 b (suc C.visits)
   unfolding enter_block begin_visit refuse_if ◌>>=◌
   no_block h e = rw (lt-leb 8192 C.visits h, e)
 
-  emitted_twice : C.visits < 8192 → eqb (code_of (terminal_at t b)) 0 ≡ false → has C.emitted b ≡ true → enter_block t b C ≡ refused 11 b (suc C.visits)
+  emitted_twice : C.visits < 8192 → is_absent (terminal_at t b) ≡ false → has C.emitted b ≡ true → enter_block t b C ≡ refused 11 b (suc C.visits)
   unfolding enter_block begin_visit refuse_if ◌>>=◌
   emitted_twice h e k = rw (lt-leb 8192 C.visits h, e, k)
 
-  enters : C.visits < 8192 → eqb (code_of (terminal_at t b)) 0 ≡ false → has C.emitted b ≡ false → enter_block t b C ≡ ok (emit b (with_visits (suc C.visits) C))
+  enters : C.visits < 8192 → is_absent (terminal_at t b) ≡ false → has C.emitted b ≡ false → enter_block t b C ≡ ok (emit b (with_visits (suc C.visits) C))
   unfolding enter_block begin_visit refuse_if ◌>>=◌
   enters h e k = rw (lt-leb 8192 C.visits h, e, k)
 
@@ -213,15 +207,11 @@ module _ (w : List ℕ) (E S H Z : Flags) (p : Position) (aim : std.Option code.
       next_visit : (C : definition.Context) (q : Position) → On C → q.visits ≡ p.visits + 1 → suc C.visits ≡ q.visits
       next_visit C q o s = omega (arith, o.visits, s)
 
-      pub absent_planned : (buffer : List ℕ) (q : Position) (plan : std.Result Plan Refused) → q.visits ≡ p.visits + 1 → code_at w b ≡ 0 → plan ≡ refusing q (MissingBlock b) → PlannedTurn w around On p frame buffer plan buffer
+      pub absent_planned : (buffer : List ℕ) (q : Position) (plan : std.Result Plan Refused) → q.visits ≡ p.visits + 1 → is_absent (terminal_at (table_of w) b) ≡ true → plan ≡ refusing q (MissingBlock b) → PlannedTurn w around On p frame buffer plan buffer
       absent_planned buffer q plan s z e = refused_turn buffer q (MissingBlock b) plan e (λ F R C l o. entering_turn F R C 10 b q.visits l
-          (no_block around.rule (table_of w) b F R p.count C (omega (arith, o.visits, few))
-          (ap (λ (k : ℕ). eqb k 0) (code_at_lem w b here.promise here.block) ∙ eq-eqb (code_at w b) 0 z) ∙ ap (refused 10 b) (next_visit C q o s)))
+          (no_block around.rule (table_of w) b F R p.count C (omega (arith, o.visits, few)) z ∙ ap (refused 10 b) (next_visit C q o s)))
 
-      module _ (there : code_at w b ≡ 0 → ⊥) where
-        present : eqb (code_of (terminal_at (table_of w) b)) 0 ≡ false
-        present = ap (λ (k : ℕ). eqb k 0) (code_at_lem w b here.promise here.block) ∙ ne_eqb (code_at w b) 0 there
-
+      module _ (present : is_absent (terminal_at (table_of w) b) ≡ false) where
         pub emitted_planned : (buffer : List ℕ) (q : Position) (plan : std.Result Plan Refused) → q.visits ≡ p.visits + 1 → has E b ≡ true → plan ≡ refusing q (AlreadyEmitted b) → PlannedTurn w around On p frame buffer plan buffer
         emitted_planned buffer q plan s z e = refused_turn buffer q (AlreadyEmitted b) plan e (λ F R C l o. entering_turn F R C 11 b q.visits l
             (emitted_twice around.rule (table_of w) b F R p.count C (omega (arith, o.visits, few)) present (ap (λ (k : Flags). has k b) o.emitted ∙ z) ∙ ap (refused 11 b) (next_visit C q o s)))
@@ -258,55 +248,12 @@ module _ (w : List ℕ) (E S H Z : Flags) (p : Position) (aim : std.Option code.
             sees : (C : definition.Context) → On C → AtTerminal w S H Z q aim around (emit b (with_visits (suc C.visits) C))
             sees C o = entered_sees q C o (next_visit C q o ev) eb
 
--- ---- none of the 22 codes
-
--- a number that is none of the first k, as a match over them says it
-abbrev pub Missed : ℕ → ℕ → Type 0
-Missed zero n = Unit {0}
-Missed (suc k) n = Missed k n × (n ≡ k → ⊥)
-
-pub missed_past : (k n : ℕ) → Missed k n → k ≤ n
-missed_past zero n h = omega arith
-missed_past (suc k) n (h, g) = omega (arith, missed_past k n h, g)
-
--- a code that none of the arms with one code is: what is left are the arms 13 | 14 | 15 | 17 and 20 | 21, told apart by two tests
-abbrev pub Rest : ℕ → Type 0
-Rest n = (((Missed 13 n × (n ≡ 17 → ⊥)) × (n ≡ 16 → ⊥)) × (n ≡ 18 → ⊥)) × (n ≡ 19 → ⊥)
-
-pub scope_past : (n : ℕ) → Rest n → 16 ≤ n → 20 ≤ n
-scope_past n ((((_, a), b), c), d) e = past 18 d (past 17 c (past 16 a (past 15 b e)))
-  where
-    past : (k : ℕ) → (n ≡ suc k → ⊥) → suc k ≤ n → suc (suc k) ≤ n
-    past k f g = omega (arith, f, g)
-
-pub no_jump : (n : ℕ) → 7 ≤ n → eqb n 4 || eqb n 6 ≡ false
-no_jump n h = rw (ne_eqb n 4 (λ e. omega (arith, h, e)), ne_eqb n 6 (λ e. omega (arith, h, e))) refl
-
-value_near : (n d : ℕ) → n ≡ 13 + d → d < 3 → value_code n ≡ true
-value_near n zero e h = subst (λ (z : ℕ). value_code z ≡ true) (sym e) refl
-value_near n (suc zero) e h = subst (λ (z : ℕ). value_code z ≡ true) (sym e) refl
-value_near n (suc (suc zero)) e h = subst (λ (z : ℕ). value_code z ≡ true) (sym e) refl
-value_near n (suc (suc (suc d))) e h = absurd (omega (arith, h))
-
-pub value_came : (n : ℕ) → (n ≡ 17) ⊎ (Rest n × (n < 16)) → (value_code n ≡ true) × (7 ≤ n)
-value_came n (inl e) = (subst (λ (z : ℕ). value_code z ≡ true) (sym e) refl, omega (arith, e))
-value_came n (inr (((((h, _), _), _), _), below)) =
-    let past = missed_past 13 n h in
-    (value_near n (n - 13) (omega (arith, past)) (omega (arith, past, below)), omega (arith, past))
-
--- the two ways into an arm, as a tie has them, are those
-pub ways : {A B P Q : Type 0} → A ⊎ B → (A → P) → (B → Q) → P ⊎ Q
-ways (inl a) f g = inl (f a)
-ways (inr b) f g = inr (g b)
-
--- a value's code is one of the four
-pub no_value : (n : ℕ) → (n ≡ 13 → ⊥) → (n ≡ 14 → ⊥) → (n ≡ 15 → ⊥) → (n ≡ 17 → ⊥) → value_code n ≡ true → ⊥
-no_value n a b c d e = true_false (sym e ∙ rw (ne_eqb n 13 a, ne_eqb n 14 b, ne_eqb n 15 c, ne_eqb n 17 d) refl)
+-- ---- what a turn begins with
 
 pub visits_ready : (w : List ℕ) (p : Position) (frame : Frame) → Ready w p frame → p.stage ≡ Visit → Visits w p
 visits_ready w p frame ready e =
     let here : StageFits w Visit p frame = subst (λ (s : Stage). StageFits w s p frame) e ready.stage in
-    record { promise = ready.promise; stage = e; block = here.0; depth = ready.depth; visits = ready.visits; rows = ready.rows; count = here.1 }
+    record { stage = e; block = here.0; depth = ready.depth; visits = ready.visits; rows = ready.rows; count = here.1 }
 
 pub shown_seen : {w : List ℕ} {E S H Z : Flags} {p : Position} {aim : std.Option code.Goal} {around : Around} {C : definition.Context} → Shown w E S H Z p aim around C → Seen S H p.visits C
 shown_seen o = record { scheduled = o.scheduled; handlers = o.handlers; visits = o.visits; wide = o.wide }

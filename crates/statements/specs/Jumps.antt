@@ -16,18 +16,17 @@ use Rattle.values.specs.Rows.{Holds}
 use Rattle.values.specs.Stack.{pushed}
 use Rattle.table.specs.Table.{table_of, terminal_at}
 use Rattle.statements.specs.declared.jump.Jumped.{Jumped}
-use Rattle.statements.specs.declared.refusal.Refusal.{Refusal}
 use Rattle.statements.specs.declared.refusal.Refused.{Refused}
 use Rattle.statements.specs.Refusal.{refusal_code, refusal_place}
 use Rattle.statements.specs.declared.plan.Position.{Position}
 use Rattle.statements.specs.declared.plan.Plan.{Plan}
-use Rattle.statements.specs.Plans.{leaving, refusing}
+use Rattle.statements.specs.Plans.{leaving}
 use Rattle.statements.specs.Planned.{Seen}
 use Rattle.statements.specs.Turn.{Resolves}
 
-abbrev pub jumped_to : std.Result Jumped Refusal → Option Statement → (visits : ℕ) → Result (Option Statement)
-jumped_to (Ok jumped) statement visits = ok statement
-jumped_to (Err refusal) statement visits = refused (refusal_code refusal) (refusal_place refusal) visits
+abbrev pub jumped_to : std.Result Jumped Refused → Option Statement → Result (Option Statement)
+jumped_to (Ok jumped) statement = ok statement
+jumped_to (Err e) statement = refused (refusal_code e.refusal) (refusal_place e.refusal) e.visits
 
 -- what a jump sees of a Context
 pub record JumpSeen (scopes : Flags) (begun : ℕ) (cx : definition.Context) : Type 0 where
@@ -35,9 +34,9 @@ pub record JumpSeen (scopes : Flags) (begun : ℕ) (cx : definition.Context) : T
   pub visits : cx.visits ≡ begun
 
 -- the code's jump is the definition's, and the buffer holds its row, if it has one
-pub record JumpMet (outcome : definition.Context → Result (Option Statement)) (scopes : Flags) (visits rows : ℕ) (buffer : List ℕ) (jump : std.Result Jumped Refusal) (buffer' : List ℕ) : Type 0 where
+pub record JumpMet (outcome : definition.Context → Result (Option Statement)) (scopes : Flags) (visits rows : ℕ) (buffer : List ℕ) (jump : std.Result Jumped Refused) (buffer' : List ℕ) : Type 0 where
   pub statement : Option Statement
-  pub same : (cx : definition.Context) → JumpSeen scopes visits cx → outcome cx ≡ jumped_to jump statement visits
+  pub same : (cx : definition.Context) → JumpSeen scopes visits cx → outcome cx ≡ jumped_to jump statement
   pub held : IfOk jump (λ jumped. (before : List Row) → Holds buffer rows (pushed before []) → Holds buffer' jumped.rows (pushed (before ++ jump_out statement) []))
   pub count : IfOk jump (λ jumped. jumped.count ≡ added statement 0)
   pub most : IfOk jump (λ jumped. jumped.rows ≤ rows + 1)
@@ -51,9 +50,8 @@ continue_outcome at block id aim cx = continue_to at block id cx (aim_of aim) >>
 
 -- ---- Goto and Branch
 
-abbrev pub after_jump : Position → std.Result Jumped Refusal → std.Result Plan Refused
-after_jump p (Ok jumped) = Ok (leaving 65535 p.depth (p.count + jumped.count) jumped.rows p.visits None)
-after_jump p (Err refusal) = refusing p refusal
+abbrev pub after_jump : Position → Jumped → Plan
+after_jump p jumped = leaving None p.depth (p.count + jumped.count) jumped.rows p.visits None
 
 -- what a Goto sees: its goal is what the stack has, by what is around
 pub record GotoSeen (words : List ℕ) (p : Position) (scopes : Flags) (aim : std.Option code.Goal) (around : Around) (cx : definition.Context) : Type 0 where

@@ -5,9 +5,8 @@ use Rattle.std.proofs.Math.Option.{Option, none, some}
 use Rattle.table.specs.declared.columns.Span.{Span}
 use Rattle.table.specs.Words.{block_count}
 use Rattle.table.specs.Columns.{maybe_of}
-use Rattle.table.specs.Promise.{Promise}
 use Rattle.table.specs.Table.{Table, Terminal, absent, unreachable, throw, return, goto, if, branch, switch, do_while, while, for, for_of, for_in, logical}
-use Rattle.table.specs.Table.{ternary, optional, label, sequence, maybe_throw, try, scope, table_of, terminal_at, block_at, unless_none}
+use Rattle.table.specs.Table.{ternary, optional, label, sequence, maybe_throw, try, scope, table_of, terminal_at, block_at, code_of}
 use Rattle.definition.specs.Context.{Flags, has}
 use Rattle.definition.specs.Context as definition
 use Rattle.machine.specs.Machine.{State, make_at}
@@ -23,16 +22,16 @@ use Rattle.values.specs.Stack.{pushed}
 use Rattle.values.specs.declared.result.Tally.{Tally}
 use Rattle.values.specs.declared.refusal.Refused.{Refused}
 use Rattle.values.specs.Refusal.{refused_by}
-use Rattle.statements.specs.declared.refusal.Refusal.TheVariants.{LoopScheduled, Value as of_value}
+use Rattle.statements.specs.declared.refusal.Refusal.TheVariants.{LoopScheduled}
 use Rattle.statements.specs.declared.refusal.Refused as walk
-use Rattle.statements.specs.Refusal.{refused_after}
-use Rattle.statements.specs.declared.plan.Stage.TheVariants.{Visit, Values as at_values}
+use Rattle.statements.specs.Refusal.{refused_after, refused_value}
+use Rattle.statements.specs.declared.plan.Stage.TheVariants.{Visit}
 use Rattle.statements.specs.declared.plan.Position.{Position}
 use Rattle.statements.specs.declared.plan.Frame.{Frame}
 use Rattle.statements.specs.declared.plan.Change.TheVariants.{Schedule}
 use Rattle.statements.specs.declared.plan.Plan.{Plan}
 use Rattle.statements.specs.declared.loop_parts.Loop as loops
-use Rattle.statements.specs.Plans.{frame_of, advanced, open_frame, refusing, nesting, making_next, entries_if, schedule_if, unless_taken}
+use Rattle.statements.specs.Plans.{frame_of, open_frame, nesting, making_next, entries_if, schedule_if, unless_taken}
 use Rattle.statements.specs.Planned.{Planned, SameVisits}
 
 -- ---- values
@@ -156,7 +155,6 @@ values_position p frame = record { block = frame.block; depth = p.depth - 1; cou
 
 -- the precondition of its turn
 pub record Making (words : List ℕ) (p : Position) (frame : Frame) : Type 0 where
-  pub promise : Promise words
   pub block : frame.block < block_count words
   pub depth : 1 ≤ p.depth
   pub deep : p.depth ≤ 128
@@ -164,13 +162,14 @@ pub record Making (words : List ℕ) (p : Position) (frame : Frame) : Type 0 whe
   pub rows : p.rows ≤ 100000000
   pub count : frame.count ≤ p.rows
 
-abbrev pub values_step : List ℕ → Position → Frame → List machine.Frame → Output → definition.Context → Result State
-values_step words p frame frames before cx =
-    make_at (table_of words) (visit_value_block (table_of words) (128 - p.depth)) (terminal_at (table_of words) frame.block) (block_at (table_of words) frame.block) (unless_none p.block)
+-- `body` is the block of the loop that is visited next, if it may be
+abbrev pub values_step : List ℕ → Position → (body : std.Option ℕ) → Frame → List machine.Frame → Output → definition.Context → Result State
+values_step words p body frame frames before cx =
+    make_at (table_of words) (visit_value_block (table_of words) (128 - p.depth)) (terminal_at (table_of words) frame.block) (block_at (table_of words) frame.block) (maybe_of body)
     (frame_of frame) frames before cx
 
-abbrev pub PlannedValues : List ℕ → Position → Frame → List ℕ → std.Result Plan walk.Refused → List ℕ → Type 0
-PlannedValues words p frame = Planned (values_step words p frame) (SameVisits p) (frame_of frame ∷ []) p.depth p.rows
+abbrev pub PlannedValues : List ℕ → Position → (body : std.Option ℕ) → Frame → List ℕ → std.Result Plan walk.Refused → List ℕ → Type 0
+PlannedValues words p body frame = Planned (values_step words p body frame) (SameVisits p) (frame_of frame ∷ []) p.depth p.rows
 
 -- ---- plans
 
@@ -182,20 +181,17 @@ scheduling_loop taken p blocks =
     making_next (unless_taken taken blocks.loop_block) (open_frame p blocks.label 1) (p.depth + 1) p.rows p.visits
     (Some (Schedule (loop_target blocks.fallthrough blocks.continue_block blocks.loop_block)))
 
-abbrev pub after_values : Position → Tally → Position
-after_values p values = advanced p p.count values.rows values.visits at_values
-
-abbrev pub entering_body : (taken : Bool) → Position → Tally → Frame → std.Result Plan walk.Refused
-entering_body true p values frame = refusing (after_values p values) (LoopScheduled frame.block)
-entering_body false p values frame = Ok (nesting p.block frame p.depth values.rows values.visits 65535 65535 None)
+abbrev pub entering_body : (body : std.Option ℕ) → Position → Tally → Frame → std.Result Plan walk.Refused
+entering_body None p values frame = Err (refused_after (LoopScheduled frame.block) values.visits)
+entering_body (Some block) p values frame = Ok (nesting block frame p.depth values.rows values.visits None None None)
 
 -- a value was refused
 abbrev pub refusing_value : Refused → std.Result Plan walk.Refused
-refusing_value e = Err (refused_after (of_value e.refusal) e.visits)
+refusing_value e = Err (refused_value e)
 
 -- a value statement, with that label
-abbrev pub scheduling_value : Position → (label : ℕ) → Plan
-scheduling_value p taken = making_next 65535 (open_frame p taken (entries_if (eqb taken 65535))) (p.depth + 1) p.rows p.visits (schedule_if (eqb taken 65535) taken)
+abbrev pub scheduling_value : Position → (label : std.Option ℕ) → Plan
+scheduling_value p taken = making_next None (open_frame p taken (entries_if taken)) (p.depth + 1) p.rows p.visits (schedule_if taken)
 
 -- a loop block is the loop's fallthrough, or is scheduled
 abbrev pub loop_taken : Flags → Flags → (loop fallthrough : ℕ) → Bool
@@ -206,6 +202,9 @@ loop_taken scheduled_set handler_set loop fallthrough = eqb loop fallthrough || 
 -- Logical, Ternary, Optional or Sequence
 abbrev pub value_code : (code : ℕ) → Bool
 value_code code = eqb code 13 || (eqb code 14 || (eqb code 15 || eqb code 17))
+
+abbrev pub is_value : Terminal → Bool
+is_value terminal = value_code (code_of terminal)
 
 -- the fallthrough of a Logical, Ternary, Optional or Sequence
 abbrev pub value_fallthrough : Terminal → Option ℕ

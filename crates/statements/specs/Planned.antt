@@ -1,12 +1,14 @@
 -- The contract of an arm: its plan, applied, is what the machine's turn comes to, and the buffer holds the rows that it put out.
-use Rattle.std.specs.Prelude.{None, Some, IfOk}
+use Rattle.std.specs.Prelude.{None, Some, Ok, Err, IfOk, is_some}
 use Rattle.std.specs.Prelude as std
-use Rattle.std.specs.Prelude.{ℕ, suc, ◌+◌, ◌-◌, ◌≤◌, ◌<◌, ◌≡◌, Bool, true, false, List, [], ◌∷◌, ◌++◌, length}
+use Rattle.std.specs.Prelude.{ℕ, suc, ◌+◌, ◌-◌, ◌≤◌, ◌<◌, ◌≡◌, Bool, true, false, ◌||◌, List, [], ◌∷◌, ◌++◌, length}
 use Rattle.table.specs.Words.{block_count}
-use Rattle.table.specs.Promise.{Promise}
-use Rattle.table.specs.Table.{table_of, terminal_at, block_at, unless_none}
+use Rattle.table.specs.Columns.{maybe_of}
+use Rattle.table.specs.declared.terminals.Scope.{Scope}
+use Rattle.table.specs.Promise.{Ends}
+use Rattle.table.specs.Table.{table_of, terminal_at, block_at, is_absent, is_unreachable, scope}
 use Rattle.definition.specs.Around.{rust, Around, outermost}
-use Rattle.definition.specs.Context.{Flags}
+use Rattle.definition.specs.Context.{Flags, has}
 use Rattle.definition.specs.Context as definition
 use Rattle.machine.specs.Machine.{State, turn}
 use Rattle.definition.specs.Output.{Output, ◌⊕◌}
@@ -21,11 +23,14 @@ use Rattle.values.specs.Stack.{pushed}
 use Rattle.statements.specs.declared.plan.Stage.{Stage}
 use Rattle.statements.specs.declared.plan.Stage.TheVariants.{Visit, Ended, Choose, Pop, Values, Halt}
 use Rattle.statements.specs.declared.plan.Position.{Position}
+use Rattle.statements.specs.declared.plan.Frame.{Frame}
 use Rattle.statements.specs.declared.plan.Change.{Change}
 use Rattle.statements.specs.declared.plan.Change.TheVariants.{Schedule, Unschedule}
 use Rattle.statements.specs.declared.plan.Plan.{Plan}
+use Rattle.statements.specs.declared.refusal.Refusal.TheVariants.{MissingBlock}
 use Rattle.statements.specs.declared.refusal.Refused.{Refused}
-use Rattle.statements.specs.Plans.{applied}
+use Rattle.statements.specs.Refusal.{refused_after}
+use Rattle.statements.specs.Plans.{applied, unless_taken}
 
 -- an arm sees the sets and the visits of this Context
 pub record Seen (scheduled_set handler_set : Flags) (begun : ℕ) (cx : definition.Context) : Type 0 where
@@ -33,6 +38,13 @@ pub record Seen (scheduled_set handler_set : Flags) (begun : ℕ) (cx : definiti
   pub handlers : cx.catch_handlers ≡ handler_set
   pub visits : cx.visits ≡ begun
   pub wide : length scheduled_set ≡ 1024
+
+-- the label of a statement that asks first whether its fallthrough is reachable: 10 where that block is missing
+abbrev pub Reaches : List ℕ → Flags → Flags → Position → (fallthrough : ℕ) → std.Result (std.Option ℕ) Refused → Type 0
+Reaches words scheduled_set handler_set p fallthrough (Ok label) =
+    (is_absent (terminal_at (table_of words) fallthrough) ≡ false)
+    × (label ≡ unless_taken (is_unreachable (terminal_at (table_of words) fallthrough) || (has scheduled_set fallthrough || has handler_set fallthrough)) fallthrough)
+Reaches words scheduled_set handler_set p fallthrough (Err e) = (is_absent (terminal_at (table_of words) fallthrough) ≡ true) × (e ≡ refused_after (MissingBlock fallthrough) p.visits)
 
 -- the blocks that a change names are among the 1,024; an entry is taken off only where the statement has one
 abbrev pub NamedChange : (entries : ℕ) → std.Option Change → Type 0
@@ -44,28 +56,28 @@ abbrev pub entries_on_top : List machine.Frame → ℕ
 entries_on_top [] = 0
 entries_on_top (frame ∷ frames) = frame.entries
 
--- the greatest depth that a plan may come to: one more if it keeps a frame
-abbrev pub deepest : (keep : Bool) → ℕ → ℕ
-deepest true depth = suc depth
-deepest false depth = depth
+-- the greatest depth that a plan may come to: one more if it has a frame
+abbrev pub deepest : std.Option Frame → ℕ → ℕ
+deepest None depth = depth
+deepest (Some frame) depth = suc depth
 
 -- a Switch that takes its next case, a statement whose entries come off, and one that makes its values, are kept
-abbrev pub Nested : Stage → (keep : Bool) → Type 0
-Nested Visit keep = Unit {0}
-Nested Ended keep = Unit {0}
-Nested Choose keep = keep ≡ true
-Nested Pop keep = keep ≡ true
-Nested Values keep = keep ≡ true
-Nested Halt keep = Unit {0}
+abbrev pub Nested : Stage → std.Option Frame → Type 0
+Nested Visit frame = Unit {0}
+Nested Ended frame = Unit {0}
+Nested Choose frame = is_some frame ≡ true
+Nested Pop frame = is_some frame ≡ true
+Nested (Values body) frame = is_some frame ≡ true
+Nested Halt frame = Unit {0}
 
 -- what the walk needs to apply a plan. `top` is the frame in hand, if any
 pub record Fitting (top : List machine.Frame) (depth : ℕ) (plan : Plan) : Type 0 where
   pub change : NamedChange (entries_on_top top) plan.change
-  pub handler : Below 1024 (unless_none plan.handler)
-  pub scope : Below 1024 (unless_none plan.scope)
-  pub deep : plan.keep ≡ true → 1 ≤ plan.position.depth
-  pub next : plan.position.depth ≤ deepest plan.keep depth
-  pub nested : Nested plan.position.stage plan.keep
+  pub handler : Below 1024 (maybe_of plan.handler)
+  pub scope : Below 1024 (maybe_of plan.scope)
+  pub deep : is_some plan.frame ≡ true → 1 ≤ plan.position.depth
+  pub next : plan.position.depth ≤ deepest plan.frame depth
+  pub nested : Nested plan.position.stage plan.frame
 
 -- there are `depth` frames, and `rows` rows are out
 pub record Stands (frames : List machine.Frame) (out : Output) (depth rows : ℕ) : Type 0 where
@@ -98,12 +110,15 @@ terminal_step words p = terminal_step_in nowhere words p
 
 -- what holds of a position there
 pub record Entered (words : List ℕ) (p : Position) : Type 0 where
-  pub promise : Promise words
   pub block : p.block < block_count words
   pub depth : p.depth < 128
   pub visits : p.visits ≤ 8192
   pub rows : p.rows ≤ 100000000
   pub count : p.count ≤ p.rows
+
+-- a block that ends in a Scope or a PrunedScope
+abbrev pub EndsInScope : List ℕ → (block : ℕ) → Scope → Type 0
+EndsInScope words block end = (pruned : Bool) × Ends words block (scope pruned end.block end.fallthrough end.scope)
 
 -- an arm that puts out no row
 abbrev pub PlannedBare : List ℕ → Flags → Flags → Position → std.Result Plan Refused → Type 0

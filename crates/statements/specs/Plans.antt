@@ -1,9 +1,9 @@
 -- What a plan means for the machine of turns.
 use Rattle.std.specs.Prelude.{None, Some, Ok, Err}
 use Rattle.std.specs.Prelude as std
-use Rattle.std.specs.Prelude.{ℕ, zero, suc, ◌+◌, ◌-◌, Bool, true, false, ◌||◌, List, [], ◌∷◌, ◌++◌, eqb, length, get_or, drop}
+use Rattle.std.specs.Prelude.{ℕ, zero, suc, ◌+◌, ◌-◌, Bool, true, false, ◌||◌, List, [], ◌∷◌, ◌++◌, eqb, length, get_or, drop, unwrap_or}
 use Rattle.std.proofs.Math.Option.{Option, none, some}
-use Rattle.table.specs.Table.{unless_none}
+use Rattle.table.specs.Columns.{maybe_of}
 use Rattle.definition.specs.Build.{accepted, rejected}
 use Rattle.definition.specs.Context.{schedule, schedule_catch_handler, mark_scope_fallthrough, with_visits}
 use Rattle.definition.specs.Context as definition
@@ -29,10 +29,10 @@ use Rattle.statements.specs.Refusal.{refusal_code, refusal_place, refused_after}
 -- ---- from the code's records to the machine's
 
 abbrev pub frame_of : Frame → machine.Frame
-frame_of frame = record { block = frame.block; second = frame.second; label = unless_none frame.label; entries = frame.entries; left = frame.left; built = frame.built; first = frame.first; count = frame.count }
+frame_of frame = record { block = frame.block; second = frame.second; label = maybe_of frame.label; entries = frame.entries; left = frame.left; built = frame.built; first = frame.first; count = frame.count }
 
 abbrev pub no_frame : Frame
-no_frame = record { block = 0; label = 65535; entries = 0; left = 0; built = 0; first = 0; count = 0; second = false }
+no_frame = record { block = 0; label = None; entries = 0; left = 0; built = 0; first = 0; count = 0; second = false }
 
 -- the first frames of the array, as many as the number says, the last of them first
 unfoldable pub frames_of : List Frame → ℕ → List machine.Frame
@@ -47,8 +47,8 @@ state_at Choose block [] out count cx = ended [] out count cx
 state_at Choose block (frame ∷ frames) out count cx = choosing frame frames out cx
 state_at Pop block [] out count cx = ended [] out count cx
 state_at Pop block (frame ∷ frames) out count cx = popping frame frames out cx
-state_at Values block [] out count cx = ended [] out count cx
-state_at Values block (frame ∷ frames) out count cx = making (unless_none block) frame frames out cx
+state_at (Values body) block [] out count cx = ended [] out count cx
+state_at (Values body) block (frame ∷ frames) out count cx = making (maybe_of body) frame frames out cx
 state_at Halt block frames out count cx = ended frames out count cx
 
 -- ---- what the walk does with a plan
@@ -71,12 +71,13 @@ scoped (some fallthrough) cx = mark_scope_fallthrough fallthrough cx
 abbrev pub within : ℕ → List machine.Frame → List machine.Frame
 within depth frames = drop (length frames - depth) frames
 
-abbrev pub kept : Bool → Frame → (depth : ℕ) → List machine.Frame → List machine.Frame
-kept true frame depth frames = frame_of frame ∷ within (depth - 1) frames
-kept false frame depth frames = within depth frames
+-- with a plan's frame as the innermost, if there is one
+abbrev pub kept : std.Option Frame → (depth : ℕ) → List machine.Frame → List machine.Frame
+kept None depth frames = within depth frames
+kept (Some frame) depth frames = frame_of frame ∷ within (depth - 1) frames
 
 abbrev pub context_after : Plan → definition.Context → Result definition.Context
-context_after plan cx = changed plan.change (scoped (unless_none plan.scope) (handled (unless_none plan.handler) (with_visits plan.position.visits cx)))
+context_after plan cx = changed plan.change (scoped (maybe_of plan.scope) (handled (maybe_of plan.handler) (with_visits plan.position.visits cx)))
 
 -- a change that is refused ends the walk
 abbrev pub unless_refused : Result definition.Context → (definition.Context → State) → Turn
@@ -84,11 +85,11 @@ unless_refused (ok cx) more = going (more cx)
 unless_refused (refused code at visits) more = halt (rejected code at visits)
 
 abbrev pub onward : Stage → Plan → List machine.Frame → Output → Result definition.Context → Turn
-onward Visit plan frames out after = unless_refused after (visiting plan.position.block (kept plan.keep plan.frame plan.position.depth frames) out plan.position.count)
-onward Ended plan frames out after = unless_refused after (ended (kept plan.keep plan.frame plan.position.depth frames) out plan.position.count)
-onward Choose plan frames out after = unless_refused after (state_at Choose 0 (kept plan.keep plan.frame plan.position.depth frames) out 0)
-onward Pop plan frames out after = unless_refused after (state_at Pop 0 (kept plan.keep plan.frame plan.position.depth frames) out 0)
-onward Values plan frames out after = unless_refused after (state_at Values plan.position.block (kept plan.keep plan.frame plan.position.depth frames) out 0)
+onward Visit plan frames out after = unless_refused after (visiting plan.position.block (kept plan.frame plan.position.depth frames) out plan.position.count)
+onward Ended plan frames out after = unless_refused after (ended (kept plan.frame plan.position.depth frames) out plan.position.count)
+onward Choose plan frames out after = unless_refused after (state_at Choose 0 (kept plan.frame plan.position.depth frames) out 0)
+onward Pop plan frames out after = unless_refused after (state_at Pop 0 (kept plan.frame plan.position.depth frames) out 0)
+onward (Values body) plan frames out after = unless_refused after (state_at (Values body) 0 (kept plan.frame plan.position.depth frames) out 0)
 onward Halt plan frames out after = halt (accepted out.rows out.lines plan.position.visits)
 
 -- the line of a statement (M-101) whose closing row is the last of the rows that are out
@@ -110,7 +111,7 @@ applied (Err e) frames out cx = halt (rejected (refusal_code e.refusal) (refusal
 abbrev pub advanced : Position → (count rows visits : ℕ) → Stage → Position
 advanced p count rows visits stage = record { block = p.block; depth = p.depth; count = count; rows = rows; visits = visits; stage = stage }
 
-abbrev pub open_frame : Position → (label entries : ℕ) → Frame
+abbrev pub open_frame : Position → (label : std.Option ℕ) → (entries : ℕ) → Frame
 open_frame p taken entries = record { block = p.block; label = taken; entries = entries; left = 0; built = 0; first = p.rows; count = p.count; second = false }
 
 abbrev pub second : Frame → Frame
@@ -121,31 +122,30 @@ with_counts frame entries left built = record { block = frame.block; label = fra
 
 -- on to the position, and nothing else
 abbrev pub going_on : Position → Plan
-going_on position = record { position = position; frame = no_frame; keep = false; handler = 65535; scope = 65535; change = None; line = None }
+going_on position = record { position = position; frame = None; handler = None; scope = None; change = None; line = None }
 
 abbrev pub refusing : Position → Refusal → std.Result Plan Refused
 refusing p refusal = Err (refused_after refusal p.visits)
 
-abbrev pub stage_after : Bool → Stage
-stage_after true = Ended
-stage_after false = Visit
+-- a block to go on with, or the list's end
+abbrev pub stage_after : (next : std.Option ℕ) → Stage
+stage_after None = Ended
+stage_after (Some block) = Visit
 
-abbrev pub leaving : (next depth count rows visits : ℕ) → std.Option Change → Plan
+abbrev pub leaving : (next : std.Option ℕ) → (depth count rows visits : ℕ) → std.Option Change → Plan
 leaving next depth count rows visits change = record {
-  position = record { block = next; depth = depth; count = count; rows = rows; visits = visits; stage = stage_after (eqb next 65535) };
-  frame = no_frame;
-  keep = false;
-  handler = 65535;
-  scope = 65535;
+  position = record { block = unwrap_or next 0; depth = depth; count = count; rows = rows; visits = visits; stage = stage_after next };
+  frame = None;
+  handler = None;
+  scope = None;
   change = change;
   line = None;
 }
 
-abbrev pub nesting : (block : ℕ) → Frame → (depth rows visits handler scope : ℕ) → std.Option Change → Plan
+abbrev pub nesting : (block : ℕ) → Frame → (depth rows visits : ℕ) → (handler scope : std.Option ℕ) → std.Option Change → Plan
 nesting block frame depth rows visits handler scope change = record {
   position = record { block = block; depth = depth; count = 0; rows = rows; visits = visits; stage = Visit };
-  frame = frame;
-  keep = true;
+  frame = Some frame;
   handler = handler;
   scope = scope;
   change = change;
@@ -155,10 +155,9 @@ nesting block frame depth rows visits handler scope change = record {
 abbrev pub choosing_next : Frame → (depth rows visits : ℕ) → std.Option Change → Plan
 choosing_next frame depth rows visits change = record {
   position = record { block = 0; depth = depth; count = 0; rows = rows; visits = visits; stage = Choose };
-  frame = frame;
-  keep = true;
-  handler = 65535;
-  scope = 65535;
+  frame = Some frame;
+  handler = None;
+  scope = None;
   change = change;
   line = None;
 }
@@ -166,21 +165,19 @@ choosing_next frame depth rows visits change = record {
 abbrev pub popping_next : Frame → (depth rows visits : ℕ) → Plan
 popping_next frame depth rows visits = record {
   position = record { block = 0; depth = depth; count = 0; rows = rows; visits = visits; stage = Pop };
-  frame = frame;
-  keep = true;
-  handler = 65535;
-  scope = 65535;
+  frame = Some frame;
+  handler = None;
+  scope = None;
   change = Some Unschedule;
   line = None;
 }
 
-abbrev pub making_next : (body : ℕ) → Frame → (depth rows visits : ℕ) → std.Option Change → Plan
+abbrev pub making_next : (body : std.Option ℕ) → Frame → (depth rows visits : ℕ) → std.Option Change → Plan
 making_next body frame depth rows visits change = record {
-  position = record { block = body; depth = depth; count = 0; rows = rows; visits = visits; stage = Values };
-  frame = frame;
-  keep = true;
-  handler = 65535;
-  scope = 65535;
+  position = record { block = 0; depth = depth; count = 0; rows = rows; visits = visits; stage = Values body };
+  frame = Some frame;
+  handler = None;
+  scope = None;
   change = change;
   line = None;
 }
@@ -188,41 +185,40 @@ making_next body frame depth rows visits change = record {
 abbrev pub accepting : (rows visits : ℕ) → Plan
 accepting rows visits = record {
   position = record { block = 0; depth = 0; count = 0; rows = rows; visits = visits; stage = Halt };
-  frame = no_frame;
-  keep = false;
-  handler = 65535;
-  scope = 65535;
+  frame = None;
+  handler = None;
+  scope = None;
   change = None;
   line = None;
 }
 
 abbrev pub with_handler : Plan → ℕ → Plan
-with_handler plan handler = record { position = plan.position; frame = plan.frame; keep = plan.keep; handler = handler; scope = plan.scope; change = plan.change; line = plan.line }
+with_handler plan handler = record { position = plan.position; frame = plan.frame; handler = Some handler; scope = plan.scope; change = plan.change; line = plan.line }
 
-abbrev pub with_scope : Plan → ℕ → Plan
-with_scope plan scope = record { position = plan.position; frame = plan.frame; keep = plan.keep; handler = plan.handler; scope = scope; change = plan.change; line = plan.line }
+abbrev pub with_scope : Plan → std.Option ℕ → Plan
+with_scope plan scope = record { position = plan.position; frame = plan.frame; handler = plan.handler; scope = scope; change = plan.change; line = plan.line }
 
 abbrev pub with_line : Plan → std.Option Line → Plan
-with_line plan line = record { position = plan.position; frame = plan.frame; keep = plan.keep; handler = plan.handler; scope = plan.scope; change = plan.change; line = line }
+with_line plan line = record { position = plan.position; frame = plan.frame; handler = plan.handler; scope = plan.scope; change = plan.change; line = line }
 
 -- ---- labels
 
--- 65,535 where a fallthrough is not taken
-abbrev pub unless_taken : Bool → ℕ → ℕ
-unless_taken true fallthrough = 65535
-unless_taken false fallthrough = fallthrough
+-- a fallthrough, or a loop's body: none where the block is taken already
+abbrev pub unless_taken : Bool → ℕ → std.Option ℕ
+unless_taken true block = None
+unless_taken false block = Some block
 
-abbrev pub entries_if : Bool → ℕ
-entries_if true = 0
-entries_if false = 1
+abbrev pub entries_if : (label : std.Option ℕ) → ℕ
+entries_if None = 0
+entries_if (Some block) = 1
 
-abbrev pub schedule_if : Bool → ℕ → std.Option Change
-schedule_if true taken = None
-schedule_if false taken = Some (Schedule (If taken))
+abbrev pub schedule_if : (label : std.Option ℕ) → std.Option Change
+schedule_if None = None
+schedule_if (Some block) = Some (Schedule (If block))
 
-abbrev pub schedule_switch : Bool → ℕ → std.Option Change
-schedule_switch true taken = None
-schedule_switch false taken = Some (Schedule (Switch taken))
+abbrev pub schedule_switch : (label : std.Option ℕ) → std.Option Change
+schedule_switch None = None
+schedule_switch (Some block) = Some (Schedule (Switch block))
 
 -- a statement's entry comes off, if it has one
 abbrev pub unschedule_if : (none : Bool) → std.Option Change
@@ -230,9 +226,10 @@ unschedule_if true = None
 unschedule_if false = Some Unschedule
 
 -- a block is scheduled, or will be once the label is
-abbrev pub scheduled_with : (busy : Bool) → (label block : ℕ) → Bool
-scheduled_with busy taken block = eqb block taken || busy
+abbrev pub scheduled_with : (busy : Bool) → (label : std.Option ℕ) → (block : ℕ) → Bool
+scheduled_with busy None block = busy
+scheduled_with busy (Some taken) block = eqb block taken || busy
 
-abbrev pub enclosing : (busy : Bool) → Position → (label block : ℕ) → Refusal → std.Result Plan Refused
+abbrev pub enclosing : (busy : Bool) → Position → (label : std.Option ℕ) → (block : ℕ) → Refusal → std.Result Plan Refused
 enclosing true p taken block refusal = refusing p refusal
-enclosing false p taken block refusal = Ok (nesting block (open_frame p taken (entries_if (eqb taken 65535))) (p.depth + 1) p.rows p.visits 65535 65535 (schedule_if (eqb taken 65535) taken))
+enclosing false p taken block refusal = Ok (nesting block (open_frame p taken (entries_if taken)) (p.depth + 1) p.rows p.visits None None (schedule_if taken))

@@ -1,6 +1,7 @@
 -- What the statement walk's own refusals mean, by paper 01's numbers and places.
 use Rattle.std.specs.Prelude.{ℕ}
 use Rattle.values.specs.Refusal.{code_of, place_of}
+use Rattle.values.specs.declared.refusal.Refused as values
 use Rattle.statements.specs.declared.refusal.Refusal.{Refusal}
 use Rattle.statements.specs.declared.refusal.Refusal.TheVariants.{MissingBlock, AlreadyEmitted, ConsequentScheduled, AlternateScheduled, CaseScheduled, LoopScheduled, LabelBlockScheduled}
 use Rattle.statements.specs.declared.refusal.Refusal.TheVariants.{ScopeBlockScheduled, BranchAlternateScheduled, NoBreakTarget, NoContinueTarget, ScopeBreak, NoSuchLabel, TooDeep, TooManyVisits, Value}
@@ -48,3 +49,7 @@ refusal_place (Value refusal) = place_of refusal
 
 abbrev pub refused_after : Refusal → (visits : ℕ) → Refused
 refused_after refusal visits = record { refusal = refusal; visits = visits }
+
+-- a value's refusal, passed on
+abbrev pub refused_value : values.Refused → Refused
+refused_value e = refused_after (Value e.refusal) e.visits

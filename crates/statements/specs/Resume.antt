@@ -3,9 +3,9 @@ use Rattle.std.specs.Prelude.{None, Some, Ok}
 use Rattle.std.specs.Prelude as std
 use Rattle.std.specs.Prelude.{ℕ, ◌+◌, ◌-◌, ◌≤◌, ◌<◌, ◌≡◌, Bool, true, false, List, [], ◌∷◌}
 use Rattle.std.proofs.Math.Option.{Option, none, some}
-use Rattle.table.specs.Words.{block_count, case_count, code_at}
-use Rattle.table.specs.Promise.{Promise}
-use Rattle.table.specs.Table.{table_of, terminal_at, block_at, unless_none}
+use Rattle.table.specs.Words.{block_count, case_count}
+use Rattle.table.specs.Columns.{maybe_of}
+use Rattle.table.specs.Table.{table_of, terminal_at, block_at}
 use Rattle.definition.specs.Context.{Flags}
 use Rattle.definition.specs.Context as definition
 use Rattle.machine.specs.Machine.{enclosing_by, enclosing_label, State, close, closing_row, resume_at, choose_case, switch_columns}
@@ -40,7 +40,7 @@ abbrev pub row_of : ClosingRow → Row
 row_of r = row r.op r.a r.b r.c r.d 0
 
 abbrev pub closing_row_at : List ℕ → Frame → Row
-closing_row_at words frame = closing_row (table_of words) frame.block frame.second (unless_none frame.label) frame.built
+closing_row_at words frame = closing_row (table_of words) frame.block frame.second (maybe_of frame.label) frame.built
 
 -- its line (M-101), if its row has a label
 abbrev pub line_as : Option ℕ → (first : ℕ) → std.Option Line
@@ -48,20 +48,19 @@ line_as none first = None
 line_as (some label) first = Some (record { label = label; first = first })
 
 abbrev pub line_at : List ℕ → Frame → std.Option Line
-line_at words frame = line_as (enclosing_label (enclosing_by (terminal_at (table_of words) frame.block) (unless_none frame.label))) frame.first
+line_at words frame = line_as (enclosing_label (enclosing_by (terminal_at (table_of words) frame.block) (maybe_of frame.label))) frame.first
 
 -- ---- plans
 
 -- into a second part, which must not be scheduled
 abbrev pub alternating : (busy : Bool) → Position → Frame → (block : ℕ) → Refusal → std.Result Plan Refused
 alternating true p frame block refusal = refusing p refusal
-alternating false p frame block refusal = Ok (nesting block (second frame) p.depth p.rows p.visits 65535 65535 None)
+alternating false p frame block refusal = Ok (nesting block (second frame) p.depth p.rows p.visits None None None)
 
 -- ---- contracts
 
 -- the precondition of a statement's closing
 pub record Closing (words : List ℕ) (p : Position) (frame : Frame) : Type 0 where
-  pub promise : Promise words
   pub block : frame.block < block_count words
   pub depth : 1 ≤ p.depth
   pub rows : p.rows ≤ 1000000000
@@ -69,7 +68,6 @@ pub record Closing (words : List ℕ) (p : Position) (frame : Frame) : Type 0 wh
 
 -- the precondition of a statement's resumption: the case that a Switch has built is in the table
 pub record Resuming (words : List ℕ) (p : Position) (frame : Frame) : Type 0 where
-  pub promise : Promise words
   pub block : frame.block < block_count words
   pub depth : 1 ≤ p.depth
   pub deep : p.depth ≤ 128
@@ -82,7 +80,7 @@ pub record Resuming (words : List ℕ) (p : Position) (frame : Frame) : Type 0 w
 
 -- the precondition of a Switch's choice
 pub record Choosing (words : List ℕ) (p : Position) (frame : Frame) : Type 0 where
-  pub code : code_at words frame.block ≡ 7
+  pub switches : is_switch (terminal_at (table_of words) frame.block) ≡ true
   pub closing : Closing words p frame
   pub case : frame.left ≤ case_count words - (switch_columns (terminal_at (table_of words) frame.block)).first
 

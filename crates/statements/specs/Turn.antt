@@ -4,7 +4,6 @@ use Rattle.std.specs.Prelude as std
 use Rattle.std.specs.Prelude.{ℕ, zero, suc, ◌+◌, ◌-◌, ◌≤◌, ◌<◌, ◌≡◌, true, List, [], ◌∷◌, ◌++◌, length}
 use Rattle.std.proofs.Math.Option.{Option}
 use Rattle.table.specs.Words.{block_count}
-use Rattle.table.specs.Promise.{Promise}
 use Rattle.table.specs.Table.{Terminal, absent, unreachable, throw, return, goto, if, branch, switch, do_while, while, for, for_of, for_in, logical, ternary}
 use Rattle.table.specs.Table.{optional, label, sequence, maybe_throw, try, scope, Break, Continue, Try, table_of, terminal_at}
 use Rattle.definition.specs.Context.{Flags, emit, is_scheduled, get_break_target, get_continue_target}
@@ -77,7 +76,6 @@ pub record AtTerminal (words : List ℕ) (scheduled_set handler_set scope_set : 
 
 -- what holds of a position where a block is visited
 pub record Visits (words : List ℕ) (p : Position) : Type 0 where
-  pub promise : Promise words
   pub stage : p.stage ≡ Visit
   pub block : p.block < block_count words
   pub depth : p.depth ≤ 128
@@ -94,8 +92,8 @@ in_hand Choose zero frame = []
 in_hand Choose (suc depth) frame = frame_of frame ∷ []
 in_hand Pop zero frame = []
 in_hand Pop (suc depth) frame = frame_of frame ∷ []
-in_hand Values zero frame = []
-in_hand Values (suc depth) frame = frame_of frame ∷ []
+in_hand (Values body) zero frame = []
+in_hand (Values body) (suc depth) frame = frame_of frame ∷ []
 in_hand Halt depth frame = []
 
 -- numbers of the frame in hand
@@ -109,11 +107,10 @@ StageFits words Visit p frame = (p.block < block_count words) × (p.count ≤ p.
 StageFits words Ended p frame = (p.count ≤ p.rows) × (1 ≤ p.depth → FrameFits words 0 p.rows frame)
 StageFits words Choose p frame = (1 ≤ p.depth) × (is_switch (terminal_at (table_of words) frame.block) ≡ true) × FrameFits words 1 p.rows frame
 StageFits words Pop p frame = (1 ≤ p.depth) × FrameFits words 1 p.rows frame
-StageFits words Values p frame = (1 ≤ p.depth) × FrameFits words 0 p.rows frame
+StageFits words (Values body) p frame = (1 ≤ p.depth) × FrameFits words 0 p.rows frame
 StageFits words Halt p frame = ⊥
 
 pub record Ready (words : List ℕ) (p : Position) (frame : Frame) : Type 0 where
-  pub promise : Promise words
   pub depth : p.depth ≤ 128
   pub visits : p.visits ≤ 8192
   pub rows : p.rows ≤ 67239936
@@ -127,7 +124,7 @@ emitting Visit block cx = emit block cx
 emitting Ended block cx = cx
 emitting Choose block cx = cx
 emitting Pop block cx = cx
-emitting Values block cx = cx
+emitting (Values body) block cx = cx
 emitting Halt block cx = cx
 
 -- the plan, applied, is the machine's step over the frames that are around

@@ -1,23 +1,26 @@
 // The closing row of a statement whose nested lists have ended.
 ghost use Rattle.std.specs.Prelude.{◌≡◌, ◌+◌, ◌<◌, eqb, ◌||◌, Ok};
 ghost use Rattle.table.specs.Words.{block_count};
-ghost use Rattle.table.specs.Promise.{Promise};
+ghost use Rattle.table.specs.Columns.{maybe_of};
 ghost use Rattle.definition.specs.Context.{has};
 ghost use Rattle.definition.specs.Tree as tree_rows;
+ghost use Rattle.values.specs.Ops.{number_of};
 ghost use Rattle.statements.specs.Resume.{row_of, closing_row_at, line_at, alternating, Closing, PlannedClose};
 ghost use Rattle.statements.specs.Plans.{unschedule_if};
 
-use crate::fallthrough::scheduled_at;
+use crate::arm::Resume;
 use crate::plan::{
-    Change, Frame, Line, NONE, Plan, Position, leave, pop, refuse, second_part, traverse_block,
+    Change, Frame, Line, Plan, Position, leave, pop, refuse, second_part, traverse_block,
     with_counts, with_line,
 };
 use crate::refusal::{Refusal, Refused};
-use table::columns::{block_at, code_at};
-use table::terminals::{branch_at, for_at, if_at, scope_at, switch_at, try_at};
-use values::rows::{DOWHILE, FOR, FORIN, FOROF, IF, LABEL, PRUNED, SCOPE, SWITCH, TRY, WHILE, put};
+use table::Table;
+use table::terminals::Terminal;
+use values::op::Op;
+use values::rows::put_words;
 
-// The words of a statement's closing row; the last is 0.
+// The words of a statement's closing row; the last is 0. The op is a word too: a statement that has no closing row has 0 there.
+// (As in the definition, whose row is all zeros there: with an option `close_statement` would have to prove that it is never none.)
 #[derive(Clone, Copy)]
 pub struct ClosingRow {
     pub op: u32,
@@ -27,9 +30,10 @@ pub struct ClosingRow {
     pub d: u32,
 }
 
-fn row(op: u32, a: u32, b: u32, c: u32, d: u32) -> ClosingRow
-    ensures { row_of result ≡ tree_rows.row op a b c d 0 }
+fn row(op: Op, a: u32, b: u32, c: u32, d: u32) -> ClosingRow
+    ensures { row_of result ≡ tree_rows.row (number_of op) a b c d 0 }
 {
+    let op = op.number();
     ClosingRow { op, a, b, c, d }
 }
 
@@ -39,73 +43,57 @@ fn flag(value: bool) -> u32
     u32::from(value)
 }
 
-// The closing row of a statement with nested lists. (Other statements have none.)
-fn closing_row(words: &[u32], frame: Frame) -> ClosingRow
-    requires promise { Promise words.now }
-    requires block_bound { frame.block < block_count words.now }
-    ensures { row_of result ≡ closing_row_at words.now frame }
+// A label as a row's word: paper 01's 65,535 where there is none.
+fn or_none(label: Option<u32>) -> u32
+    ensures { result ≡ tree_rows.or_none (maybe_of label) }
 {
-    let head = block_at(words, frame.block);
+    label.unwrap_or(65535)
+}
+
+// The closing row of a statement with nested lists. (Other statements have none.)
+fn closing_row(table: Table<'_>, frame: Frame) -> ClosingRow
+    requires { frame.block < block_count table.words.now }
+    ensures { row_of result ≡ closing_row_at table.entry.words.now frame }
+{
+    let head = table.block(frame.block);
     let span = head.span;
-    match code_at(words, frame.block) {
-        5 => {
-            let terminal = if_at(words, frame.block);
-            row(IF, terminal.test, flag(frame.second), head.id, frame.label)
-        }
-        6 => {
-            let terminal = branch_at(words, frame.block);
-            row(IF, terminal.test, flag(frame.second), head.id, frame.label)
-        }
-        7 => {
-            let terminal = switch_at(words, frame.block);
-            row(SWITCH, terminal.test, frame.built, head.id, frame.label)
-        }
-        8 => row(DOWHILE, head.id, frame.label, 0, 0),
-        9 => row(WHILE, head.id, frame.label, 0, 0),
-        10 => {
-            let terminal = for_at(words, frame.block);
-            row(
-                FOR,
-                head.id,
-                frame.label,
-                flag(terminal.update.is_some()),
-                0,
-            )
-        }
-        11 => row(FOROF, head.id, frame.label, span.from, span.to),
-        12 => row(FORIN, head.id, frame.label, span.from, span.to),
-        16 => row(LABEL, head.id, frame.label, 0, 0),
-        19 => {
-            let terminal = try_at(words, frame.block);
-            row(TRY, head.id, frame.label, terminal.binding, 0)
-        }
-        20 => {
-            let terminal = scope_at(words, frame.block);
-            row(SCOPE, terminal.scope, 0, 0, 0)
-        }
-        21 => {
-            let terminal = scope_at(words, frame.block);
-            row(PRUNED, terminal.scope, 0, 0, 0)
-        }
-        _ => row(0, 0, 0, 0, 0),
+    let label = or_none(frame.label);
+    match table.terminal(frame.block) {
+        Terminal::If(end) => row(Op::If, end.test, flag(frame.second), head.id, label),
+        Terminal::Branch(end) => row(Op::If, end.test, flag(frame.second), head.id, label),
+        Terminal::Switch(end) => row(Op::Switch, end.test, frame.built, head.id, label),
+        Terminal::DoWhile(_) => row(Op::DoWhile, head.id, label, 0, 0),
+        Terminal::While(_) => row(Op::While, head.id, label, 0, 0),
+        Terminal::For(end) => row(Op::For, head.id, label, flag(end.update.is_some()), 0),
+        Terminal::ForOf(_) => row(Op::ForOf, head.id, label, span.from, span.to),
+        Terminal::ForIn(_) => row(Op::ForIn, head.id, label, span.from, span.to),
+        Terminal::Label(_) => row(Op::Label, head.id, label, 0, 0),
+        Terminal::Try(end) => row(Op::Try, head.id, label, end.binding, 0),
+        Terminal::Scope(end) => row(Op::Scope, end.scope, 0, 0, 0),
+        Terminal::PrunedScope(end) => row(Op::Pruned, end.scope, 0, 0, 0),
+        _ => ClosingRow {
+            op: 0,
+            a: 0,
+            b: 0,
+            c: 0,
+            d: 0,
+        },
     }
 }
 
 // Its line (M-101), where the statement has a label: the row of a Scope or a PrunedScope has none.
 #[tactic(auto, using(crate::proofs::CloseLaws::unlabelled_line, crate::proofs::CloseLaws::scope_line, crate::proofs::CloseLaws::labelled_line))]
-fn line_at(words: &[u32], frame: Frame) -> Option<Line>
-    requires promise { Promise words.now }
-    requires block_bound { frame.block < block_count words.now }
-    ensures { result ≡ line_at words.now frame }
+fn line_at(table: Table<'_>, frame: Frame) -> Option<Line>
+    requires { frame.block < block_count table.words.now }
+    ensures { result ≡ line_at table.entry.words.now frame }
 {
-    let is_scope = code_at(words, frame.block) >= 20; // Scope or PrunedScope
-    if is_scope || frame.label == NONE {
-        return None;
+    match (table.terminal(frame.block), frame.label) {
+        (Terminal::Scope(_) | Terminal::PrunedScope(_), _) | (_, None) => None,
+        (_, Some(label)) => Some(Line {
+            label,
+            first: frame.first,
+        }),
     }
-    Some(Line {
-        label: frame.label,
-        first: frame.first,
-    })
 }
 
 // A statement's entry comes off, if it has one.
@@ -119,18 +107,19 @@ pub fn unschedule_if(entries: u32) -> Option<Change>
     }
 }
 
-// Takes one entry off the stack. With the last one the statement is complete.
-pub fn close_statement(words: &[u32], tree: &mut [u32], p: Position, frame: Frame) -> Plan
-    requires { Closing words.now p frame }
-    ensures { PlannedClose words.now p frame tree.old (Ok result) tree.new }
+// Takes one entry off the stack. With the last one the statement is complete. (`Closing` is asked for by this function alone.)
+// (Not of a Resume: a Pop and a Switch's last case come here too, and they are not Resuming.)
+pub fn close_statement(table: Table<'_>, tree: &mut [u32], p: Position, frame: Frame) -> Plan
+    requires { Closing table.words.now p frame }
+    ensures { PlannedClose table.entry.words.now p frame tree.old (Ok result) tree.new }
 {
     if frame.entries >= 2 {
         let rest = with_counts(frame, frame.entries - 1, frame.left, frame.built);
         return pop(rest, p.depth, p.rows, p.visits);
     }
-    let last = closing_row(words, frame);
-    let line = line_at(words, frame);
-    let rows = put(tree, p.rows, last.op, last.a, last.b, last.c, last.d, 0);
+    let last = closing_row(table, frame);
+    let line = line_at(table, frame);
+    let rows = put_words(tree, p.rows, last.op, last.a, last.b, last.c, last.d, 0);
     let left = leave(
         frame.label,
         p.depth - 1,
@@ -143,19 +132,19 @@ pub fn close_statement(words: &[u32], tree: &mut [u32], p: Position, frame: Fram
 }
 
 // Into a second part, which must not be scheduled.
-pub fn alternate(
-    scheduled: &[bool; 1024],
-    catch_handlers: &[bool; 1024],
-    p: Position,
-    frame: Frame,
-    block: u32,
-    refusal: Refusal,
-) -> Result<Plan, Refused>
+pub fn alternate(at: Resume<'_>, block: u32, refusal: Refusal) -> Result<Plan, Refused>
     requires { block < 1024 }
-    ensures { result ≡ alternating (has scheduled.now block || has catch_handlers.now block) p frame block refusal }
+    ensures { result ≡ alternating (has at.entry.blocks.scheduled.now block || has at.entry.blocks.catch_handlers.now block) at.entry.p at.entry.frame block refusal }
 {
-    if scheduled_at(scheduled, catch_handlers, block) {
-        return refuse(p, refusal);
+    if at.blocks.is_scheduled(block) {
+        return refuse(at.p, refusal);
     }
-    Ok(traverse_block(block, second_part(frame), p.depth, p.rows, p.visits, None))
+    Ok(traverse_block(
+        block,
+        second_part(at.frame),
+        at.p.depth,
+        at.p.rows,
+        at.p.visits,
+        None,
+    ))
 }

@@ -1,113 +1,104 @@
 // Fallthroughs and nested blocks, by the sets: which label a statement has, and whether a block that it would nest is scheduled.
-ghost use Rattle.std.specs.Prelude.{◌≡◌, ◌+◌, ◌≤◌, ◌<◌, eqb, ◌||◌};
-ghost use Rattle.table.specs.Words.{block_count, code_at};
-ghost use Rattle.table.specs.Promise.{Promise};
+ghost use Rattle.std.specs.Prelude.{◌≡◌, ◌+◌, ◌≤◌, ◌<◌, ◌||◌, IfSome};
+ghost use Rattle.table.specs.Words.{block_count};
 ghost use Rattle.definition.specs.Context.{has};
+ghost use Rattle.statements.specs.Planned.{Reaches};
 ghost use Rattle.statements.specs.Plans.{unless_taken, entries_if, schedule_if, schedule_switch, scheduled_with, enclosing};
 
-use crate::plan::{Change, NONE, Plan, Position, frame_of, refuse, traverse_block};
+use crate::arm::Visit;
+use crate::plan::{Change, Plan, frame_of, refuse, traverse_block};
 use crate::refusal::{Refusal, Refused};
-use control::{ControlFlowTarget, block_id, is_scheduled};
-use table::columns::code_at;
+use crate::sets::Blocks;
+use control::{ControlFlowTarget, block_id};
+use table::terminals::Terminal;
 
-pub fn scheduled_at(scheduled: &[bool; 1024], catch_handlers: &[bool; 1024], block: u32) -> bool
-    requires { block < 1024 }
-    ensures { result ≡ has scheduled.now block || has catch_handlers.now block }
+// The block, unless it is taken: a label that is the fallthrough, or the body of a loop.
+pub fn unless_taken(taken: bool, block: u32) -> Option<u32>
+    ensures { result ≡ unless_taken taken block }
 {
-    is_scheduled(scheduled, catch_handlers, block_id(block))
+    if taken { None } else { Some(block) }
 }
 
-fn unless_taken(taken: bool, fallthrough: u32) -> u32
-    ensures { result ≡ unless_taken taken fallthrough }
-{
-    if taken { NONE } else { fallthrough }
-}
-
-// The fallthrough, if it is taken; NONE where it is scheduled.
-pub fn unless_scheduled(
-    scheduled: &[bool; 1024],
-    catch_handlers: &[bool; 1024],
-    fallthrough: u32,
-) -> u32
+// The fallthrough as the statement's label: none where it is scheduled.
+pub fn unless_scheduled(blocks: Blocks<'_>, fallthrough: u32) -> Option<u32>
     requires { fallthrough < 1024 }
-    ensures { result ≡ unless_taken (has scheduled.now fallthrough || has catch_handlers.now fallthrough) fallthrough }
+    ensures { result ≡ unless_taken (has blocks.entry.scheduled.now fallthrough || has blocks.entry.catch_handlers.now fallthrough) fallthrough }
 {
-    unless_taken(
-        scheduled_at(scheduled, catch_handlers, fallthrough),
-        fallthrough,
-    )
+    let taken = blocks.is_scheduled(fallthrough);
+    unless_taken(taken, fallthrough)
 }
 
-// The same for If, Switch, While, Label and Try, which ask first whether it is reachable.
-pub fn unless_unreachable(
-    words: &[u32],
-    scheduled: &[bool; 1024],
-    catch_handlers: &[bool; 1024],
-    fallthrough: u32,
-) -> u32
-    requires promise { Promise words.now }
-    requires fallthrough_bound { fallthrough < block_count words.now }
-    ensures { result ≡ unless_taken (eqb (code_at words.now fallthrough) 1 || (has scheduled.now fallthrough || has catch_handlers.now fallthrough)) fallthrough }
+// The same for If, Switch, While, Label and Try, which ask first whether it is reachable: 10 where it is missing.
+pub fn unless_unreachable(at: Visit<'_>, fallthrough: u32) -> Result<Option<u32>, Refused>
+    requires { fallthrough < block_count at.table.words.now }
+    ensures { Reaches at.entry.table.words.now at.entry.blocks.scheduled.now at.entry.blocks.catch_handlers.now at.entry.p fallthrough result }
 {
-    let unreachable = code_at(words, fallthrough) == 1;
-    let taken = scheduled_at(scheduled, catch_handlers, fallthrough);
-    unless_taken(unreachable || taken, fallthrough)
-}
-
-pub fn entries_of(label: u32) -> u32
-    ensures { result ≡ entries_if (eqb label 65535) }
-{
-    if label == NONE { 0 } else { 1 }
-}
-
-// An If, Label or scope is on the stack only if its fallthrough is taken; a Try too.
-pub fn schedule_if(label: u32) -> Option<Change>
-    requires { label ≤ 65535 }
-    ensures { result ≡ schedule_if (eqb label 65535) label }
-{
-    if label == NONE {
-        return None;
+    match at.table.terminal(fallthrough) {
+        Terminal::Absent => Err(Refusal::MissingBlock(fallthrough).after(at.p.visits)),
+        Terminal::Unreachable => Ok(None),
+        _ => Ok(unless_scheduled(at.blocks, fallthrough)),
     }
-    Some(Change::Schedule(ControlFlowTarget::If {
-        block: block_id(label),
-    }))
 }
 
-pub fn schedule_switch(label: u32) -> Option<Change>
-    requires { label ≤ 65535 }
-    ensures { result ≡ schedule_switch (eqb label 65535) label }
+// A statement has an entry of its own if it has a label.
+pub fn entries_of(label: Option<u32>) -> u32
+    ensures { result ≡ entries_if label }
 {
-    if label == NONE {
-        return None;
+    match label {
+        None => 0,
+        Some(_) => 1,
     }
-    Some(Change::Schedule(ControlFlowTarget::Switch {
-        block: block_id(label),
-    }))
+}
+
+// An If, Label or scope is on the stack only if it has a label; a Try too.
+// (That a label has 16 bits is a bound of one number, which three functions ask.)
+pub fn schedule_if(label: Option<u32>) -> Option<Change>
+    requires { IfSome label (λ block. block ≤ 65535) }
+    ensures { result ≡ schedule_if label }
+{
+    match label {
+        None => None,
+        Some(block) => Some(Change::Schedule(ControlFlowTarget::If {
+            block: block_id(block),
+        })),
+    }
+}
+
+// The same of a Switch. (Not one function with the last: a variant that is handed in would be a closure with a contract of its own.)
+pub fn schedule_switch(label: Option<u32>) -> Option<Change>
+    requires { IfSome label (λ block. block ≤ 65535) }
+    ensures { result ≡ schedule_switch label }
+{
+    match label {
+        None => None,
+        Some(block) => Some(Change::Schedule(ControlFlowTarget::Switch {
+            block: block_id(block),
+        })),
+    }
 }
 
 // A statement with a label and one nested block that must not be scheduled: If's consequent, Label's and a scope's block.
 // `busy` says whether the block is scheduled before the label is.
 pub fn enclose(
+    at: Visit<'_>,
     busy: bool,
-    p: Position,
-    label: u32,
+    label: Option<u32>,
     block: u32,
     refusal: Refusal,
 ) -> Result<Plan, Refused>
-    requires label_bound { label ≤ 65535 }
-    requires depth_bound { p.depth < 128 }
-    ensures { result ≡ enclosing (scheduled_with busy label block) p label block refusal }
+    requires label_bound { IfSome label (λ block. block ≤ 65535) }
+    ensures { result ≡ enclosing (scheduled_with busy label block) at.entry.p label block refusal }
 {
-    if block == label || busy {
-        return refuse(p, refusal);
+    if label == Some(block) || busy {
+        return refuse(at.p, refusal);
     }
-    let frame = frame_of(p, label, entries_of(label));
+    let frame = frame_of(at.p, label, entries_of(label));
     Ok(traverse_block(
         block,
         frame,
-        p.depth + 1,
-        p.rows,
-        p.visits,
+        at.p.depth + 1,
+        at.p.rows,
+        at.p.visits,
         schedule_if(label),
     ))
 }

@@ -1,49 +1,46 @@
 // The arm ForOf.
-ghost use Rattle.std.specs.Prelude.{◌≡◌, ◌-◌, ◌<◌, Ok};
-ghost use Rattle.table.specs.Words.{block_count, code_at};
-ghost use Rattle.statements.specs.Planned.{Entered, PlannedBare};
+ghost use Rattle.std.specs.Prelude.{◌-◌, ◌<◌, Ok};
+ghost use Rattle.table.specs.Words.{block_count};
+ghost use Rattle.table.specs.Promise.{Ends};
+ghost use Rattle.table.specs.Table.{for_of};
+ghost use Rattle.statements.specs.Planned.{PlannedBare};
 ghost use Rattle.statements.specs.Loops.{for_of_values, Makes};
 
+use crate::arm::Visit;
 use crate::fallthrough::unless_scheduled;
 use crate::loop_parts::{Loop, flat_value, schedule_loop, tally_of};
-use crate::plan::{Plan, Position};
-use table::terminals::for_of_at;
+use crate::plan::Plan;
+use table::terminals::ForOf;
 use values::refusal::Refused;
 use values::result::Tally;
 
+// (Not one function with For's `init_and_test`, which goes on to the update and so promises what is spent: here the test is flattened too.)
 pub fn for_of_values(
-    words: &[u32],
+    at: Visit<'_>,
     tree: &mut [u32],
-    p: Position,
     init: u32,
     test: u32,
 ) -> Result<Tally, Refused>
-    requires entered { Entered words.now p }
-    requires init_bound { init < block_count words.now }
-    requires test_bound { test < block_count words.now }
-    ensures { Makes p (for_of_values words.now p init test) tree.old result tree.new }
+    requires init_bound { init < block_count at.table.words.now }
+    requires test_bound { test < block_count at.table.words.now }
+    ensures { Makes at.entry.p (for_of_values at.entry.table.words.now at.entry.p init test) tree.old result tree.new }
 {
-    let first = flat_value(words, tree, p, tally_of(p), init)?;
-    flat_value(words, tree, p, first, test)
+    let first = flat_value(at, tree, tally_of(at.p), init)?;
+    flat_value(at, tree, first, test)
 }
 
-pub fn visit_for_of<'a>(
-    words: &[u32],
-    scheduled: &'a [bool; 1024],
-    catch_handlers: &'a [bool; 1024],
-    p: Position,
-) -> Plan
-    requires entered { Entered words.now p }
-    requires block_value { code_at words.now p.block ≡ 11 }
-    ensures { PlannedBare words.now scheduled.now catch_handlers.now p (Ok result) }
+// An arm for each loop, as in the Rust: see do_while.rt.
+#[tactic(auto, using(crate::proofs::LoopLaws::for_of_scheduled))]
+pub fn visit_for_of(at: Visit<'_>, end: ForOf) -> Plan
+    requires ends { Ends at.table.words.now at.p.block (for_of end.init end.test end.loop_block end.fallthrough) }
+    ensures { PlannedBare at.entry.table.words.now at.entry.blocks.scheduled.now at.entry.blocks.catch_handlers.now at.entry.p (Ok result) }
 {
-    let terminal = for_of_at(words, p.block);
-    let label = unless_scheduled(scheduled, catch_handlers, terminal.fallthrough);
-    let blocks = Loop {
-        fallthrough: terminal.fallthrough,
+    let label = unless_scheduled(at.blocks, end.fallthrough);
+    let parts = Loop {
+        fallthrough: end.fallthrough,
         label,
-        continue_block: terminal.init,
-        loop_block: terminal.loop_block,
+        continue_block: end.init,
+        loop_block: end.loop_block,
     };
-    schedule_loop(scheduled, catch_handlers, p, blocks)
+    schedule_loop(at, parts)
 }

@@ -1,58 +1,49 @@
 // The arm Goto.
-ghost use Rattle.std.specs.Prelude.{◌≡◌, [], ◌+◌, ◌≤◌, IfOk};
-ghost use Rattle.table.specs.Words.{code_at};
+ghost use Rattle.std.specs.Prelude.{◌≡◌, [], ◌+◌, ◌≤◌};
+ghost use Rattle.table.specs.Promise.{Ends};
+ghost use Rattle.table.specs.Table.{goto};
+ghost use Rattle.table.specs.Columns.{goto_variant};
 ghost use Rattle.definition.specs.Around.{Around};
-ghost use Rattle.control.specs.AroundAbstraction.{AimBelow};
 ghost use Rattle.statements.specs.Jumps.{after_jump, GotoSeen};
-ghost use Rattle.statements.specs.Planned.{Entered, Planned, terminal_step_in};
+ghost use Rattle.statements.specs.Planned.{Planned, terminal_step_in};
 
+use crate::arm::Visit;
 use crate::jump::{Jumped, visit_break, visit_continue};
-use crate::plan::{NONE, Plan, Position, leave, refuse};
-use crate::refusal::{Refusal, Refused};
+use crate::plan::{Plan, leave};
+use crate::refusal::Refused;
 use control::around::Goal;
-use table::columns::block_at;
-use table::terminals::{GotoVariant, goto_at};
+use table::terminals::{Goto, GotoVariant};
 
-fn after_jump(p: Position, jump: Result<Jumped, Refusal>) -> Result<Plan, Refused>
-    requires count_bound { p.count ≤ 1000000000 }
-    requires count_bound_2 { IfOk jump (λ jumped. jumped.count ≤ 1) }
-    ensures { result ≡ after_jump p jump }
+// The list goes on behind a jump, with its row if it has one.
+fn after_jump(at: Visit<'_>, jumped: Jumped) -> Plan
+    requires { jumped.count ≤ 1 }
+    ensures { result ≡ after_jump at.entry.p jumped }
 {
-    match jump {
-        Err(refusal) => refuse(p, refusal),
-        Ok(jumped) => Ok(leave(
-            NONE,
-            p.depth,
-            p.count + jumped.count,
-            jumped.rows,
-            p.visits,
-            None,
-        )),
-    }
+    let p = at.p;
+    let count = p.count + jumped.count;
+    leave(None, p.depth, count, jumped.rows, p.visits, None)
 }
 
 pub fn visit_goto(
-    words: &[u32],
+    at: Visit<'_>,
     tree: &mut [u32],
     scopes: &[bool; 1024],
-    p: Position,
+    end: Goto,
     aim: Option<Goal>,
 ) -> Result<Plan, Refused>
-    requires entered { Entered words.now p }
-    requires block_value { code_at words.now p.block ≡ 4 }
-    requires aim_below { AimBelow aim }
-    ensures { (around : Around) → Planned (terminal_step_in around words.now p) (GotoSeen words.now p scopes.now aim around) [] p.depth p.rows tree.old result tree.new }
+    requires ends { Ends at.table.words.now at.p.block (goto end.block (goto_variant end.variant)) }
+    ensures { (around : Around) → Planned (terminal_step_in around at.entry.table.words.now at.entry.p) (GotoSeen at.entry.table.words.now at.entry.p scopes.now aim around) [] at.entry.p.depth at.entry.p.rows tree.old result tree.new }
 {
-    let terminal = goto_at(words, p.block);
-    let head = block_at(words, p.block);
-    match terminal.variant {
-        GotoVariant::Break => after_jump(
-            p,
-            visit_break(tree, scopes, p, terminal.block, head.id, aim),
-        ),
-        GotoVariant::Continue => {
-            after_jump(p, visit_continue(tree, p, terminal.block, head.id, aim))
+    let head = at.table.block(at.p.block);
+    match end.variant {
+        GotoVariant::Break => {
+            let jumped = visit_break(at, tree, scopes, end.block, head.id, aim)?;
+            Ok(after_jump(at, jumped))
         }
-        GotoVariant::Try => Ok(leave(NONE, p.depth, p.count, p.rows, p.visits, None)), // no row
+        GotoVariant::Continue => {
+            let jumped = visit_continue(at, tree, end.block, head.id, aim)?;
+            Ok(after_jump(at, jumped))
+        }
+        GotoVariant::Try => Ok(leave(None, at.p.depth, at.p.count, at.p.rows, at.p.visits, None)), // no row
     }
 }

@@ -1,30 +1,22 @@
 // The arm Label.
-ghost use Rattle.std.specs.Prelude.{◌≡◌};
-ghost use Rattle.table.specs.Words.{code_at};
-ghost use Rattle.statements.specs.Planned.{Entered, PlannedBare};
+ghost use Rattle.table.specs.Promise.{Ends};
+ghost use Rattle.table.specs.Table.{label};
+ghost use Rattle.statements.specs.Planned.{PlannedBare};
 
-use crate::fallthrough::{enclose, scheduled_at, unless_unreachable};
-use crate::plan::{Plan, Position, refuse};
+use crate::arm::Visit;
+use crate::fallthrough::{enclose, unless_unreachable};
+use crate::plan::Plan;
 use crate::refusal::{Refusal, Refused};
-use table::columns::code_at;
-use table::terminals::label_at;
+use table::terminals::Label;
 
-pub fn visit_label(
-    words: &[u32],
-    scheduled: &[bool; 1024],
-    catch_handlers: &[bool; 1024],
-    p: Position,
-) -> Result<Plan, Refused>
-    requires entered { Entered words.now p }
-    requires block_value { code_at words.now p.block ≡ 16 }
-    ensures { PlannedBare words.now scheduled.now catch_handlers.now p result }
+// The same two steps as If: see if_else.rt.
+#[tactic(auto, using(crate::proofs::PlannedLaws::reached_most, crate::proofs::VisitLaws::label_absent, crate::proofs::VisitLaws::label_nested))]
+pub fn visit_label(at: Visit<'_>, end: Label) -> Result<Plan, Refused>
+    requires ends { Ends at.table.words.now at.p.block (label end.block end.fallthrough) }
+    ensures { PlannedBare at.entry.table.words.now at.entry.blocks.scheduled.now at.entry.blocks.catch_handlers.now at.entry.p result }
 {
-    let terminal = label_at(words, p.block);
-    if code_at(words, terminal.fallthrough) == 0 {
-        return refuse(p, Refusal::MissingBlock(terminal.fallthrough));
-    }
-    let label = unless_unreachable(words, scheduled, catch_handlers, terminal.fallthrough);
-    let busy = scheduled_at(scheduled, catch_handlers, terminal.block);
-    let refusal = Refusal::LabelBlockScheduled(p.block);
-    enclose(busy, p, label, terminal.block, refusal)
+    let label = unless_unreachable(at, end.fallthrough)?;
+    let busy = at.blocks.is_scheduled(end.block);
+    let refusal = Refusal::LabelBlockScheduled(at.p.block);
+    enclose(at, busy, label, end.block, refusal)
 }

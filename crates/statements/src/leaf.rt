@@ -1,32 +1,32 @@
 // The arms Return and Throw.
-ghost use Rattle.std.specs.Prelude.{◌≡◌, [], Ok};
-ghost use Rattle.table.specs.Words.{code_at};
-ghost use Rattle.statements.specs.Planned.{Entered, Planned, terminal_step, SameVisits};
+ghost use Rattle.std.specs.Prelude.{[], Ok};
+ghost use Rattle.table.specs.Promise.{Ends};
+ghost use Rattle.table.specs.Table.{throw, return};
+ghost use Rattle.statements.specs.Planned.{Planned, terminal_step, SameVisits};
 
-use crate::plan::{NONE, Plan, Position, leave};
-use table::columns::block_at;
-use table::terminals::{return_at, throw_at};
-use values::rows;
+use crate::arm::Visit;
+use crate::plan::{Plan, leave};
+use table::terminals::{Return, Throw};
+use values::op::Op;
 use values::rows::put;
 
-pub fn visit_return(words: &[u32], tree: &mut [u32], p: Position) -> Plan
-    requires entered { Entered words.now p }
-    requires block_value { code_at words.now p.block ≡ 3 }
-    ensures { Planned (terminal_step words.now p) (SameVisits p) [] p.depth p.rows tree.old (Ok result) tree.new }
+// Two functions, as the Rust has two arms: they differ in the row's op, and each contract names its own terminal.
+#[tactic(auto, using(crate::proofs::RowPlanLaws::return_left))]
+pub fn visit_return(at: Visit<'_>, tree: &mut [u32], end: Return) -> Plan
+    requires ends { Ends at.table.words.now at.p.block (return end.value) }
+    ensures { Planned (terminal_step at.entry.table.words.now at.entry.p) (SameVisits at.entry.p) [] at.entry.p.depth at.entry.p.rows tree.old (Ok result) tree.new }
 {
-    let terminal = return_at(words, p.block);
-    let head = block_at(words, p.block);
-    let rows = put(tree, p.rows, rows::RETURN, terminal.value, head.id, 0, 0, 0);
-    leave(NONE, p.depth, p.count + 1, rows, p.visits, None)
+    let head = at.table.block(at.p.block);
+    let rows = put(tree, at.p.rows, Op::Return, end.value, head.id, 0, 0, 0);
+    leave(None, at.p.depth, at.p.count + 1, rows, at.p.visits, None)
 }
 
-pub fn visit_throw(words: &[u32], tree: &mut [u32], p: Position) -> Plan
-    requires entered { Entered words.now p }
-    requires block_value { code_at words.now p.block ≡ 2 }
-    ensures { Planned (terminal_step words.now p) (SameVisits p) [] p.depth p.rows tree.old (Ok result) tree.new }
+#[tactic(auto, using(crate::proofs::RowPlanLaws::throw_left))]
+pub fn visit_throw(at: Visit<'_>, tree: &mut [u32], end: Throw) -> Plan
+    requires ends { Ends at.table.words.now at.p.block (throw end.value) }
+    ensures { Planned (terminal_step at.entry.table.words.now at.entry.p) (SameVisits at.entry.p) [] at.entry.p.depth at.entry.p.rows tree.old (Ok result) tree.new }
 {
-    let terminal = throw_at(words, p.block);
-    let head = block_at(words, p.block);
-    let rows = put(tree, p.rows, rows::THROW, terminal.value, head.id, 0, 0, 0);
-    leave(NONE, p.depth, p.count + 1, rows, p.visits, None)
+    let head = at.table.block(at.p.block);
+    let rows = put(tree, at.p.rows, Op::Throw, end.value, head.id, 0, 0, 0);
+    leave(None, at.p.depth, at.p.count + 1, rows, at.p.visits, None)
 }

@@ -5,8 +5,12 @@
 pub mod refusal;
 // What a turn of the walk decides: a Plan.
 pub mod plan;
+// What an arm sees of the Context: its sets, lent together.
+pub mod sets;
+// Where an arm stands: what every arm is handed, at a block that is visited and where a nested list has ended.
+mod arm;
 // Fallthroughs and nested blocks, by the sets: which label a statement has, and whether a block that it would nest is scheduled.
-pub mod fallthrough;
+mod fallthrough;
 // What the five loops share: their values, made before the body, and whether the loop is scheduled.
 mod loop_parts;
 // The closing row of a statement whose nested lists have ended.
@@ -47,7 +51,7 @@ mod leaf;
 mod branch;
 // The visit of a block: its instructions, and what its terminal gives.
 mod visit;
-// A loop's second turn: it is scheduled, and its values are made before the body.
+// The second turn of a loop or a value statement: it is scheduled, and its values are made.
 mod second_turn;
 // Where a nested list has ended: the arm's second half, the next case, or the closing row.
 mod resume;

@@ -1,23 +1,19 @@
 // The arm MaybeThrow.
-ghost use Rattle.std.specs.Prelude.{◌≡◌, Ok};
-ghost use Rattle.table.specs.Words.{code_at};
-ghost use Rattle.statements.specs.Planned.{Entered, PlannedBare};
+ghost use Rattle.std.specs.Prelude.{Ok};
+ghost use Rattle.table.specs.Promise.{Ends};
+ghost use Rattle.table.specs.Table.{maybe_throw};
+ghost use Rattle.statements.specs.Planned.{PlannedBare};
 
+use crate::arm::Visit;
 use crate::fallthrough::unless_scheduled;
-use crate::plan::{Plan, Position, leave};
-use table::terminals::maybe_throw_at;
+use crate::plan::{Plan, leave};
+use table::terminals::MaybeThrow;
 
-pub fn visit_maybe_throw(
-    words: &[u32],
-    scheduled: &[bool; 1024],
-    catch_handlers: &[bool; 1024],
-    p: Position,
-) -> Plan
-    requires entered { Entered words.now p }
-    requires block_value { code_at words.now p.block ≡ 18 }
-    ensures { PlannedBare words.now scheduled.now catch_handlers.now p (Ok result) }
+#[tactic(auto, using(crate::proofs::VisitLaws::maybe_throw_left))]
+pub fn visit_maybe_throw(at: Visit<'_>, end: MaybeThrow) -> Plan
+    requires ends { Ends at.table.words.now at.p.block (maybe_throw end.continuation) }
+    ensures { PlannedBare at.entry.table.words.now at.entry.blocks.scheduled.now at.entry.blocks.catch_handlers.now at.entry.p (Ok result) }
 {
-    let terminal = maybe_throw_at(words, p.block);
-    let next = unless_scheduled(scheduled, catch_handlers, terminal.continuation);
-    leave(next, p.depth, p.count, p.rows, p.visits, None)
+    let next = unless_scheduled(at.blocks, end.continuation);
+    leave(next, at.p.depth, at.p.count, at.p.rows, at.p.visits, None)
 }

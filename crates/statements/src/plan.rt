@@ -1,27 +1,25 @@
 // What a turn of the walk decides: a Plan. An arm sees numbers and sets, never the Context's stack; the walk applies its plan.
-ghost use Rattle.std.specs.Prelude.{◌≡◌, eqb};
+ghost use Rattle.std.specs.Prelude.{◌≡◌, None};
 ghost use Rattle.statements.specs.Plans.{advanced, going_on, no_frame, open_frame, second, with_counts, refusing, stage_after, leaving, nesting, choosing_next, popping_next, making_next, accepting, with_handler, with_scope, with_line};
 
 use crate::refusal::{Refusal, Refused};
 use control::ControlFlowTarget;
 
-// No block: paper 01's 65,535.
-pub const NONE: u32 = 65535;
-
 // What the next turn does: visit a block, resume the statement whose list has ended, take a Switch's next case, take an entry off the stack, or make the
-// values of a statement that is scheduled.
+// values of a statement that is scheduled. Values has the body of a loop, which is visited next: none where that body is taken, and at a value statement.
 #[derive(Clone, Copy, Drop)]
 pub enum Stage {
     Visit,
     Ended,
     Choose,
     Pop,
-    Values,
+    Values(Option<u32>),
     Halt,
 }
 
-// Where the walk stands: under `depth` frames, with `count` statements of the list in hand and `rows` rows out. `block` is the one to be visited, or the
-// body of the loop whose values are made next; NONE where that body is taken.
+// Where the walk stands: under `depth` frames, with `count` statements of the list in hand and `rows` rows out. `block` is the one to be visited, and 0 at
+// any stage but Visit. (A field of its own, and not of Visit, since each arm reads it.)
+// (Rows and visits stay two numbers: most arms change the rows alone.)
 #[derive(Clone, Copy, Drop)]
 pub struct Position {
     pub block: u32,
@@ -32,12 +30,12 @@ pub struct Position {
     pub stage: Stage,
 }
 
-// A statement whose nested block is still being built. `label` is the fallthrough, NONE where it is not taken. `entries` is how many entries of the stack
+// A statement whose nested block is still being built. `label` is the fallthrough, if that was free. `entries` is how many entries of the stack
 // are its own. Its own rows begin at row `first`.
 #[derive(Clone, Copy, Drop)]
 pub struct Frame {
     pub block: u32,
-    pub label: u32,
+    pub label: Option<u32>,
     pub entries: u32,
     pub left: u32,
     pub built: u32,
@@ -60,14 +58,13 @@ pub struct Line {
     pub first: u32,
 }
 
-// The next position. With `keep` the frame becomes the innermost one. `handler` and `scope` are marked, unless NONE.
+// The next position. The frame, if there is one, becomes the innermost one. `handler` and `scope` are marked, if any.
 #[derive(Clone, Copy, Drop)]
 pub struct Plan {
     pub position: Position,
-    pub frame: Frame,
-    pub keep: bool,
-    pub handler: u32,
-    pub scope: u32,
+    pub frame: Option<Frame>,
+    pub handler: Option<u32>,
+    pub scope: Option<u32>,
     pub change: Option<Change>,
     pub line: Option<Line>,
 }
@@ -90,7 +87,7 @@ pub fn no_frame() -> Frame
 {
     Frame {
         block: 0,
-        label: NONE,
+        label: None,
         entries: 0,
         left: 0,
         built: 0,
@@ -100,7 +97,7 @@ pub fn no_frame() -> Frame
     }
 }
 
-pub fn frame_of(p: Position, label: u32, entries: u32) -> Frame
+pub fn frame_of(p: Position, label: Option<u32>, entries: u32) -> Frame
     ensures { result ≡ open_frame p label entries }
 {
     Frame {
@@ -139,10 +136,9 @@ fn go_on(position: Position) -> Plan
 {
     Plan {
         position,
-        frame: no_frame(),
-        keep: false,
-        handler: NONE,
-        scope: NONE,
+        frame: None,
+        handler: None,
+        scope: None,
         change: None,
         line: None,
     }
@@ -155,19 +151,18 @@ pub fn refuse(p: Position, refusal: Refusal) -> Result<Plan, Refused>
     Err(refusal.after(p.visits))
 }
 
-fn stage_after(next: u32) -> Stage
-    ensures { result ≡ stage_after (eqb next 65535) }
+fn stage_after(next: Option<u32>) -> Stage
+    ensures { result ≡ stage_after next }
 {
-    if next == NONE {
-        Stage::Ended
-    } else {
-        Stage::Visit
+    match next {
+        None => Stage::Ended,
+        Some(_) => Stage::Visit,
     }
 }
 
 // On to the block at the same depth, if there is one: else the list has ended.
 pub fn leave(
-    next: u32,
+    next: Option<u32>,
     depth: u32,
     count: u32,
     rows: u32,
@@ -177,7 +172,7 @@ pub fn leave(
     ensures { result ≡ leaving next depth count rows visits change }
 {
     let position = Position {
-        block: next,
+        block: next.unwrap_or(0),
         depth,
         count,
         rows,
@@ -190,6 +185,8 @@ pub fn leave(
     }
 }
 
+// A constructor for each stage, by the definition's name (`nesting`, `choosing_next`, ..): one for all would take seven parameters.
+
 // Into a block nested in the frame's statement. The frame becomes the innermost one at that depth.
 pub fn traverse_block(
     block: u32,
@@ -199,7 +196,7 @@ pub fn traverse_block(
     visits: u32,
     change: Option<Change>,
 ) -> Plan
-    ensures { result ≡ nesting block frame depth rows visits 65535 65535 change }
+    ensures { result ≡ nesting block frame depth rows visits None None change }
 {
     let position = Position {
         block,
@@ -210,8 +207,7 @@ pub fn traverse_block(
         stage: Stage::Visit,
     };
     Plan {
-        frame,
-        keep: true,
+        frame: Some(frame),
         change,
         ..go_on(position)
     }
@@ -230,8 +226,7 @@ pub fn choose(frame: Frame, depth: u32, rows: u32, visits: u32, change: Option<C
         stage: Stage::Choose,
     };
     Plan {
-        frame,
-        keep: true,
+        frame: Some(frame),
         change,
         ..go_on(position)
     }
@@ -250,8 +245,7 @@ pub fn pop(frame: Frame, depth: u32, rows: u32, visits: u32) -> Plan
         stage: Stage::Pop,
     };
     Plan {
-        frame,
-        keep: true,
+        frame: Some(frame),
         change: Some(Change::Unschedule),
         ..go_on(position)
     }
@@ -259,7 +253,7 @@ pub fn pop(frame: Frame, depth: u32, rows: u32, visits: u32) -> Plan
 
 // The frame's statement is scheduled, and its values are made next; a loop makes them before its body. The frame becomes the innermost one at that depth.
 pub fn make_values(
-    body: u32,
+    body: Option<u32>,
     frame: Frame,
     depth: u32,
     rows: u32,
@@ -269,16 +263,15 @@ pub fn make_values(
     ensures { result ≡ making_next body frame depth rows visits change }
 {
     let position = Position {
-        block: body,
+        block: 0,
         depth,
         count: 0,
         rows,
         visits,
-        stage: Stage::Values,
+        stage: Stage::Values(body),
     };
     Plan {
-        frame,
-        keep: true,
+        frame: Some(frame),
         change,
         ..go_on(position)
     }
@@ -302,10 +295,13 @@ pub fn accept(rows: u32, visits: u32) -> Plan
 pub fn with_handler(plan: Plan, handler: u32) -> Plan
     ensures { result ≡ with_handler plan handler }
 {
-    Plan { handler, ..plan }
+    Plan {
+        handler: Some(handler),
+        ..plan
+    }
 }
 
-pub fn with_scope(plan: Plan, scope: u32) -> Plan
+pub fn with_scope(plan: Plan, scope: Option<u32>) -> Plan
     ensures { result ≡ with_scope plan scope }
 {
     Plan { scope, ..plan }

@@ -1,6 +1,6 @@
 // What the statement walk refuses, with the place of each: the block that paper 01 names, else the innermost block still being visited.
 ghost use Rattle.std.specs.Prelude.{◌≡◌};
-ghost use Rattle.statements.specs.Refusal.{refusal_code, refusal_place, refused_after};
+ghost use Rattle.statements.specs.Refusal.{refusal_code, refusal_place, refused_after, refused_value};
 
 use values::refusal;
 
@@ -84,8 +84,18 @@ impl Refusal {
 }
 
 // A refusal, and the visits begun before it.
+// (Not one generic type with `values`': each signature would name its refusal twice, as `Refused<Refusal>`.)
 #[derive(Clone, Copy, Debug, PartialEq, Eq, Drop)]
 pub struct Refused {
     pub refusal: Refusal,
     pub visits: u32,
+}
+
+// A value's refusal ends the statement walk too.
+impl From<refusal::Refused> for Refused {
+    ghost from_gives = { λ refused error. error ≡ refused_value refused };
+
+    fn from(refused: refusal::Refused) -> Refused {
+        Refusal::Value(refused.refusal).after(refused.visits)
+    }
 }

@@ -1,27 +1,19 @@
 // The arms Scope and PrunedScope.
-ghost use Rattle.std.specs.Prelude.{◌≤◌};
-ghost use Rattle.table.specs.Words.{code_at};
-ghost use Rattle.statements.specs.Planned.{Entered, PlannedBare};
+ghost use Rattle.statements.specs.Planned.{EndsInScope, PlannedBare};
 
-use crate::fallthrough::{enclose, scheduled_at, unless_scheduled};
-use crate::plan::{Plan, Position, with_scope};
+use crate::arm::Visit;
+use crate::fallthrough::{enclose, unless_scheduled};
+use crate::plan::{Plan, with_scope};
 use crate::refusal::{Refusal, Refused};
-use table::terminals::scope_at;
+use table::terminals::Scope;
 
-pub fn visit_scope(
-    words: &[u32],
-    scheduled: &[bool; 1024],
-    catch_handlers: &[bool; 1024],
-    p: Position,
-) -> Result<Plan, Refused>
-    requires entered { Entered words.now p }
-    requires bound { 20 ≤ code_at words.now p.block }
-    ensures { PlannedBare words.now scheduled.now catch_handlers.now p result }
+pub fn visit_scope(at: Visit<'_>, end: Scope) -> Result<Plan, Refused>
+    requires ends { EndsInScope at.table.words.now at.p.block end }
+    ensures { PlannedBare at.entry.table.words.now at.entry.blocks.scheduled.now at.entry.blocks.catch_handlers.now at.entry.p result }
 {
-    let terminal = scope_at(words, p.block);
-    let label = unless_scheduled(scheduled, catch_handlers, terminal.fallthrough);
-    let busy = scheduled_at(scheduled, catch_handlers, terminal.block);
-    let refusal = Refusal::ScopeBlockScheduled(p.block);
-    let plan = enclose(busy, p, label, terminal.block, refusal)?;
+    let label = unless_scheduled(at.blocks, end.fallthrough);
+    let busy = at.blocks.is_scheduled(end.block);
+    let refusal = Refusal::ScopeBlockScheduled(at.p.block);
+    let plan = enclose(at, busy, label, end.block, refusal)?;
     Ok(with_scope(plan, label))
 }

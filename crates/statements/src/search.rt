@@ -1,24 +1,26 @@
 // What a block's jump looks for on the stack, what it finds at an entry, and where it goes. The walk searches before a turn is planned: an arm sees
 // neither the stack nor the statements around.
 ghost use Rattle.std.specs.Prelude.{◌≡◌, ◌<◌};
-ghost use Rattle.table.specs.Words.{block_count, code_at};
-ghost use Rattle.table.specs.Promise.{Promise};
+ghost use Rattle.table.specs.Words.{block_count};
+ghost use Rattle.table.specs.Promise.{Ends};
+ghost use Rattle.table.specs.Table.{goto, branch};
+ghost use Rattle.table.specs.Columns.{goto_variant};
 ghost use Rattle.definition.specs.Context.{Flags};
 ghost use Rattle.control.specs.Abstraction.{target_of, resolved_of};
 ghost use Rattle.control.specs.AroundAbstraction.{rule_of, survey_of, aim_of};
 ghost use Rattle.statements.specs.declared.plan.Stage.TheVariants.{Visit};
 ghost use Rattle.statements.specs.Search.{searched_from, is_met, resolved_at, asks_of, surveyed_by, enough_in, known_by, Searches};
 
-use crate::fallthrough::scheduled_at;
 use crate::plan::{Position, Stage};
+use crate::sets::Blocks;
 use control::around::{Goal, Survey, asks, break_goal, continue_goal};
 use control::rule::Rule;
 use control::{
     ControlFlowTarget, Entry, ReactiveTerminalTargetKind, Resolution, block_id, break_to,
     continue_to,
 };
-use table::columns::code_at;
-use table::terminals::{GotoVariant, branch_at, goto_at};
+use table::Table;
+use table::terminals::{Branch, Goto, GotoVariant, Terminal};
 
 // A jump that looks for its target on the stack: the block that it names.
 #[derive(Clone, Copy, PartialEq, Eq, Drop)]
@@ -104,15 +106,13 @@ pub fn aim_at(
     }
 }
 
-fn goto_jump(words: &[u32], block: u32) -> Option<Jump>
-    requires promise { Promise words.now }
-    requires block_bound { block < block_count words.now }
-    requires block_value { code_at words.now block ≡ 4 }
-    ensures { (scheduled_set handler_set : Flags) → Searches words.now scheduled_set handler_set block result }
+#[tactic(auto, using(crate::proofs::SearchLaws::goto_breaks, crate::proofs::SearchLaws::goto_continues, crate::proofs::SearchLaws::goto_tries))]
+fn goto_jump(table: Table<'_>, block: u32, end: Goto) -> Option<Jump>
+    requires { Ends table.words.now block (goto end.block (goto_variant end.variant)) }
+    ensures { (scheduled_set handler_set : Flags) → Searches table.entry.words.now scheduled_set handler_set block result }
 {
-    let terminal = goto_at(words, block);
-    let target = block_id(terminal.block);
-    match terminal.variant {
+    let target = block_id(end.block);
+    match end.variant {
         GotoVariant::Break => Some(Jump::Break(target)),
         GotoVariant::Continue => Some(Jump::Continue(target)),
         GotoVariant::Try => None,
@@ -120,53 +120,34 @@ fn goto_jump(words: &[u32], block: u32) -> Option<Jump>
 }
 
 // A Branch jumps where its consequent is scheduled.
-fn branch_jump(
-    words: &[u32],
-    scheduled: &[bool; 1024],
-    catch_handlers: &[bool; 1024],
-    block: u32,
-) -> Option<Jump>
-    requires promise { Promise words.now }
-    requires block_bound { block < block_count words.now }
-    requires block_value { code_at words.now block ≡ 6 }
-    ensures { Searches words.now scheduled.now catch_handlers.now block result }
+fn branch_jump(table: Table<'_>, blocks: Blocks<'_>, block: u32, end: Branch) -> Option<Jump>
+    requires { Ends table.words.now block (branch end.test end.consequent end.alternate) }
+    ensures { Searches table.entry.words.now blocks.entry.scheduled.now blocks.entry.catch_handlers.now block result }
 {
-    let terminal = branch_at(words, block);
-    if scheduled_at(scheduled, catch_handlers, terminal.consequent) {
-        return Some(Jump::Break(block_id(terminal.consequent)));
+    if blocks.is_scheduled(end.consequent) {
+        return Some(Jump::Break(block_id(end.consequent)));
     }
     None
 }
 
-fn block_jump(
-    words: &[u32],
-    scheduled: &[bool; 1024],
-    catch_handlers: &[bool; 1024],
-    block: u32,
-) -> Option<Jump>
-    requires promise { Promise words.now }
-    requires block_bound { block < block_count words.now }
-    ensures { Searches words.now scheduled.now catch_handlers.now block result }
+#[tactic(auto, using(crate::proofs::SearchLaws::no_jump))]
+fn block_jump(table: Table<'_>, blocks: Blocks<'_>, block: u32) -> Option<Jump>
+    requires { block < block_count table.words.now }
+    ensures { Searches table.entry.words.now blocks.entry.scheduled.now blocks.entry.catch_handlers.now block result }
 {
-    match code_at(words, block) {
-        4 => goto_jump(words, block),
-        6 => branch_jump(words, scheduled, catch_handlers, block),
+    match table.terminal(block) {
+        Terminal::Goto(end) => goto_jump(table, block, end),
+        Terminal::Branch(end) => branch_jump(table, blocks, block, end),
         _ => None,
     }
 }
 
-pub fn jump_at(
-    words: &[u32],
-    scheduled: &[bool; 1024],
-    catch_handlers: &[bool; 1024],
-    p: Position,
-) -> Option<Jump>
-    requires promise { Promise words.now }
-    requires block_bound { p.stage ≡ Visit → p.block < block_count words.now }
-    ensures { p.stage ≡ Visit → Searches words.now scheduled.now catch_handlers.now p.block result }
+pub fn jump_at(table: Table<'_>, blocks: Blocks<'_>, p: Position) -> Option<Jump>
+    requires { p.stage ≡ Visit → p.block < block_count table.words.now }
+    ensures { p.stage ≡ Visit → Searches table.entry.words.now blocks.entry.scheduled.now blocks.entry.catch_handlers.now p.block result }
 {
     match p.stage {
-        Stage::Visit => block_jump(words, scheduled, catch_handlers, p.block),
+        Stage::Visit => block_jump(table, blocks, p.block),
         _ => None,
     }
 }

@@ -1,35 +1,27 @@
 // The arm While.
-ghost use Rattle.std.specs.Prelude.{◌≡◌, ◌-◌, ◌<◌};
-ghost use Rattle.table.specs.Words.{code_at};
-ghost use Rattle.statements.specs.Planned.{Entered, PlannedBare};
+ghost use Rattle.std.specs.Prelude.{◌-◌, ◌<◌};
+ghost use Rattle.table.specs.Promise.{Ends};
+ghost use Rattle.table.specs.Table.{while};
+ghost use Rattle.statements.specs.Planned.{PlannedBare};
 
+use crate::arm::Visit;
 use crate::fallthrough::unless_unreachable;
 use crate::loop_parts::{Loop, schedule_loop};
-use crate::plan::{Plan, Position, refuse};
-use crate::refusal::{Refusal, Refused};
-use table::columns::code_at;
-use table::terminals::while_at;
+use crate::plan::Plan;
+use crate::refusal::Refused;
+use table::terminals::While;
 
-pub fn visit_while<'a>(
-    words: &[u32],
-    scheduled: &'a [bool; 1024],
-    catch_handlers: &'a [bool; 1024],
-    p: Position,
-) -> Result<Plan, Refused>
-    requires entered { Entered words.now p }
-    requires block_value { code_at words.now p.block ≡ 9 }
-    ensures { PlannedBare words.now scheduled.now catch_handlers.now p result }
+#[tactic(auto, using(crate::proofs::LoopLaws::while_missing, crate::proofs::LoopLaws::while_scheduled))]
+pub fn visit_while(at: Visit<'_>, end: While) -> Result<Plan, Refused>
+    requires ends { Ends at.table.words.now at.p.block (while end.test end.loop_block end.fallthrough) }
+    ensures { PlannedBare at.entry.table.words.now at.entry.blocks.scheduled.now at.entry.blocks.catch_handlers.now at.entry.p result }
 {
-    let terminal = while_at(words, p.block);
-    if code_at(words, terminal.fallthrough) == 0 {
-        return refuse(p, Refusal::MissingBlock(terminal.fallthrough));
-    }
-    let label = unless_unreachable(words, scheduled, catch_handlers, terminal.fallthrough);
-    let blocks = Loop {
-        fallthrough: terminal.fallthrough,
+    let label = unless_unreachable(at, end.fallthrough)?;
+    let parts = Loop {
+        fallthrough: end.fallthrough,
         label,
-        continue_block: terminal.test,
-        loop_block: terminal.loop_block,
+        continue_block: end.test,
+        loop_block: end.loop_block,
     };
-    Ok(schedule_loop(scheduled, catch_handlers, p, blocks))
+    Ok(schedule_loop(at, parts))
 }

@@ -6,7 +6,7 @@ use native.Mathlib.Omega.{arith}
 use Rattle.table.specs.declared.columns.Span.{Span}
 use Rattle.table.specs.Words.{block_count, instruction_count, case_count, place_count, block_word, instruction_word, case_word, operation_code_at}
 use Rattle.table.specs.Check.{case_rules, place_or_none}
-use Rattle.table.specs.Table.{Instruction, Operation, load_local, store_local, table_of, block_at, block_of, instruction_of, case_of, operation_of, instruction_rows_at, rows_from}
+use Rattle.table.specs.Table.{Instruction, Operation, table_of, block_at, block_of, instruction_of, case_of, operation_of, instruction_rows_at, rows_from}
 use Rattle.table.specs.Promise.{Promise, OperandsInRange, Heads, Instructs, Operates, Chooses}
 use Rattle.table.proofs.TableLaws.{block_at_lem, instruction_at_lem, case_at_lem}
 use Rattle.table.proofs.RangeLaws.{run_within, lvalue_below, operands_in_range, below_unless_none, case_block}
@@ -48,19 +48,11 @@ module _ {ws : List ℕ} {i : ℕ} (p : Promise ws) (inside : i < instruction_co
         there = rw el (lvalue_below ws p i inside);
       }
 
-  operates : (code : ℕ) {o : Operation} → operation_code_at ws i ≡ code → o ≡ operation_of code (instruction_word ws i 3) (instruction_word ws i 4) → Operates ws i o
+  pub operates : {done : Operation} {code p q : ℕ} → done ≡ operation_of code p q → code ≡ operation_code_at ws i → p ≡ instruction_word ws i 3 → q ≡ instruction_word ws i 4 → Operates ws i done
   unfolding instruction_of
-  operates code known e =
-      let q = ap (λ (k : Instruction). k.operation) (instruction_at_lem ws i inside) ∙ ap (λ (k : ℕ). operation_of k (instruction_word ws i 3) (instruction_word ws i 4)) known ∙ sym e in
-      record { few = p.sized.limited.places; is = q; named = subst (OperandsInRange (place_count ws)) q (operands_in_range ws p i inside) }
-
-  pub loads : {place : ℕ} → operation_code_at ws i ≡ 1 → place ≡ instruction_word ws i 3 → Operates ws i (load_local place)
-  unfolding operation_of
-  loads code e = operates 1 code (rw e)
-
-  pub stores : {to value : ℕ} → operation_code_at ws i ≡ 2 → to ≡ instruction_word ws i 3 → value ≡ instruction_word ws i 4 → Operates ws i (store_local to value)
-  unfolding operation_of
-  stores code et ev = operates 2 code (rw (et, ev))
+  operates made ecode ep eq =
+      let is = ap (λ (k : Instruction). k.operation) (instruction_at_lem ws i inside) ∙ sym (rw (ecode, ep, eq) at made) in
+      record { few = p.sized.limited.places; is = is; named = subst (OperandsInRange (place_count ws)) is (operands_in_range ws p i inside) }
 
 pub chooses : {ws : List ℕ} {i test block : ℕ} → Promise ws → i < case_count ws → test ≡ case_word ws i 0 → block ≡ case_word ws i 1 → Chooses ws i test block
 unfolding case_of case_rules place_or_none

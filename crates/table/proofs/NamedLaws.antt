@@ -1,100 +1,129 @@
 -- From a row's terminal to the blocks that it names.
-use mathlib.Core.Path.{◌≡◌, refl, ap, ◌∙◌}
+use mathlib.Core.Path.{◌≡◌, refl, ap, sym}
 use mathlib.Core.List.{List, [], ◌∷◌, ◌++◌}
-use mathlib.Core.Option.{Option, none, some}
-use Prim.Native.Nat.{ℕ, zero, suc, ◌+◌, ◌-◌, ◌<◌, ◌≤◌}
+use mathlib.Core.Option.{none, some}
+use Prim.Native.Nat.{ℕ, zero, suc, ◌+◌, ◌<◌, ◌≤◌}
 use native.Mathlib.Omega.{arith}
-use lib.ListN.{length, get_or, take, drop, length-append, length-drop, get_or-append}
-use lib.Seq.{length-take-le, get_or-take, get_or-drop, get_or-append-add}
-use Rattle.table.specs.Words.{block_count, code_at}
-use Rattle.table.specs.Table.{Case, switch, for, table_of, terminal_of, terminal_at}
-use Rattle.table.specs.Promise.{Promise, Ends, Chooses}
+use native.Mathlib.Numerals.{add-one}
+use lib.ListN.{length, get_or, take, drop, length-drop}
+use lib.Seq.{take-suc, get_or-drop}
+use Rattle.std.specs.Prelude.{Option, Some, None}
 use Rattle.table.proofs.TableLaws.{length_cases}
-use Rattle.table.proofs.BlockLaws.{end_at}
-use Rattle.table.specs.Lines.{case_blocks, named_by, named_at}
-use Rattle.table.specs.Named.{AllBelow, Names, Target, no_case, cases_then, for_names, names_of}
+use Rattle.table.specs.Words.{block_count, case_count}
+use Rattle.table.specs.Table.{Table, Case, Terminal, absent, unreachable, throw, return, goto, if, branch, switch, do_while, while, for, for_of, for_in, logical, ternary, optional, label, sequence, maybe_throw, try, scope, table_of}
+use Rattle.table.specs.Promise.{Ends, Chooses}
+use Rattle.table.specs.Lines.{case_blocks, named_by}
+use Rattle.table.specs.Named.{AllBelow, Names, names_of, present}
 use Rattle.table.specs.declared.lines.Named.{Named}
 
-module _ {ws : List ℕ} {row : ℕ} {r : Named} where
-  -- those of a terminal with no case
-  pub names_first : {count : ℕ} {blocks : List ℕ} → r ≡ no_case count blocks → no_case count blocks ≡ names_of (terminal_at (table_of ws) row) → named_at (table_of ws) row ≡ take count blocks → count ≤ 5 → length blocks ≡ 5 → AllBelow (block_count ws) blocks → Names ws row r
-  names_first e is are few five below = rw e (record { is = is; are = are; within = omega arith; few = few; five = five; below = below })
+-- the list made of a terminal is what the terminal names
+listed_by : (t : Table) (end : Terminal) → named_by t end ≡ case_blocks (take (names_of end).cases (drop (names_of end).first_case t.cases)) ++ present (names_of end).blocks
+unfolding named_by
+listed_by t absent = refl
+listed_by t unreachable = refl
+listed_by t (throw value) = refl
+listed_by t (return value) = refl
+listed_by t (goto block variant) = refl
+listed_by t (if test consequent alternate fallthrough) = refl
+listed_by t (branch test consequent alternate) = refl
+listed_by t (switch test first number fallthrough) = refl
+listed_by t (do_while loop test fallthrough) = refl
+listed_by t (while test loop fallthrough) = refl
+listed_by t (for init test none loop fallthrough) = refl
+listed_by t (for init test (some update) loop fallthrough) = refl
+listed_by t (for_of init test loop fallthrough) = refl
+listed_by t (for_in init loop fallthrough) = refl
+listed_by t (logical operator test fallthrough) = refl
+listed_by t (ternary test fallthrough) = refl
+listed_by t (optional flag test fallthrough) = refl
+listed_by t (label block fallthrough) = refl
+listed_by t (sequence block fallthrough) = refl
+listed_by t (maybe_throw continuation) = refl
+listed_by t (try block handler fallthrough binding) = refl
+listed_by t (scope pruned block fallthrough number) = refl
 
-  pub names_cases : {test first number fallthrough : ℕ} → r ≡ cases_then first number fallthrough → Ends ws row (switch test first number fallthrough) → row < block_count ws → Names ws row r
-  unfolding named_by
-  names_cases e h inside = rw e (record { is = rw h.is; are = rw h.is; within = h.named.1; few = omega arith; five = refl; below = omega (arith, h.named) })
+module _ {ws : List ℕ} {row : ℕ} where
+  within_by : (end : Terminal) → Ends ws row end → (names_of end).first_case + (names_of end).cases ≤ case_count ws
+  within_by absent h = omega arith
+  within_by unreachable h = omega arith
+  within_by (throw value) h = omega arith
+  within_by (return value) h = omega arith
+  within_by (goto block variant) h = omega arith
+  within_by (if test consequent alternate fallthrough) h = omega arith
+  within_by (branch test consequent alternate) h = omega arith
+  within_by (switch test first number fallthrough) h = h.named.1
+  within_by (do_while loop test fallthrough) h = omega arith
+  within_by (while test loop fallthrough) h = omega arith
+  within_by (for init test update loop fallthrough) h = omega arith
+  within_by (for_of init test loop fallthrough) h = omega arith
+  within_by (for_in init loop fallthrough) h = omega arith
+  within_by (logical operator test fallthrough) h = omega arith
+  within_by (ternary test fallthrough) h = omega arith
+  within_by (optional flag test fallthrough) h = omega arith
+  within_by (label block fallthrough) h = omega arith
+  within_by (sequence block fallthrough) h = omega arith
+  within_by (maybe_throw continuation) h = omega arith
+  within_by (try block handler fallthrough binding) h = omega arith
+  within_by (scope pruned block fallthrough number) h = omega arith
 
-  pub names_for : {init test : ℕ} (update : Option ℕ) {loop fallthrough : ℕ} → r ≡ for_names init test update loop fallthrough → Ends ws row (for init test update loop fallthrough) → row < block_count ws → Names ws row r
-  unfolding named_by
-  names_for none e h inside = names_first e (rw h.is) (rw h.is) (omega arith) refl (omega (arith, h.named))
-  names_for (some update) e h inside = names_first e (rw h.is) (rw h.is) (omega arith) refl (omega (arith, h.named))
+  below_by : (end : Terminal) → Ends ws row end → AllBelow (block_count ws) (present (names_of end).blocks)
+  below_by absent h = tt
+  below_by unreachable h = tt
+  below_by (throw value) h = tt
+  below_by (return value) h = tt
+  below_by (goto block variant) h = omega (arith, h.named)
+  below_by (if test consequent alternate fallthrough) h = omega (arith, h.named)
+  below_by (branch test consequent alternate) h = omega (arith, h.named)
+  below_by (switch test first number fallthrough) h = omega (arith, h.named)
+  below_by (do_while loop test fallthrough) h = omega (arith, h.named)
+  below_by (while test loop fallthrough) h = omega (arith, h.named)
+  below_by (for init test none loop fallthrough) h = omega (arith, h.named)
+  below_by (for init test (some update) loop fallthrough) h = omega (arith, h.named)
+  below_by (for_of init test loop fallthrough) h = omega (arith, h.named)
+  below_by (for_in init loop fallthrough) h = omega (arith, h.named)
+  below_by (logical operator test fallthrough) h = omega (arith, h.named)
+  below_by (ternary test fallthrough) h = omega (arith, h.named)
+  below_by (optional flag test fallthrough) h = omega (arith, h.named)
+  below_by (label block fallthrough) h = omega (arith, h.named)
+  below_by (sequence block fallthrough) h = omega (arith, h.named)
+  below_by (maybe_throw continuation) h = omega (arith, h.named)
+  below_by (try block handler fallthrough binding) h = omega (arith, h.named)
+  below_by (scope pruned block fallthrough number) h = omega (arith, h.named)
 
--- codes 0 to 3
-no_block : (ws : List ℕ) (code a b c d e : ℕ) → code < 4 → named_by (table_of ws) (terminal_of code a b c d e) ≡ []
-unfolding terminal_of named_by
-no_block ws zero a b c d e h = refl
-no_block ws (suc zero) a b c d e h = refl
-no_block ws (suc (suc zero)) a b c d e h = refl
-no_block ws (suc (suc (suc zero))) a b c d e h = refl
-no_block ws (suc (suc (suc (suc code)))) a b c d e h = absurd (omega arith)
+  -- and so the list made of a row's terminal is what the row names
+  pub names_by : {end : Terminal} {named : Named} → Ends ws row end → named ≡ names_of end → Names ws row named
+  names_by {end} h made = rw made (record { few = h.few; is = ap names_of (sym h.is); are = rw h.is (listed_by (table_of ws) end); within = within_by end h; below = below_by end h })
 
-no_names : (code a b c d e : ℕ) → code < 4 → no_case 0 (0 ∷ 0 ∷ 0 ∷ 0 ∷ 0 ∷ []) ≡ names_of (terminal_of code a b c d e)
-unfolding terminal_of
-no_names zero a b c d e h = refl
-no_names (suc zero) a b c d e h = refl
-no_names (suc (suc zero)) a b c d e h = refl
-no_names (suc (suc (suc zero))) a b c d e h = refl
-no_names (suc (suc (suc (suc code)))) a b c d e h = absurd (omega arith)
+-- ---- the list read from its begin: one case row more, one block more
 
-pub names_none : {ws : List ℕ} {row : ℕ} {r : Named} {code : ℕ} → r ≡ no_case 0 (0 ∷ 0 ∷ 0 ∷ 0 ∷ 0 ∷ []) → code ≡ code_at ws row → code < 4 → row < block_count ws → Names ws row r
-names_none {ws} {row} e known low inside =
-    names_first e (rw (end_at ws row inside) (no_names (code_at ws row) _ _ _ _ _ (omega arith))) (rw (end_at ws row inside) (no_block ws (code_at ws row) _ _ _ _ _ (omega arith))) (omega arith) refl (omega arith)
+cases_then : (cases : List Case) (case : Case) → case_blocks (cases ++ (case ∷ [])) ≡ case_blocks cases ++ (case.block ∷ [])
+cases_then [] case = refl
+cases_then (first ∷ cases) case = ap (λ (l : List ℕ). first.block ∷ l) (cases_then cases case)
 
--- ---- the block that a line goes to
+pub cases_next : (ws : List ℕ) (first k : ℕ) {test block : ℕ} → first + k < case_count ws → Chooses ws (first + k) test block
+    → case_blocks (take (k + 1) (drop first (table_of ws).cases)) ≡ case_blocks (take k (drop first (table_of ws).cases)) ++ (block ∷ [])
+cases_next ws first k {test} {block} inside h =
+    let beyond : Case = record { test = 0; block = 0 } in
+    let cases = drop first (table_of ws).cases in
+    let there : k < length cases = omega (arith, length-drop first (table_of ws).cases, length_cases ws) in
+    rw (add-one k, take-suc cases k beyond there, get_or-drop first (table_of ws).cases k beyond, h.is beyond) (cases_then (take k cases) (record { test = test; block = block }))
 
-abbrev beyond : Case
-beyond = record { test = 0; block = 0 }
+present_then : (blocks : List (Option ℕ)) (block : Option ℕ) → present (blocks ++ (block ∷ [])) ≡ present blocks ++ present (block ∷ [])
+present_then [] block = refl
+present_then (None ∷ blocks) block = present_then blocks block
+present_then (Some first ∷ blocks) block = ap (λ (l : List ℕ). first ∷ l) (present_then blocks block)
 
-case_block : (cases : List Case) (k : ℕ) → get_or (case_blocks cases) k 0 ≡ (get_or cases k beyond).block
-case_block [] k = refl
-case_block (case ∷ cases) zero = refl
-case_block (case ∷ cases) (suc k) = case_block cases k
+pub present_next : (blocks : List (Option ℕ)) (i : ℕ) → i < length blocks → present (take (i + 1) blocks) ≡ present (take i blocks) ++ present (get_or blocks i None ∷ [])
+present_next blocks i inside = rw (add-one i, take-suc blocks i None inside) (present_then (take i blocks) (get_or blocks i None))
 
-length_blocks : (cases : List Case) → length (case_blocks cases) ≡ length cases
-length_blocks [] = refl
-length_blocks (case ∷ cases) = ap suc (length_blocks cases)
+-- each of the blocks is below what all are
+pub below_at : (most : ℕ) (blocks : List (Option ℕ)) (i : ℕ) → i < length blocks → AllBelow most (present blocks) → AllBelow most (present (get_or blocks i None ∷ []))
+below_at most [] i inside h = absurd (omega arith)
+below_at most (None ∷ blocks) zero inside h = tt
+below_at most (Some first ∷ blocks) zero inside h = (h.0, tt)
+below_at most (None ∷ blocks) (suc i) inside h = below_at most blocks i (omega arith) h
+below_at most (Some first ∷ blocks) (suc i) inside h = below_at most blocks i (omega arith) h.1
 
-all_below : (most : ℕ) (blocks : List ℕ) (i : ℕ) → 0 < most → AllBelow most blocks → get_or blocks i 0 < most
-all_below most [] i any below = any
-all_below most (block ∷ blocks) zero any below = below.0
-all_below most (block ∷ blocks) (suc i) any below = all_below most blocks i any below.1
-
-module _ {ws : List ℕ} {row : ℕ} {named : Named} (p : Promise ws) (h : Names ws row named) where
-  abbrev rows : List Case
-  rows = take named.cases (drop named.first_case (table_of ws).cases)
-
-  length_rows : length (case_blocks rows) ≡ named.cases
-  length_rows =
-      length_blocks rows ∙ length-take-le named.cases _ (simp (length-drop, length_cases) (omega (arith, h.within)))
-
-  -- the row has so many lines
-  pub lines_count : length (named_at (table_of ws) row) ≡ named.cases + named.count
-  lines_count = rw h.are (simp (length-append, length_rows) (ap (λ (n : ℕ). named.cases + n) (length-take-le named.count named.blocks (omega (arith, h.few, h.five)))))
-
-  -- and they are at most 1,029
-  pub few_lines : named.cases + named.count ≤ 1029
-  few_lines = omega (arith, h.within, h.few, p.sized.limited.cases)
-
-  pub target_case : (k : ℕ) {test block : ℕ} → k < named.cases → Chooses ws (named.first_case + k) test block → Target ws row k block
-  target_case k below chosen = record {
-    is = rw h.are (get_or-append (case_blocks rows) _ 0 k (rw length_rows below) ∙ case_block rows k ∙ rw (get_or-take named.cases _ k beyond below, get_or-drop, chosen.is beyond));
-    there = chosen.there;
-  }
-
-  pub target_block : (k : ℕ) → named.cases ≤ k → k < named.cases + named.count → Target ws row k (get_or named.blocks (k - named.cases) 0)
-  target_block k past within =
-      let e : k ≡ length (case_blocks rows) + (k - named.cases) = omega (arith, length_rows) in
-      record {
-        is = rw h.are (ap (λ (n : ℕ). get_or (case_blocks rows ++ take named.count named.blocks) n 0) e ∙ get_or-append-add (case_blocks rows) _ (k - named.cases) 0 ∙ get_or-take named.count named.blocks (k - named.cases) 0 (omega arith));
-        there = all_below _ named.blocks (k - named.cases) (omega (arith, p.entry)) h.below;
-      }
+pub below_more : (few most : ℕ) → few ≤ most → (blocks : List ℕ) → AllBelow few blocks → AllBelow most blocks
+below_more few most le [] h = tt
+below_more few most le (block ∷ blocks) h = (omega (arith, h.0), below_more few most le blocks h.1)

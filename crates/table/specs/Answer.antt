@@ -19,7 +19,8 @@ refusal_place (CountOverLimit at) = at
 refusal_place EntryOutOfRange = 0
 refusal_place (BadWord at) = at
 
-abbrev pub verdict_of : Result (Unit {0}) Refusal → Verdict
+-- of a check that gives a table, or nothing
+abbrev pub verdict_of : {A : Type 0} → Result A Refusal → Verdict
 verdict_of (Ok _) = accepted
 verdict_of (Err refusal) = refused (refusal_code refusal) (refusal_place refusal)
 

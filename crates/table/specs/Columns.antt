@@ -11,11 +11,6 @@ goto_variant goto.Break = Break
 goto_variant goto.Continue = Continue
 goto_variant goto.Try = Try
 
-abbrev pub variant_number : GotoVariant → ℕ
-variant_number goto.Break = 0
-variant_number goto.Continue = 1
-variant_number goto.Try = 2
-
 -- an option of the code as the definition's
 abbrev pub maybe_of : Option ℕ → maybe.Option ℕ
 maybe_of None = maybe.none

@@ -1,6 +1,7 @@
 pub mod Words
 pub mod Table
 pub mod Columns
+pub mod Ending
 pub mod Check
 pub mod Answer
 pub mod Promise

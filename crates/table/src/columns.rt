@@ -1,40 +1,23 @@
 // A row by the names of its columns; a block's terminal has its own (terminals.rt).
-ghost use Rattle.std.specs.Prelude.{◌≡◌, ◌<◌};
-ghost use Rattle.table.specs.Words.{block_count, instruction_count, case_count, code_at, operation_code_at};
-ghost use Rattle.table.specs.Table.{load_local, store_local, table_of, block_at};
-ghost use Rattle.table.specs.Promise.{Promise, Heads, Instructs, Operates, Chooses};
+ghost use Rattle.std.specs.Prelude.{◌≡◌, ◌<◌, not, eqb};
+ghost use Rattle.table.specs.Words.{block_count, instruction_count, case_count, place_count, identifier_count, place_word, identifier_word};
+ghost use Rattle.table.specs.Table.{table_of, block_at, operation_of};
+ghost use Rattle.table.specs.Ending.{operating};
+ghost use Rattle.table.specs.Promise.{Heads, Instructs, Operates, Chooses};
 
-use crate::words::{block_word, case_word, instruction_word};
-
-// The code of a block's terminal.
-pub fn code_at(words: &[u32], block: u32) -> u32
-    requires promise { Promise words.now }
-    requires block_bound { block < block_count words.now }
-    ensures { result ≡ code_at words.now block }
-{
-    block_word(words, block, 2)
-}
+use crate::table::Table;
+use crate::words::Words;
 
 // Where a block's terminal or an instruction stands in the source. 0 and 0 is none.
-#[derive(Clone, Copy, Drop)]
+// (Not an option: a row only carries the two numbers on.)
+#[derive(Clone, Copy)]
 pub struct Span {
     pub from: u32,
     pub to: u32,
 }
 
-pub fn span_at(words: &[u32], block: u32) -> Span
-    requires promise { Promise words.now }
-    requires block_bound { block < block_count words.now }
-    ensures { result ≡ (block_at (table_of words.now) block).span }
-{
-    Span {
-        from: block_word(words, block, 9),
-        to: block_word(words, block, 10),
-    }
-}
-
 // What a block has beside its terminal: its instructions are `count` rows from `first` on.
-#[derive(Drop)]
+#[derive(Clone, Copy)]
 pub struct BlockHead {
     pub first: u32,
     pub count: u32,
@@ -42,99 +25,124 @@ pub struct BlockHead {
     pub span: Span,
 }
 
-pub fn block_at(words: &[u32], block: u32) -> BlockHead
-    requires promise { Promise words.now }
-    requires block_bound { block < block_count words.now }
-    ensures { Heads words.now block result.first result.count result.id result.span }
-{
-    BlockHead {
-        first: block_word(words, block, 0),
-        count: block_word(words, block, 1),
-        id: block_word(words, block, 8),
-        span: span_at(words, block),
-    }
-}
-
 // What an instruction has beside its operation.
-#[derive(Drop)]
+#[derive(Clone, Copy)]
 pub struct InstructionHead {
     pub id: u32,
     pub lvalue: u32,
     pub span: Span,
 }
 
-pub fn instruction_at(words: &[u32], instruction: u32) -> InstructionHead
-    requires promise { Promise words.now }
-    requires instruction_bound { instruction < instruction_count words.now }
-    ensures { Instructs words.now instruction result.id result.lvalue result.span }
-{
-    InstructionHead {
-        id: instruction_word(words, instruction, 0),
-        lvalue: instruction_word(words, instruction, 1),
-        span: Span {
-            from: instruction_word(words, instruction, 5),
-            to: instruction_word(words, instruction, 6),
-        },
-    }
-}
-
-// The code of an instruction's operation: 0 other, 1 LoadLocal, 2 StoreLocal.
-pub fn operation_code_at(words: &[u32], instruction: u32) -> u32
-    requires promise { Promise words.now }
-    requires instruction_bound { instruction < instruction_count words.now }
-    ensures { result ≡ operation_code_at words.now instruction }
-{
-    instruction_word(words, instruction, 2)
-}
-
-#[derive(Drop)]
-pub struct LoadLocal {
-    pub place: u32,
-}
-
-pub fn load_local_at(words: &[u32], instruction: u32) -> LoadLocal
-    requires promise { Promise words.now }
-    requires instruction_bound { instruction < instruction_count words.now }
-    requires instruction_value { operation_code_at words.now instruction ≡ 1 }
-    ensures { Operates words.now instruction (load_local result.place) }
-{
-    LoadLocal {
-        place: instruction_word(words, instruction, 3),
-    }
-}
-
-#[derive(Drop)]
-pub struct StoreLocal {
-    pub stored_to: u32,
-    pub stored_value: u32,
-}
-
-pub fn store_local_at(words: &[u32], instruction: u32) -> StoreLocal
-    requires promise { Promise words.now }
-    requires instruction_bound { instruction < instruction_count words.now }
-    requires instruction_value { operation_code_at words.now instruction ≡ 2 }
-    ensures { Operates words.now instruction (store_local result.stored_to result.stored_value) }
-{
-    StoreLocal {
-        stored_to: instruction_word(words, instruction, 3),
-        stored_value: instruction_word(words, instruction, 4),
-    }
+// Paper 01: "Code 0 other, 1 LoadLocal, 2 StoreLocal".
+#[derive(Clone, Copy)]
+pub enum Operation {
+    Other,
+    LoadLocal { place: u32 },
+    StoreLocal { stored_to: u32, stored_value: u32 },
 }
 
 // `test` is 65,535 for the default case. A number is plainer than an option here: a CASE row only carries it on.
-#[derive(Drop)]
+#[derive(Clone, Copy)]
 pub struct Case {
     pub test: u32,
     pub block: u32,
 }
 
-pub fn case_at(words: &[u32], case: u32) -> Case
-    requires promise { Promise words.now }
-    requires case_bound { case < case_count words.now }
-    ensures { Chooses words.now case result.test result.block }
+#[tactic(auto, unfolding(crate::specs::Table::operation_of))]
+fn operation_of(code: u32, p: u32, q: u32) -> Operation
+    ensures { operating result ≡ operation_of code p q }
 {
-    Case {
-        test: case_word(words, case, 0),
-        block: case_word(words, case, 1),
+    match code {
+        0 => Operation::Other,
+        1 => Operation::LoadLocal { place: p },
+        _ => Operation::StoreLocal {
+            stored_to: p,
+            stored_value: q,
+        },
+    }
+}
+
+// A row's number stays a `u32` with a bound: a type of its own would be made, with the same bound, wherever a column is read.
+impl Table<'_> {
+    #[tactic(auto, using(crate::proofs::ColumnLaws::spans))]
+    pub fn span(self, block: u32) -> Span
+        requires { block < block_count self.words.now }
+        ensures { result ≡ (block_at (table_of self.entry.words.now) block).span }
+    {
+        let words = Words { words: self.words };
+        Span {
+            from: words.block_word(block, 9),
+            to: words.block_word(block, 10),
+        }
+    }
+
+    #[tactic(auto, using(crate::proofs::ColumnLaws::heads))]
+    pub fn block(self, block: u32) -> BlockHead
+        requires { block < block_count self.words.now }
+        ensures { Heads self.entry.words.now block result.first result.count result.id result.span }
+    {
+        let words = Words { words: self.words };
+        BlockHead {
+            first: words.block_word(block, 0),
+            count: words.block_word(block, 1),
+            id: words.block_word(block, 8),
+            span: self.span(block),
+        }
+    }
+
+    pub fn instruction(self, instruction: u32) -> InstructionHead
+        requires { instruction < instruction_count self.words.now }
+        ensures { Instructs self.entry.words.now instruction result.id result.lvalue result.span }
+    {
+        let words = Words { words: self.words };
+        InstructionHead {
+            id: words.instruction_word(instruction, 0),
+            lvalue: words.instruction_word(instruction, 1),
+            span: Span {
+                from: words.instruction_word(instruction, 5),
+                to: words.instruction_word(instruction, 6),
+            },
+        }
+    }
+
+    pub fn operation(self, instruction: u32) -> Operation
+        requires { instruction < instruction_count self.words.now }
+        ensures { Operates self.entry.words.now instruction (operating result) }
+    {
+        let words = Words { words: self.words };
+        operation_of(
+            words.instruction_word(instruction, 2),
+            words.instruction_word(instruction, 3),
+            words.instruction_word(instruction, 4),
+        )
+    }
+
+    pub fn case(self, case: u32) -> Case
+        requires { case < case_count self.words.now }
+        ensures { Chooses self.entry.words.now case result.test result.block }
+    {
+        let words = Words { words: self.words };
+        Case {
+            test: words.case_word(case, 0),
+            block: words.case_word(case, 1),
+        }
+    }
+
+    // The identifier of a place.
+    pub fn identifier(self, place: u32) -> u32
+        requires { place < place_count self.words.now }
+        ensures { result ≡ place_word self.entry.words.now place }
+    {
+        let words = Words { words: self.words };
+        words.place_word(place)
+    }
+
+    // Whether an identifier is named.
+    pub fn is_named(self, identifier: u32) -> bool
+        requires { identifier < identifier_count self.words.now }
+        ensures { result ≡ not (eqb (identifier_word self.entry.words.now identifier) 0) }
+    {
+        let words = Words { words: self.words };
+        words.identifier_word(identifier) != 0
     }
 }

@@ -3,11 +3,14 @@
 
 pub mod columns;
 pub mod lines;
+pub mod table;
 pub mod terminals;
 pub mod words;
 
 ghost use Rattle.std.specs.Prelude.{◌≡◌};
 ghost use Rattle.table.specs.Answer.{refusal_code, refusal_place};
+
+pub use table::Table;
 
 // Why words are no table. Paper 01's code and place of each: specs/Answer.antt.
 #[derive(Clone, Copy, Debug, PartialEq, Eq)]

@@ -8,6 +8,7 @@ use table_check::check;
 use text::lent::zeros;
 
 // A number, modulo 2^32.
+// (By hand: `parse` refuses what passes 32 bits.)
 fn number(digits: &[u8]) -> u32 {
     let mut value: u32 = 0;
     for digit in digits {
@@ -43,7 +44,7 @@ fn agrees(line: &[u8], words: &mut [u32]) -> bool {
     }
     let count = count.min(words.len());
     match check(&words[..count]) {
-        Ok(()) => code == 0 && place == 0,
+        Ok(_) => code == 0 && place == 0,
         Err(error) => error.code() == code && error.place() == place,
     }
 }

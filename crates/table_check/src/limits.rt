@@ -9,6 +9,12 @@ pub const ANY: u32 = 65536;
 // Only 0 is below this.
 pub const UNUSED: u32 = 1;
 
+// Whether or not.
+pub const FLAG: u32 = 2;
+
+// One of three.
+pub const CHOICE: u32 = 3;
+
 // The limit of a word that names one of `rows` rows, or none.
 pub fn row_or_none(rows: u32, word: u32) -> u32
     ensures { result ≡ limit (row_or_none rows) word }

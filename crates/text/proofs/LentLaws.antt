@@ -13,17 +13,17 @@ use borrow.Author.Tests.{ltb-true, ltb-false}
 use Rattle.text.specs.Lent.{Holds, padded}
 
 -- nothing is held at first
-pub holds_none : (b : List ℕ) → Holds b 0 []
+pub holds_none : {A : Type 0} (b : List A) → Holds b 0 []
 holds_none b = record { counted = refl; held = sym (take_all (length b) [] (omega arith)) }
 
-module _ (b : List ℕ) (n v : ℕ) (items : List ℕ) (h : Holds b n items) where
+module _ {A : Type 0} (b : List A) (n : ℕ) (v : A) (items : List A) (h : Holds b n items) where
   put_by : (fits : Bool) → ltb n (length b) ≡ fits → take (suc n) (set b n v) ≡ take (length (set b n v)) (items ++ (v ∷ []))
   put_by true e =
       let p : n < length b = ltb-true n (length b) e in
       let l = h.counted in
       let s : length (set b n v) ≡ length b = length-set b n v in
       take-suc-set b n v p
-      ∙ ap (λ (l : List ℕ). l ++ (v ∷ [])) (h.held ∙ take_all (length b) items (omega arith))
+      ∙ ap (λ (l : List A). l ++ (v ∷ [])) (h.held ∙ take_all (length b) items (omega arith))
       ∙ sym (take_all (length (set b n v)) (items ++ (v ∷ [])) (omega (arith, length-append items (v ∷ []))))
   put_by false e =
       let p : length b ≤ n = ltb-false n (length b) e in

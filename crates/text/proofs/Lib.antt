@@ -4,6 +4,7 @@ pub mod LentLaws
 pub mod PlacedLaws
 pub mod StepLaws
 pub mod FormLaws
+pub mod NameLaws
 pub mod PartLaws
 pub mod AnswerLaws
 pub mod ReadingLaws

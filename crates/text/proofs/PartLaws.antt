@@ -4,43 +4,19 @@ use mathlib.Core.List.{List, [], ◌∷◌, ◌++◌, append_assoc}
 use Rattle.std.specs.Prelude.{Result, Ok, Err}
 use Prim.Native.Nat.{ℕ, zero, suc, ◌+◌, ◌-◌, ◌≤◌, ◌<◌}
 use native.Mathlib.Omega.{arith}
-use native.Mathlib.Numerals.{add-one}
 use lib.Dec.{eqb}
-use lib.ListN.{length, drop, get_or, drop_of_length-le}
-use lib.Seq.{drop-cons, take_all}
+use lib.ListN.{length}
+use lib.Seq.{take_all}
 use borrow.Author.Tests.{eq-eqb, ne_eqb}
 use Rattle.text.specs.Lent.{Holds}
 use Rattle.text.specs.Layout.{layout}
-use Rattle.text.specs.Form.{Form, byte, field, literal, row, rows, tables, whole, finished, is_zero}
+use Rattle.text.specs.Form.{Form, field, literal, row, rows, tables, whole, finished, is_zero}
 use Rattle.text.specs.Steps.{Reached, Stopped, At, NamesEnd, NamesRead, PartEnd, PartRead, RowRead, HeadRead}
 use Rattle.text.specs.declared.parts.Cursor.{Cursor}
 use Rattle.text.specs.declared.version.Version.{Version}
 use Rattle.text.specs.declared.version.Version.TheVariants.{New}
 use Rattle.text.proofs.LentLaws.{holds_none}
-use Rattle.text.proofs.StepLaws.{reached_none, byte_taken, byte_other, byte_missing}
-
--- ---- a line of names
-
-names_open : (names : List ℕ) (i : ℕ) (next : Form) → i < length names → literal (drop i names) next ≡ byte (get_or names i 0) (literal (drop (i + 1) names) next)
-unfolding literal
-names_open names i next p = rw (add-one i, drop-cons names i 0 p)
-
-pub names_done : (names : List ℕ) (i : ℕ) (next : Form) → length names ≤ i → literal (drop i names) next ≡ next
-unfolding literal
-names_done names i next p = rw (drop_of_length-le names p)
-
-module _ {root : Form} (file : List ℕ) (at : ℕ) (words names : List ℕ) (i : ℕ) (next : Form) (p : i < length names) (h : Reached root file at words (literal (drop i names) next)) where
-  open_here : Reached root file at words (byte (get_or names i 0) (literal (drop (i + 1) names) next))
-  open_here = rw (names_open names i next p) at h
-
-  pub name_taken : at < length file → get_or file at 0 ≡ get_or names i 0 → Reached root file (at + 1) words (literal (drop (i + 1) names) next)
-  name_taken = byte_taken file at words (get_or names i 0) (literal (drop (i + 1) names) next) open_here
-
-  pub name_other : at < length file → (get_or file at 0 ≡ get_or names i 0 → ⊥) → Stopped root file at
-  name_other = byte_other file at words (get_or names i 0) (literal (drop (i + 1) names) next) open_here
-
-  pub name_missing : at ≡ length file → Stopped root file at
-  name_missing = byte_missing file at words (get_or names i 0) (literal (drop (i + 1) names) next) open_here
+use Rattle.text.proofs.StepLaws.{reached_none}
 
 -- ---- a row
 

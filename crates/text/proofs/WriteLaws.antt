@@ -23,19 +23,19 @@ use Rattle.text.proofs.DecimalLaws.{decimal_ten}
 use Rattle.text.proofs.FormLaws.{after_ending}
 use Rattle.text.proofs.PartLaws.{last_number}
 
-pub wrote_none : (b : List ℕ) (start : ℕ) → Wrote b start [] b start
+pub wrote_none : {A : Type 0} (b : List A) (start : ℕ) → Wrote b start [] b start
 wrote_none b start = record { long = sym (add-zero start); holds = λ before h. rw (append-nil before) h }
 
-pub wrote_byte : (b : List ℕ) (start byte : ℕ) → Wrote b start (byte ∷ []) (set b start byte) (start + 1)
+pub wrote_byte : {A : Type 0} (b : List A) (start : ℕ) (byte : A) → Wrote b start (byte ∷ []) (set b start byte) (start + 1)
 wrote_byte b start byte = record { long = refl; holds = λ before h. holds_put b start byte before h }
 
-module _ {b b' b'' : List ℕ} {start middle end : ℕ} {s t : List ℕ} where
-  pub wrote_then : Wrote b start s b' middle → Wrote b' middle t b'' end → Wrote b start (s ++ t) b'' end
-  wrote_then h k = record {
-    long = omega (arith, h.long, k.long, length-append s t);
-    holds = λ before p. rw (append_assoc before s t) at (k.holds (before ++ s) (h.holds before p));
-  }
+pub wrote_then : {A : Type 0} {b b' b'' : List A} {start middle end : ℕ} {s t : List A} → Wrote b start s b' middle → Wrote b' middle t b'' end → Wrote b start (s ++ t) b'' end
+wrote_then {s = s} {t = t} h k = record {
+  long = omega (arith, h.long, k.long, length-append s t);
+  holds = λ before p. rw (append_assoc before s t) at (k.holds (before ++ s) (h.holds before p));
+}
 
+module _ {b b' b'' : List ℕ} {start middle end : ℕ} {s t : List ℕ} where
   pub wrote_some : Wrote b start s b' middle → WroteSome b' middle t b'' end → WroteSome b start (s ++ t) b'' end
   wrote_some h k before p = rw (append_assoc before s t) at (k (before ++ s) (h.holds before p))
 

@@ -23,6 +23,15 @@ placed short lent text =
       | false ↦ refusal short 0 lent
     ]
 
+-- the code (0 accepted) and the place of an answer, by the numbers of its errors
+abbrev pub answer_code : {T E : Type 0} → (code_of : E → ℕ) → Result T E → ℕ
+answer_code code_of (Ok _) = 0
+answer_code code_of (Err error) = code_of error
+
+abbrev pub answer_place : {T E : Type 0} → (place_of : E → ℕ) → Result T E → ℕ
+answer_place place_of (Ok _) = 0
+answer_place place_of (Err error) = place_of error
+
 module _ {E : Type 0} (code_of place_of : E → ℕ) where
   -- an entry's answer, by the numbers of its errors, and the lent buffer
   abbrev pub placing : Result ℕ E → List ℕ → Placing

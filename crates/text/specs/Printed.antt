@@ -41,10 +41,10 @@ lent_of room text = choose (leb (length text) room) (λ _. padded room text) (λ
 
 -- ---- the contracts of the functions below `write`
 
--- a text was written from `start` on, after whatever was there
-pub record Wrote (buffer : List ℕ) (start : ℕ) (text buffer' : List ℕ) (end : ℕ) : Type 0 where
+-- items, as a text's bytes, were written from `start` on, after whatever was there
+pub record Wrote {A : Type 0} (buffer : List A) (start : ℕ) (text buffer' : List A) (end : ℕ) : Type 0 where
   pub long : end ≡ start + length text
-  pub holds : (before : List ℕ) → Holds buffer start before → Holds buffer' end (before ++ text)
+  pub holds : (before : List A) → Holds buffer start before → Holds buffer' end (before ++ text)
 
 -- a first part of the text was written, and all of it if the end is within the buffer
 pub record Held (all buffer : List ℕ) (end : ℕ) : Type 0 where

@@ -2,6 +2,7 @@
 #![tactic(auto)]
 
 pub mod lent;
+pub mod names;
 pub mod number;
 mod parts;
 pub mod placed;

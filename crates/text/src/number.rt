@@ -42,6 +42,7 @@ pub fn ending_byte(last: bool) -> u8
 }
 
 // Reads a number and the byte that ends it; or gives the byte that no good file could have there.
+// (By hand: `parse` would take a sign and leading zeros, and tells no place.)
 pub(crate) fn read_number(file: &[u8], start: usize, last: bool) -> Result<Number, usize>
     requires { start ≤ length file.now }
     ensures { NumberRead file.now start last result }

@@ -1,12 +1,14 @@
 // The file from its first line to its end: lines of names, rows, tables. An error is the byte that no good file could have there.
-ghost use Rattle.std.specs.Prelude.{◌≡◌, ◌≤◌, length};
+// (That byte's place is the whole error, so it is a number: `read_words` makes it a `NotInForm`.)
+ghost use Rattle.std.specs.Prelude.{◌≤◌, length};
 ghost use Rattle.text.specs.Layout.{layout};
 ghost use Rattle.text.specs.Form.{rows, table, tables};
 ghost use Rattle.text.specs.Steps.{Near, NamesRead, PartRead, RowRead, HeadRead, FileRead};
 
 use crate::lent::{put, put_words};
+use crate::names::names_end;
 use crate::number::read_number;
-use crate::version::{Columns, Version};
+use crate::version::{CASES, Columns, HEAD, IDENTIFIERS, PLACES, Version};
 
 // How far the reading has come: the next byte, and the number of words so far.
 #[derive(Clone, Copy)]
@@ -20,16 +22,17 @@ fn read_names(file: &[u8], start: usize, names: &[u8]) -> Result<usize, usize>
     requires { start ≤ length file.now }
     ensures { NamesRead file.now names.now start result }
 {
-    for (i, name) in names.iter().enumerate() {
-        let at = start + i;
-        if at == file.len() || file[at] != *name {
-            return Err(at);
-        }
+    let count = names_end(&file[start..], names);
+    let end = start + count;
+    if count == names.len() {
+        Ok(end)
+    } else {
+        Err(end)
     }
-    Ok(start + names.len())
 }
 
 // Reads a line of `width` numbers into the words.
+// (`Near` is of the cursor that each call hands on: a struct of file and cursor would be built anew at each.)
 fn read_row(file: &[u8], from: Cursor, width: usize, words: &mut [u32]) -> Result<Cursor, usize>
     requires { Near file.now from }
     ensures { RowRead file.now width from words.old result words.new }
@@ -108,31 +111,12 @@ fn read_tables(
     read_table(file, end, IDENTIFIERS, identifiers, words)
 }
 
-const CASES: Columns<'static> = Columns {
-    names: b"test block\n",
-    width: 2,
-};
-
-const PLACES: Columns<'static> = Columns {
-    names: b"identifier\n",
-    width: 1,
-};
-
-const IDENTIFIERS: Columns<'static> = Columns {
-    names: b"named\n",
-    width: 1,
-};
-
 // Reads the head: its line of names and its row, which are the same in both forms.
 fn read_head(file: &[u8], head: &mut [u32; 6]) -> Result<Cursor, usize>
     ensures { HeadRead file.now result head.new }
 {
-    let at = read_names(
-        file,
-        0,
-        b"entry blocks instructions cases places identifiers\n",
-    )?;
-    read_row(file, Cursor { at, count: 0 }, 6, head)
+    let at = read_names(file, 0, HEAD.names)?;
+    read_row(file, Cursor { at, count: 0 }, HEAD.width, head)
 }
 
 // Reads the file's words, as far as there are places for them, and counts them.

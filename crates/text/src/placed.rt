@@ -1,6 +1,6 @@
 // A text in a lent buffer: the answer of an entry that writes one.
 ghost use Rattle.std.specs.Prelude.{◌≡◌, List, ℕ, length};
-ghost use Rattle.text.specs.Placed.{placing, finished, printed_placing, Holding};
+ghost use Rattle.text.specs.Placed.{answer_code, answer_place, placing, finished, printed_placing, Holding};
 ghost use Rattle.text.specs.Prints.{WrittenText};
 
 use crate::write::{NoRoom, write};
@@ -35,22 +35,29 @@ pub fn finish<E: Coded + Copy>(
     answer
 }
 
-// Tells an answer to callers in C: the code (0 accepted), and by reference the place and the text's length.
-pub fn tell<E: Coded + Copy>(answer: Result<usize, E>, at: &mut u32, size: &mut usize) -> u32
-    ensures { (buffer : List ℕ) → record { code = result; at = at.new; length = size.new; buffer = buffer } ≡ placing E.code_of E.place_of answer buffer }
+// Tells an answer to callers in C: the code (0 accepted), and the place by reference.
+pub fn tell_code<T: Copy, E: Coded + Copy>(answer: Result<T, E>, at: &mut u32) -> u32
+    ensures code { result ≡ answer_code E.code_of answer }
+    ensures place { at.new ≡ answer_place E.place_of answer }
 {
     match answer {
-        Ok(length) => {
+        Ok(_) => {
             *at = 0;
-            *size = length;
             0
         }
         Err(error) => {
             *at = error.place();
-            *size = 0;
             error.code()
         }
     }
+}
+
+// The same of a text, with its length by reference.
+pub fn tell<E: Coded + Copy>(answer: Result<usize, E>, at: &mut u32, size: &mut usize) -> u32
+    ensures { (buffer : List ℕ) → record { code = result; at = at.new; length = size.new; buffer = buffer } ≡ placing E.code_of E.place_of answer buffer }
+{
+    *size = answer.unwrap_or(0);
+    tell_code(answer, at)
 }
 
 // What is printed of an answer: the text, which stands in the bytes already, or the two lines of a refusal.

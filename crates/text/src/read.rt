@@ -6,6 +6,7 @@ ghost use Rattle.text.specs.Steps.{WordsStored};
 ghost use Rattle.text.specs.declared.version.Version.TheVariants.{New};
 
 use crate::parts::read_file;
+use crate::placed::Coded;
 use crate::version::Version;
 
 // Why a file's words are not in the lent ones. `code_of` and `place_of` in specs/Answer.antt have the papers' numbers.
@@ -19,10 +20,12 @@ pub enum ReadError {
     NoRoom,
 }
 
-impl ReadError {
-    pub fn code(self) -> u32
-        ensures { result ≡ code_of self }
-    {
+impl Coded for ReadError {
+    ghost code_of = { code_of };
+
+    ghost place_of = { place_of };
+
+    fn code(self) -> u32 {
         match self {
             ReadError::TooLong => 51,
             ReadError::NotInForm(_) => 50,
@@ -30,9 +33,7 @@ impl ReadError {
         }
     }
 
-    pub fn place(self) -> u32
-        ensures { result ≡ place_of self }
-    {
+    fn place(self) -> u32 {
         match self {
             ReadError::NotInForm(at) => at,
             _ => 0,

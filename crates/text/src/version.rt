@@ -18,6 +18,27 @@ pub struct Columns<'a> {
     pub width: usize,
 }
 
+// The head's, which is the same in both forms; so are the last three tables'.
+pub const HEAD: Columns<'static> = Columns {
+    names: b"entry blocks instructions cases places identifiers\n",
+    width: 6,
+};
+
+pub const CASES: Columns<'static> = Columns {
+    names: b"test block\n",
+    width: 2,
+};
+
+pub const PLACES: Columns<'static> = Columns {
+    names: b"identifier\n",
+    width: 1,
+};
+
+pub const IDENTIFIERS: Columns<'static> = Columns {
+    names: b"named\n",
+    width: 1,
+};
+
 impl Version {
     pub fn block_columns(self) -> Columns<'static>
         ensures { columns_of result ≡ block_columns self }

@@ -3,7 +3,7 @@ ghost use Rattle.text.specs.Decimal.{decimal};
 ghost use Rattle.text.specs.Line.{line, lines};
 ghost use Rattle.text.specs.Printed.{printed, rows_of, written_of, lent_of, Wrote, Held, WroteSome};
 
-use crate::lent::put;
+use crate::lent::{put, put_all};
 use crate::number::ending_byte;
 
 // A text has more bytes than were lent.
@@ -11,6 +11,7 @@ use crate::number::ending_byte;
 pub struct NoRoom;
 
 // Writes a number in decimal.
+// By hand: Display writes into a String or a stream, and a lent buffer counts on past its end.
 pub fn write_number(out: &mut [u8], start: usize, n: u32) -> usize
     requires { start + 10 < 2 ^ 64 }
     ensures { Wrote out.old start (decimal n) out.new result }
@@ -43,10 +44,7 @@ pub fn write_names(out: &mut [u8], start: usize, names: &[u8]) -> usize
     requires { start + length names.now < 2 ^ 64 }
     ensures { Wrote out.old start names.now out.new result }
 {
-    for (i, byte) in names.iter().enumerate() {
-        put(out, start + i, *byte);
-    }
-    start + names.len()
+    put_all(out, start, names)
 }
 
 // Writes a line for each whole row of six words, until the buffer is full.
@@ -64,6 +62,7 @@ fn write_rows(out: &mut [u8], start: usize, tree: &[u32]) -> usize
 }
 
 // Writes the lines of a result, until the buffer is full.
+// (A code, not a Result: the five numbers are the printed line's, and each program has another error type.)
 fn write_result(out: &mut [u8], code: u32, at: u32, rows: u32, visits: u32, tree: &[u32]) -> usize
     ensures { WroteSome out.old 0 (printed code at rows visits tree.now) out.new result }
 {

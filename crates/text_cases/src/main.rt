@@ -7,6 +7,7 @@ use std::fs::File;
 use std::io;
 use std::rt::Files;
 use text::lent::zeros;
+use text::placed::Coded;
 use text::read::ReadError;
 
 // 1 if a word is not zero.

@@ -1,5 +1,6 @@
 pub mod Calls
 pub mod Demands
+pub mod Errors
 pub mod Language
 pub mod Loops
 pub mod Parting

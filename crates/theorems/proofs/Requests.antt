@@ -9,7 +9,6 @@ use mathlib.Core.Option.{none, some}
 use Rattle.std.specs.Prelude.{Result}
 use lib.ListN.{length, take, get_or}
 use contract.Lifetimes.{Lfts}
-use Rattle.std.specs.Prelude.{Result}
 use Rattle.std.specs.declared.ops.Range.{Range}
 use denote.Ref.{Bor, MutBor}
 use Rattle.table.specs.Table.{table_of}
@@ -109,12 +108,12 @@ use Rattle.control.proofs.Context.unschedule.Reads as unschedule_entry
 use Rattle.tree_run.proofs.run_tree.Statement as run_stated
 use Rattle.tree_run.proofs.run_tree.Met as run_proved
 use Rattle.tree_run.proofs.run_tree.Reads as run_entry
-use Rattle.tree_run.proofs.RunError.code.Statement as run_code_stated
-use Rattle.tree_run.proofs.RunError.code.Met as run_code_proved
-use Rattle.tree_run.proofs.RunError.code.Reads as run_code
-use Rattle.tree_run.proofs.RunError.place.Statement as run_place_stated
-use Rattle.tree_run.proofs.RunError.place.Met as run_place_proved
-use Rattle.tree_run.proofs.RunError.place.Reads as run_place
+use Rattle.tree_run.proofs.RunErrorCoded.code.Statement as run_code_stated
+use Rattle.tree_run.proofs.RunErrorCoded.code.Met as run_code_proved
+use Rattle.tree_run.proofs.RunErrorCoded.code.Reads as run_code
+use Rattle.tree_run.proofs.RunErrorCoded.place.Statement as run_place_stated
+use Rattle.tree_run.proofs.RunErrorCoded.place.Met as run_place_proved
+use Rattle.tree_run.proofs.RunErrorCoded.place.Reads as run_place
 use Rattle.tree_run.proofs.Reason.number.Statement as reason_stated
 use Rattle.tree_run.proofs.Reason.number.Met as reason_proved
 use Rattle.tree_run.proofs.Reason.number.Reads as reason_entry

@@ -5,17 +5,16 @@ use mathlib.Core.Path.{◌≡◌, refl, sym, subst}
 use mathlib.Core.List.{List, [], map}
 use mathlib.Core.Logic.{◌⊎◌}
 use mathlib.Core.Option.{some}
-use mathlib.Core.Bool.{Bool}
 use lib.ListN.{length, take}
 use lib.Dec.{T, eqb}
 use contract.Lifetimes.{Lfts}
-use Rattle.std.specs.Prelude.{Result}
 use denote.Ref.{Bor, MutBor}
-use Rattle.std.specs.Prelude.{Result, Ok, Err, is_ok}
+use Rattle.std.specs.Prelude.{Result, Ok, Err, IfOk, is_ok}
 use Rattle.table.specs.Check.{accepted, checked}
 use Rattle.table.specs.Table.{Table, table_of}
 use Rattle.table.specs.Answer as table
 use Rattle.table.specs.declared.Refusal.{Refusal}
+use Rattle.table.specs.declared.table.Table.{Table as CheckedTable}
 use Rattle.table.proofs.PromiseLaws.{promised}
 use Rattle.table.proofs.Refusal.code.Statement as code_stated
 use Rattle.table.proofs.Refusal.code.Met as code_proved
@@ -86,8 +85,11 @@ use Rattle.tree_check.proofs.tree_check.Reads as tree_export
 use Rattle.text.specs.Ascii.{ascii}
 use Rattle.text.specs.Decimal.{digits_of}
 use Rattle.text.proofs.DecimalLaws.{steps}
-use Rattle.walk.specs.declared.Outcome.{Outcome}
-use Rattle.build.specs.Entry.{outcome}
+use Rattle.walk.specs.declared.answer.Walked.{Walked}
+use Rattle.build.specs.declared.answer.BuildError.{BuildError}
+use Rattle.build.specs.Entry.{numbers, outcome}
+use Rattle.build.proofs.EntryLaws.{code_some as build_refuses}
+use Rattle.std.proofs.lemmas.Bool.{ne_eqb}
 use Rattle.walk.proofs.CheckedLaws.{checked_table}
 use Rattle.build.proofs.Demand3.{entry_tree, entry_law, language_law}
 use Rattle.build.proofs.build_reactive_function.Statement as entry_stated
@@ -134,16 +136,21 @@ pub build_asks_nothing : (κs : Lfts 3) (before : Lent) → entry.Asked κs befo
 build_asks_nothing κs before = tt
 
 -- what a caller learns from that contract: code, at, rows, visits, lines and every lent word of both buffers, refused or not
-pub build_gives_the_definition : (κs : Lfts 3) (before after : Lent) (answer : Outcome) → entry.Learnt κs before answer after
+pub build_gives_the_definition : (κs : Lfts 3) (before after : Lent) (answer : Result Walked BuildError) → entry.Learnt κs before answer after
     → outcome answer after.1.0.now after.1.1.0.now ≡ built rust before.0.now (length before.1.0.now) (length before.1.1.0.now)
 build_gives_the_definition κs before after answer learnt = learnt
 
 pub the_language_entry_asks_nothing : (κs : Lfts 3) (before : Lent) → language_entry.Asked κs before
 the_language_entry_asks_nothing κs before = tt
 
-pub the_language_entry_gives_the_definition : (κs : Lfts 3) (before after : Lent) (answer : Outcome) → language_entry.Learnt κs before answer after
+pub the_language_entry_gives_the_definition : (κs : Lfts 3) (before after : Lent) (answer : Result Walked BuildError) → language_entry.Learnt κs before answer after
     → outcome answer after.1.0.now after.1.1.0.now ≡ built language before.0.now (length before.1.0.now) (length before.1.1.0.now)
 the_language_entry_gives_the_definition κs before after answer learnt = learnt
+
+-- a build's answer is Ok where it is accepted
+pub ok_is_built : (answer : Result Walked BuildError) → is_ok answer ≡ eqb (numbers answer).code 0
+ok_is_built (Ok _) = refl
+ok_is_built (Err error) = sym (ne_eqb _ _ (build_refuses error))
 
 -- the export's references: the words, the lent tree and index, and the four words of its answer beside the code
 abbrev pub LentWithAnswer : Type 0
@@ -186,12 +193,17 @@ check_meets_its_contract = check_proved.met
 pub check_asks_nothing : (κs : Lfts 1) (before : Bor (List ℕ) × Unit {0}) → check_entry.Asked κs before
 check_asks_nothing κs before = tt
 
-pub check_gives_the_definition : (κs : Lfts 1) (before after : Bor (List ℕ) × Unit {0}) (answer : Result (Unit {0}) Refusal) → check_entry.Learnt κs before answer after
+pub check_gives_the_definition : (κs : Lfts 1) (before after : Bor (List ℕ) × Unit {0}) (answer : Result CheckedTable Refusal) → check_entry.Learnt κs before answer after
     → table.verdict_of answer ≡ checked before.0.now
-check_gives_the_definition κs before after answer learnt = learnt
+check_gives_the_definition κs before after answer learnt = learnt.0
+
+-- and the table that it gives is of these words
+pub check_gives_the_words : (κs : Lfts 1) (before after : Bor (List ℕ) × Unit {0}) (answer : Result CheckedTable Refusal) → check_entry.Learnt κs before answer after
+    → IfOk answer (λ given. given.words.now ≡ before.0.now)
+check_gives_the_words κs before after answer learnt = learnt.1
 
 -- an answer is Ok where it is accepted, and the two methods of a refusal give its code and place
-pub ok_is_accepted : (answer : Result (Unit {0}) Refusal) → is_ok answer ≡ table.is_accepted (table.verdict_of answer)
+pub ok_is_accepted : {A : Type 0} (answer : Result A Refusal) → is_ok answer ≡ table.is_accepted (table.verdict_of answer)
 ok_is_accepted (Ok _) = refl
 ok_is_accepted (Err _) = refl
 
@@ -199,11 +211,11 @@ pub the_methods_of_a_refusal_meet_their_contracts : {M : Type 1} → code_stated
 the_methods_of_a_refusal_meet_their_contracts = (code_proved.met, place_proved.met)
 
 pub refusal_code_gives_the_definition : (κs : Lfts 0) (before after : Refusal × Unit {0}) (code : ℕ) → code_method.Learnt κs before code after
-    → code ≡ table.code_of (table.verdict_of (Err before.0))
+    → code ≡ table.code_of (table.verdict_of {A = Unit {0}} (Err before.0))
 refusal_code_gives_the_definition κs before after code learnt = learnt
 
 pub refusal_place_gives_the_definition : (κs : Lfts 0) (before after : Refusal × Unit {0}) (place : ℕ) → place_method.Learnt κs before place after
-    → place ≡ table.place_of (table.verdict_of (Err before.0))
+    → place ≡ table.place_of (table.verdict_of {A = Unit {0}} (Err before.0))
 refusal_place_gives_the_definition κs before after place learnt = learnt
 
 pub the_methods_of_a_refusal_ask_nothing : (κs : Lfts 0) (before : Refusal × Unit {0}) → code_method.Asked κs before × place_method.Asked κs before
@@ -226,49 +238,49 @@ table_check_gives_the_definition κs before after code learnt = learnt
 -- ---- what every answer shows (demand 1)
 
 -- a call of either entry: `ensured` is what it learns, as `build_gives_the_definition` and `the_language_entry_gives_the_definition` have it
-module _ (rule : Rule) (words buffer index buffer' index' : List ℕ) (answer : Outcome)
+module _ (rule : Rule) (words buffer index buffer' index' : List ℕ) (answer : Result Walked BuildError)
     (ensured : outcome answer buffer' index' ≡ built rule words (length buffer) (length index)) where
   -- what holds of the definition's outcome holds of the call's
   carried : (P : definition.Outcome → Type 0) → P (built rule words (length buffer) (length index)) → P (outcome answer buffer' index')
   carried P h = subst P (sym ensured) h
 
   -- "Refused: all zeros." M-101: "A refused build leaves zeros in both buffers", and no lines are told
-  pub a_refused_call_leaves_zeros : (answer.code ≡ 0 → ⊥)
-      → outcome answer buffer' index' ≡ refusal answer.code answer.at answer.rows answer.visits (length buffer) (length index)
+  pub a_refused_call_leaves_zeros : ((numbers answer).code ≡ 0 → ⊥)
+      → outcome answer buffer' index' ≡ refusal (numbers answer).code (numbers answer).at (numbers answer).rows (numbers answer).visits (length buffer) (length index)
   a_refused_call_leaves_zeros =
       carried (λ o. (o.code ≡ 0 → ⊥) → o ≡ refusal o.code o.at o.rows o.visits (length buffer) (length index)) (refused_form rule words (length buffer) (length index))
 
   -- "Rows is 0 except at 40"
-  pub a_refused_call_has_no_rows : (answer.code ≡ 0 → ⊥) → (answer.code ≡ 40 → ⊥) → answer.rows ≡ 0
+  pub a_refused_call_has_no_rows : ((numbers answer).code ≡ 0 → ⊥) → ((numbers answer).code ≡ 40 → ⊥) → (numbers answer).rows ≡ 0
   a_refused_call_has_no_rows = carried (λ o. (o.code ≡ 0 → ⊥) → (o.code ≡ 40 → ⊥) → o.rows ≡ 0) (refused_rows rule words (length buffer) (length index))
 
   -- "Accepted: at 0, the buffer holds the rows, then zeros.": the rows of a tree, and the index its lines, then zeros
-  pub an_accepted_call_leaves_rows_then_zeros : answer.code ≡ 0
-      → (root : Statements) × (length (rows root) * 6 ≤ length buffer) × (outcome answer buffer' index' ≡ acceptance (length buffer) (length index) (rows root) (lines root) answer.visits)
+  pub an_accepted_call_leaves_rows_then_zeros : (numbers answer).code ≡ 0
+      → (root : Statements) × (length (rows root) * 6 ≤ length buffer) × (outcome answer buffer' index' ≡ acceptance (length buffer) (length index) (rows root) (lines root) (numbers answer).visits)
   an_accepted_call_leaves_rows_then_zeros =
       carried (λ o. o.code ≡ 0 → (root : Statements) × (length (rows root) * 6 ≤ length buffer) × (o ≡ acceptance (length buffer) (length index) (rows root) (lines root) o.visits))
       (accepted_form rule words (length buffer) (length index))
 
   -- 0; 1 to 4 or 10 to 31, which are the paper's for words and graphs; 40; or 41
-  pub a_call_has_a_code_of_the_paper : T (is_number answer.code)
+  pub a_call_has_a_code_of_the_paper : T (is_number (numbers answer).code)
   a_call_has_a_code_of_the_paper = carried (λ o. T (is_number o.code)) (outcome_code rule words (length buffer) (length index))
 
   -- "Depth at most 128, visits at most 8,192."
-  pub a_call_makes_at_most_8192_visits : answer.visits ≤ 8192
+  pub a_call_makes_at_most_8192_visits : (numbers answer).visits ≤ 8192
   a_call_makes_at_most_8192_visits = carried (λ o. o.visits ≤ 8192) (visits_most rule words (length buffer) (length index))
 
   -- ---- the runs agree (demand 3)
 
   -- the rows of any accepted table are read as one tree
-  pub accepted_rows_are_one_tree : answer.code ≡ 0 → OneTree (outcome answer buffer' index')
+  pub accepted_rows_are_one_tree : (numbers answer).code ≡ 0 → OneTree (outcome answer buffer' index')
   accepted_rows_are_one_tree h = entry_tree rule words buffer index buffer' index' answer ensured h
 
   -- on a plain table that is accepted the block run and that tree's run agree, over every finite list of answers
-  pub the_runs_of_a_plain_table_agree : answer.code ≡ 0 → Plain paper_01 (table_of words) → RunLaw words (outcome answer buffer' index')
+  pub the_runs_of_a_plain_table_agree : (numbers answer).code ≡ 0 → Plain paper_01 (table_of words) → RunLaw words (outcome answer buffer' index')
   the_runs_of_a_plain_table_agree h plain = entry_law rule words buffer index buffer' index' answer ensured h plain
 
   -- beyond the papers: the same with DoWhile and For, and with ends that are not reached (definition/specs/PlainLoops)
-  pub the_runs_of_a_plain_table_with_loops_agree : answer.code ≡ 0 → PlainLoops paper_01 (table_of words) → RunLaw words (outcome answer buffer' index')
+  pub the_runs_of_a_plain_table_with_loops_agree : (numbers answer).code ≡ 0 → PlainLoops paper_01 (table_of words) → RunLaw words (outcome answer buffer' index')
   the_runs_of_a_plain_table_with_loops_agree = carried (λ o. o.code ≡ 0 → PlainLoops paper_01 (table_of words) → RunLaw words o) (law_of_loops rule words (length buffer) (length index))
 
 -- beyond the papers: the same from less than the paper's plainness, which allows DoWhile and For
@@ -295,18 +307,18 @@ pub the_runs_with_switches_agree : LawOfSwitches
 the_runs_with_switches_agree = switch_law
 
 -- the same of what build_language gave and left in the lent buffer
-pub the_runs_with_switches_agree_for_a_caller : (words buffer index buffer' index' : List ℕ) (answer : Outcome)
+pub the_runs_with_switches_agree_for_a_caller : (words buffer index buffer' index' : List ℕ) (answer : Result Walked BuildError)
     → outcome answer buffer' index' ≡ built language words (length buffer) (length index)
-    → answer.code ≡ 0 → Plain with_switch (table_of words) → SwitchLaw words (outcome answer buffer' index')
+    → (numbers answer).code ≡ 0 → Plain with_switch (table_of words) → SwitchLaw words (outcome answer buffer' index')
 the_runs_with_switches_agree_for_a_caller = language_law
 
 -- beyond the papers: the same of plain tables with DoWhile, For and Switch, whose last cases may be its own fallthrough, and one case may go on into the next
 pub the_runs_with_loops_and_switches_agree : LawOfLoopsAndSwitches
 the_runs_with_loops_and_switches_agree = loops_and_switches_law
 
-pub the_runs_with_loops_and_switches_agree_for_a_caller : (words buffer index buffer' index' : List ℕ) (answer : Outcome)
+pub the_runs_with_loops_and_switches_agree_for_a_caller : (words buffer index buffer' index' : List ℕ) (answer : Result Walked BuildError)
     → outcome answer buffer' index' ≡ built language words (length buffer) (length index)
-    → answer.code ≡ 0 → PlainLoops with_switch (table_of words) → SwitchLaw words (outcome answer buffer' index')
+    → (numbers answer).code ≡ 0 → PlainLoops with_switch (table_of words) → SwitchLaw words (outcome answer buffer' index')
 the_runs_with_loops_and_switches_agree_for_a_caller words buffer index buffer' index' answer ensured =
     carried language words buffer index buffer' index' answer ensured (λ o. o.code ≡ 0 → PlainLoops with_switch (table_of words) → SwitchLaw words o)
     (loops_and_switches_law words (length buffer) (length index))

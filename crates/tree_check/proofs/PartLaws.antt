@@ -86,10 +86,10 @@ module _ (words begins : List ℕ) where
     pub rest : parts_begin words begins (many count sort []) from ≡ parts_begin words begins (many (count - done) sort []) at
     pub near : at ≤ from
 
-  module _ {rows : ℕ} (ready : Ready words begins rows) {sort : Sort} {count done at : ℕ} (s : Seeking sort count rows done at) where
-    pub near_ready : Ready words begins at
-    near_ready = record { whole = omega (arith, ready.whole, s.near); few = omega (arith, ready.few, s.near); size = ready.size; low = ready.low }
+  pub ready_before : {rows at : ℕ} → Ready words begins rows → at ≤ rows → Ready words begins at
+  ready_before ready h = record { whole = omega (arith, ready.whole, h); few = omega (arith, ready.few, h); size = ready.size; low = ready.low }
 
+  module _ {rows : ℕ} (ready : Ready words begins rows) {sort : Sort} {count done at : ℕ} (s : Seeking sort count rows done at) where
     module _ (more : done < count) {part : Option ℕ} (is : part ≡ parts_begin words begins (sort ∷ []) at) where
       next : and_then part (parts_begin words begins (many (count - (done + 1)) sort [])) ≡ parts_begin words begins (many count sort []) rows
       next =
@@ -118,7 +118,5 @@ module _ (words begins : List ℕ) where
     pub then_the_rest : {at : ℕ} → Some at ≡ parts_begin words begins (many n sort []) row → {part : Option ℕ} → part ≡ parts_begin words begins tail at → part ≡ parts_begin words begins wanted row
     then_the_rest is rest = rest ∙ first_part is
 
-  pub found_ready : {rows : ℕ} → Ready words begins rows → (wanted : List Sort) {at : ℕ} → Some at ≡ parts_begin words begins wanted rows → Ready words begins at
-  found_ready {rows} ready wanted {at} is =
-      let near : at ≤ rows = found_low ready.low wanted rows at (sym is) in
-      record { whole = omega (arith, ready.whole); few = omega (arith, ready.few); size = ready.size; low = ready.low }
+  pub found_near : {rows : ℕ} → Ready words begins rows → (wanted : List Sort) {at : ℕ} → Some at ≡ parts_begin words begins wanted rows → at ≤ rows
+  found_near {rows} ready wanted {at} is = found_low ready.low wanted rows at (sym is)

@@ -44,6 +44,15 @@ and_false : (x : Bool) → x && false ≡ false
 and_false true = refl
 and_false false = refl
 
+-- ---- the rows that are read, by the struct that holds them
+
+module _ {words words' begins begins' : List ℕ} {rows rows' : ℕ} (w : words' ≡ words) (b : begins' ≡ begins) (r : rows' ≡ rows) where
+  pub next_of_read : {found : Option ℕ} → found ≡ parts_begin words' begins' (parts_of (row_at words' rows')) rows' → found ≡ parts_begin words begins (parts_of (row_at words rows)) rows
+  next_of_read e = rw (← w, ← b, ← r) e
+
+  pub root_of_read : {one : Bool} → one ≡ one_root words' begins' rows' → one ≡ one_root words begins rows
+  root_of_read e = rw (← w, ← b, ← r) e
+
 -- what is left of the reading gives what the whole gives
 pub record Reading (words begins : List ℕ) (rows row : ℕ) : Type 0 where
   pub rest : read_from words no_begins 0 rows ≡ read_from words begins row (rows - row)

@@ -1,16 +1,17 @@
 // The program treecheck as a function: a file's bytes in, the bytes that are printed of it out.
-ghost use Rattle.std.specs.Prelude.{◌≡◌, List, ℕ, ◌+◌, ◌≤◌, ◌<◌, length, Ok, nat_eq};
-ghost use Rattle.std.specs.List.{take_while, zip};
+ghost use Rattle.std.specs.Prelude.{◌≡◌, List, ℕ, ◌+◌, ◌≤◌, ◌<◌, length, Ok};
 ghost use Rattle.text.specs.Lent.{Holds};
 ghost use Rattle.text.specs.Prints.{printing, WrittenText};
-ghost use Rattle.tree_check.specs.declared.file.FileError.TheVariants.{NotInForm, NotATree};
+ghost use Rattle.tree_check.specs.declared.file.FileError.TheVariants.{NotInForm, Refused};
 ghost use Rattle.tree_check.specs.Found.{checked_of};
-ghost use Rattle.tree_check.specs.Prints.{file_refusal, file_answer, file_checked, printed_check, check_text};
+ghost use Rattle.tree_check.specs.Prints.{file_code, file_at, file_answer, file_checked, printed_check, check_text};
 ghost use Rattle.tree_check.specs.Read.{RowsRead, checked_as};
 
 use crate::scan::Scan;
 use crate::{TreeError, check_tree};
 use text::lent::put;
+use text::names::names_end;
+use text::placed::Coded;
 use text::write::{NoRoom, finish_text, write_line, write_names};
 
 // No good file could have this byte here; or the file is short, and this is its length.
@@ -19,62 +20,51 @@ pub struct BadByte {
     pub at: u32,
 }
 
-// Why a file is refused.
+// Why a file of rows is refused: by its size, by its form, or by what is done with its rows.
 #[derive(Clone, Copy, Debug, PartialEq, Eq)]
-pub enum FileError {
+pub enum FileError<E> {
     TooLong,
     NotInForm(BadByte),
-    NotATree(TreeError),
+    Refused(E),
 }
 
-impl From<BadByte> for FileError {
+impl<E> From<BadByte> for FileError<E> {
     ghost from_gives = { λ bad error. error ≡ NotInForm bad };
 
-    fn from(bad: BadByte) -> FileError {
+    fn from(bad: BadByte) -> FileError<E> {
         FileError::NotInForm(bad)
     }
 }
 
-impl From<TreeError> for FileError {
-    ghost from_gives = { λ refused error. error ≡ NotATree refused };
+impl From<TreeError> for FileError<TreeError> {
+    ghost from_gives = { λ refused error. error ≡ Refused refused };
 
-    fn from(refused: TreeError) -> FileError {
-        FileError::NotATree(refused)
+    fn from(refused: TreeError) -> FileError<TreeError> {
+        FileError::Refused(refused)
     }
 }
 
-impl FileError {
-    // Paper 01: "51 over .. bytes, at 0; then 50 not in the form"; then the check's own.
-    pub fn code(self) -> u32
-        ensures { result ≡ (file_refusal self).code }
-    {
+// Paper 01: "51 over .. bytes, at 0; then 50 not in the form"; then the rows' own.
+impl<E: Coded> Coded for FileError<E> {
+    ghost code_of = { file_code E.code_of };
+
+    ghost place_of = { file_at E.place_of };
+
+    fn code(self) -> u32 {
         match self {
             FileError::TooLong => 51,
             FileError::NotInForm(_) => 50,
-            FileError::NotATree(error) => error.code(),
+            FileError::Refused(error) => error.code(),
         }
     }
 
-    pub fn place(self) -> u32
-        ensures { result ≡ (file_refusal self).at }
-    {
+    fn place(self) -> u32 {
         match self {
             FileError::TooLong => 0,
             FileError::NotInForm(bad) => bad.at,
-            FileError::NotATree(error) => error.place(),
+            FileError::Refused(error) => error.place(),
         }
     }
-}
-
-// How many bytes of these names the file begins with.
-fn names_end(file: &[u8], names: &[u8]) -> usize
-    ensures { result ≡ length (take_while (λ p. nat_eq p.1 p.0) (zip names.now file.now)) }
-{
-    names
-        .iter()
-        .zip(file)
-        .take_while(|(name, byte)| byte == name)
-        .count()
 }
 
 // Reads the words of a table's file into the lent ones, and gives their number. The table is its line of names, then lines of `last` + 1 numbers.
@@ -108,6 +98,7 @@ pub fn read_table(file: &[u8], names: &[u8], last: u32, words: &mut [u32]) -> Re
 }
 
 // The check of `count` words. Words past the places lent make the list too long.
+// (No slice: `count` may be beyond the words that were lent.)
 fn check_words(words: &[u32], count: usize) -> Result<(), TreeError>
     requires { length words.now ≡ 12288 }
     ensures { (list : List ℕ) → Holds words.now count list → checked_as list (checked_of result) }
@@ -119,7 +110,7 @@ fn check_words(words: &[u32], count: usize) -> Result<(), TreeError>
 }
 
 // Whether a file is one of rows that are a tree.
-fn check_rows(file: &[u8]) -> Result<(), FileError>
+fn check_rows(file: &[u8]) -> Result<(), FileError<TreeError>>
     ensures { file_answer result ≡ file_checked file.now }
 {
     if file.len() > 262144 {

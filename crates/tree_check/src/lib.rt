@@ -9,11 +9,11 @@ mod words;
 
 ghost use Rattle.std.specs.Prelude.{◌≡◌, ◌*◌, ◌≤◌, length};
 ghost use Rattle.tree_grammar.specs.Needs.{code_of, at_of};
-ghost use Rattle.tree_check.specs.Found.{verdict_of, checked_of, one_root, no_begins, read_from, tree_read, Ready, tree_checked};
+ghost use Rattle.tree_check.specs.Found.{verdict_of, checked_of, one_root, no_begins, read_from, tree_read, tree_checked};
 
-use crate::parts::row_begin;
 use crate::ranges::in_range;
-use crate::words::word;
+use crate::words::{Rows, read_so_far, word};
+use text::placed::{Coded, tell_code};
 
 // Why words are not the rows of one tree; with the row, where one is at fault.
 #[derive(Clone, Copy, Debug, PartialEq, Eq)]
@@ -23,10 +23,12 @@ pub enum TreeError {
     NotOneTree,
 }
 
-impl TreeError {
-    pub fn code(self) -> u32
-        ensures { result ≡ code_of (verdict_of self) }
-    {
+impl Coded for TreeError {
+    ghost code_of = { λ error. code_of (verdict_of error) };
+
+    ghost place_of = { λ error. at_of (verdict_of error) };
+
+    fn code(self) -> u32 {
         match self {
             TreeError::RowOutOfRange(_) => 60,
             TreeError::PartsMissing(_) => 61,
@@ -35,9 +37,7 @@ impl TreeError {
     }
 
     // M-100: "At is the row, or 0 for 62".
-    pub fn place(self) -> u32
-        ensures { result ≡ at_of (verdict_of self) }
-    {
+    fn place(self) -> u32 {
         match self {
             TreeError::RowOutOfRange(row) => row,
             TreeError::PartsMissing(row) => row,
@@ -47,16 +47,18 @@ impl TreeError {
 }
 
 // Whether just one BLOCK is left.
-fn one_root(tree: &[u32], begin: &[u32], rows: u32) -> bool
-    requires ready { Ready tree.now begin.now rows }
-    requires le_rows { 1 ≤ rows }
-    ensures { result ≡ one_root tree.now begin.now rows }
+// 9 is BLOCK: the op of a lent row is a word (see parts.rt).
+#[tactic(auto, unfolding(crate::specs::Found::one_root))]
+fn one_root(rows: Rows<'_>) -> bool
+    requires { 1 ≤ rows.count }
+    ensures { result ≡ one_root rows.entry.words.now rows.entry.begin.now rows.entry.count }
 {
-    let last = rows - 1;
-    begin[last as usize] == 0 && word(tree, last, 0) == 9
+    let last = rows.count - 1;
+    rows.begin[last as usize] == 0 && word(rows.words, last, 0) == 9
 }
 
-// Checks the rows one by one, and both of a row's faults before the next row. The beginnings are lent, since a Result that holds the array is copied on its way out.
+// Checks the rows one by one, and both of a row's faults before the next row. The beginnings are lent, since a Result that holds the array is
+// copied on its way out.
 fn read_rows(tree: &[u32], rows: u32, begin: &mut [u32]) -> Result<(), TreeError>
     requires tree_len { length tree.now ≡ rows * 6 }
     requires le_rows { 1 ≤ rows }
@@ -68,10 +70,12 @@ fn read_rows(tree: &[u32], rows: u32, begin: &mut [u32]) -> Result<(), TreeError
         if !in_range(tree, row) {
             return Err(TreeError::RowOutOfRange(row));
         }
-        let first = row_begin(tree, begin, row).ok_or(TreeError::PartsMissing(row))?;
+        let first = read_so_far(tree, begin, row)
+            .next_begin()
+            .ok_or(TreeError::PartsMissing(row))?;
         begin[row as usize] = first;
     }
-    if one_root(tree, begin, rows) {
+    if one_root(read_so_far(tree, begin, rows)) {
         Ok(())
     } else {
         Err(TreeError::NotOneTree)
@@ -90,8 +94,8 @@ fn read_into(tree: &[u32], begin: &mut [u32]) -> Result<(), TreeError>
     read_rows(tree, rows as u32, begin)
 }
 
-// The check, with what it finds: for each row read the first row of the part that it closes, the rows before a refused one included. Zeros follow, whatever `begin`
-// held before.
+// The check, with what it finds: for each row read the first row of the part that it closes, the rows before a refused one included. Zeros
+// follow, whatever `begin` held before.
 pub fn read_tree(tree: &[u32], begin: &mut [u32; 2048]) -> Result<(), TreeError>
     ensures { record { answer = result; begin = begin.new } ≡ tree_read tree.now }
 {
@@ -111,14 +115,5 @@ pub fn check_tree(tree: &[u32]) -> Result<(), TreeError>
 pub fn tree_check(tree: &[u32], at: &mut u32) -> u32
     ensures { record { code = result; at = at.new } ≡ tree_checked tree.now }
 {
-    match check_tree(tree) {
-        Ok(()) => {
-            *at = 0;
-            0
-        }
-        Err(error) => {
-            *at = error.place();
-            error.code()
-        }
-    }
+    tell_code(check_tree(tree), at)
 }

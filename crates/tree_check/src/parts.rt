@@ -2,9 +2,9 @@
 ghost use Rattle.std.specs.Prelude.{◌≡◌, [], ◌∷◌, ◌+◌, ◌*◌, ◌≤◌, length, get_or};
 ghost use Rattle.tree_grammar.specs.Needs.{a_value, a_block, serves, made_by, many, if_present, parts_of, needs_by_op};
 ghost use Rattle.tree_check.specs.Takes.{sort_of, parts_taken};
-ghost use Rattle.tree_check.specs.Found.{row_at, parts_begin, Ready};
+ghost use Rattle.tree_check.specs.Found.{row_at, parts_begin};
 
-use crate::words::word;
+use crate::words::{Rows, word};
 
 // A part: what a row leaves for a later one to take.
 #[derive(Clone, Copy, Debug, PartialEq, Eq)]
@@ -17,6 +17,7 @@ pub enum Part {
 }
 
 // `count` parts of the sort `first`, the latest first, and then `more` parts of the sort `then`.
+// (None of the second sort is a count of 0: an option of it would be one more case in `next_begin`.)
 #[derive(Clone, Copy)]
 pub struct Takes {
     pub count: u32,
@@ -25,8 +26,9 @@ pub struct Takes {
     pub then: Part,
 }
 
-#[tactic(auto, unfolding(tree_grammar::specs::Needs::made_by))]
 // What a row leaves. Paper 01: "values ops 1 to 3 and 5 to 8, statements 4, 10 and 12 to 25".
+// Over numbers, as `row_takes`.
+#[tactic(auto, using(crate::proofs::SortLaws::value_made, crate::proofs::SortLaws::statement_made), unfolding(tree_grammar::specs::Needs::made_by))]
 fn made_by(op: u32) -> Part
     ensures { sort_of result ≡ made_by op }
 {
@@ -63,7 +65,9 @@ fn two_sorts(count: u32, first: Part, more: u32, then: Part) -> Takes
     }
 }
 
+// (A flag of a lent row is a word: 0 is absent, as in the definition's `if_present`.)
 // An IF has one BLOCK, and one more where its alternate is present.
+#[tactic(auto, using(crate::proofs::PartLaws::is_present))]
 fn if_blocks(alternate: u32) -> u32
     ensures { many result a_block [] ≡ if_present alternate a_block (a_block ∷ []) }
 {
@@ -71,14 +75,15 @@ fn if_blocks(alternate: u32) -> u32
 }
 
 // A FOR has two values, and one more where its update is present.
+#[tactic(auto, using(crate::proofs::PartLaws::is_present))]
 fn for_values(update: u32) -> u32
     ensures { many result a_value [] ≡ if_present update a_value (a_value ∷ a_value ∷ []) }
 {
     if update == 0 { 2 } else { 3 }
 }
 
-// The parts of a row, by its op: paper 01, "Parts come first (..), then the closing row." The op is any word of a lent row: a match over paper 01's numbers. An enum of
-// ops is no plainer, since it takes one more match with an arm for each op.
+// The parts of a row, by its op: paper 01, "Parts come first (..), then the closing row." The op is any word of a lent row: a match over
+// paper 01's numbers. An enum of ops is no plainer, since it takes one more match with an arm for each op.
 fn row_takes(op: u32, a: u32, b: u32, c: u32) -> Takes
     ensures { parts_taken result ≡ get_or (needs_by_op a b c) op [] }
 {
@@ -105,42 +110,43 @@ fn row_takes(op: u32, a: u32, b: u32, c: u32) -> Takes
     }
 }
 
-// Where the part begins that closes before row `at`, if it is of this sort.
-fn part_begin(tree: &[u32], begin: &[u32], at: u32, wanted: Part) -> Option<u32>
-    requires { Ready tree.now begin.now at }
-    ensures { result ≡ parts_begin tree.now begin.now (sort_of wanted ∷ []) at }
-{
-    let last = at.checked_sub(1)?;
-    let found = made_by(word(tree, last, 0));
-    if serves(wanted, found) {
-        Some(begin[last as usize])
-    } else {
-        None
+impl Rows<'_> {
+    // Where the part begins that closes before row `at`, if it is of this sort.
+    fn part_begin(self, at: u32, wanted: Part) -> Option<u32>
+        requires { at ≤ self.count }
+        ensures { result ≡ parts_begin self.entry.words.now self.entry.begin.now (sort_of wanted ∷ []) at }
+    {
+        let last = at.checked_sub(1)?;
+        let found = made_by(word(self.words, last, 0));
+        if serves(wanted, found) {
+            Some(self.begin[last as usize])
+        } else {
+            None
+        }
     }
-}
 
-// Where so many parts of a sort begin, of which the latest closes before row `at`.
-fn parts_begin(tree: &[u32], begin: &[u32], mut at: u32, count: u32, wanted: Part) -> Option<u32>
-    requires { Ready tree.now begin.now at }
-    ensures { result ≡ parts_begin tree.now begin.now (many count (sort_of wanted) []) at }
-{
-    for _ in 0..count {
-        at = part_begin(tree, begin, at, wanted)?;
+    // Where so many parts of a sort begin, of which the latest closes before row `at`.
+    fn parts_begin(self, mut at: u32, count: u32, wanted: Part) -> Option<u32>
+        requires { at ≤ self.count }
+        ensures { result ≡ parts_begin self.entry.words.now self.entry.begin.now (many count (sort_of wanted) []) at }
+    {
+        for _ in 0..count {
+            at = self.part_begin(at, wanted)?;
+        }
+        Some(at)
     }
-    Some(at)
-}
 
-// Where the parts of a row begin.
-pub fn row_begin(tree: &[u32], begin: &[u32], row: u32) -> Option<u32>
-    requires ready { Ready tree.now begin.now row }
-    requires row_in_bounds { row * 6 + 6 ≤ length tree.now }
-    ensures { result ≡ parts_begin tree.now begin.now (parts_of (row_at tree.now row)) row }
-{
-    let op = word(tree, row, 0);
-    let a = word(tree, row, 1);
-    let b = word(tree, row, 2);
-    let c = word(tree, row, 3);
-    let takes = row_takes(op, a, b, c);
-    let at = parts_begin(tree, begin, row, takes.count, takes.first)?;
-    parts_begin(tree, begin, at, takes.more, takes.then)
+    // Where the parts begin of the row after these.
+    pub fn next_begin(self) -> Option<u32>
+        requires { self.count * 6 + 6 ≤ length self.words.now }
+        ensures { result ≡ parts_begin self.entry.words.now self.entry.begin.now (parts_of (row_at self.entry.words.now self.entry.count)) self.entry.count }
+    {
+        let op = word(self.words, self.count, 0);
+        let a = word(self.words, self.count, 1);
+        let b = word(self.words, self.count, 2);
+        let c = word(self.words, self.count, 3);
+        let takes = row_takes(op, a, b, c);
+        let at = self.parts_begin(self.count, takes.count, takes.first)?;
+        self.parts_begin(at, takes.more, takes.then)
+    }
 }

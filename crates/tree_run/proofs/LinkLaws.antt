@@ -5,6 +5,7 @@ use native.Mathlib.Omega.{arith}
 use native.Mathlib.Numerals.{add-one}
 use mathlib.Core.List.{List, [], ◌∷◌}
 use mathlib.Core.Bool.{Bool, true, false}
+use mathlib.Core.Option.{Option, none, some}
 use lib.ListN.{length, get_or, set, length-set, get_or-eq_default}
 use lib.Seq.{get_or-set_same, get_or-set_other}
 use lib.Dec.{eqb, leb}
@@ -12,12 +13,13 @@ use borrow.Author.Tests.{eqb-true, eqb-false, leb-true, leb-false}
 use Rattle.tree_grammar.specs.Needs.{Sort, serves, made_by, many, needs_by_op}
 use Rattle.tree_grammar.specs.Needs as goal
 use Rattle.tree_grammar.proofs.Upto.{upto, ends, ◌and◌}
+use Rattle.std.specs.Prelude as code
 use Rattle.std.specs.Prelude.{None, Some}
 use Rattle.tree_check.specs.Found.{word_at, row_at, parts_begin, Begun}
 use Rattle.tree_runs.specs.Links.{Links, parts_by_op, parts_of, put, with_part, with_row}
 use Rattle.tree_runs.proofs.Linking.{Linking, Taking, linking_start, taking_start, taking_part, taking_end}
 use Rattle.tree_run.specs.declared.links.Link.{Link}
-use Rattle.tree_run.specs.Abstraction.{link_at, links_of, RowsLinked}
+use Rattle.tree_run.specs.Abstraction.{if_any, link_at, links_of, RowsLinked}
 
 -- ---- a store is `put`
 
@@ -26,45 +28,45 @@ at_set l i v h j true e = let z : j ≡ i = eqb-true j i e in rw z (get_or-set_s
 at_set l i v h j false e = get_or-set_other l i j v _ (eqb-false j i e)
 
 module _ (l : List Link) (i : ℕ) (v : Link) (h : i < length l) where
-  pub set_put : (field : Link → ℕ) → ◌≡◌ {A = ℕ → ℕ} (λ j. field (link_at (set l i v) j)) (put (λ j. field (link_at l j)) i (field v))
+  pub set_put : {A : Type 0} (field : Link → A) → ◌≡◌ {A = ℕ → A} (λ j. field (link_at (set l i v) j)) (put (λ j. field (link_at l j)) i (field v))
   unfolding put
-  set_put field = fun_ext (λ j. ap field (at_set l i v h j (eqb j i) refl) ∙ by (eqb j i) j)
+  set_put {A} field = fun_ext (λ j. ap field (at_set l i v h j (eqb j i) refl) ∙ by (eqb j i) j)
     where
       by : (y : Bool) (j : ℕ) → field (elim y [ true ↦ v | false ↦ link_at l j ]) ≡ elim y [ true ↦ field v | false ↦ field (link_at l j) ]
       by true j = refl
       by false j = refl
 
-  pub set_same : (field : Link → ℕ) → field v ≡ field (link_at l i) → ◌≡◌ {A = ℕ → ℕ} (λ j. field (link_at (set l i v) j)) (λ j. field (link_at l j))
-  set_same field e = fun_ext (λ j. ap field (at_set l i v h j (eqb j i) refl) ∙ by j (eqb j i) refl)
+  pub set_same : {A : Type 0} (field : Link → A) → field v ≡ field (link_at l i) → ◌≡◌ {A = ℕ → A} (λ j. field (link_at (set l i v) j)) (λ j. field (link_at l j))
+  set_same {A} field e = fun_ext (λ j. ap field (at_set l i v h j (eqb j i) refl) ∙ by j (eqb j i) refl)
     where
       by : (j : ℕ) (y : Bool) → eqb j i ≡ y → field (elim y [ true ↦ v | false ↦ link_at l j ]) ≡ field (link_at l j)
       by j true q = let z : j ≡ i = eqb-true j i q in e ∙ ap (λ (n : ℕ). field (link_at l n)) (sym z)
       by j false q = refl
 
-abbrev links_by : (begin : List ℕ) → (parent next child : ℕ → ℕ) → Links
+abbrev links_by : (begin : List ℕ) → (parent : ℕ → ℕ) → (next child : ℕ → Option ℕ) → Links
 links_by begin parent next child = record { begin = λ j. get_or begin j 0; parent = parent; next = next; child = child }
 
-part_stored : (begin : List ℕ) (l : List Link) (k m later : ℕ) → m < length l
-    → with_part (links_of begin l) k m later ≡ links_of begin (set l m (record { parent = k; next = later; child = (link_at l m).child }))
+part_stored : (begin : List ℕ) (l : List Link) (k m : ℕ) (later : code.Option ℕ) → m < length l
+    → with_part (links_of begin l) k m (if_any later) ≡ links_of begin (set l m (record { parent = k; next = later; child = (link_at l m).child }))
 part_stored begin l k m later h =
     let v : Link = record { parent = k; next = later; child = (link_at l m).child } in
     let p = set_put l m v h (λ z. z.parent) in
-    let n = set_put l m v h (λ z. z.next) in
-    let c = set_same l m v h (λ z. z.child) refl in
-    ap (λ (f : ℕ → ℕ). links_by begin f (put (λ j. (link_at l j).next) m later) (λ j. (link_at l j).child)) (sym p)
-    ∙ ap (λ (f : ℕ → ℕ). links_by begin (λ j. (link_at (set l m v) j).parent) f (λ j. (link_at l j).child)) (sym n)
-    ∙ ap (λ (f : ℕ → ℕ). links_by begin (λ j. (link_at (set l m v) j).parent) (λ j. (link_at (set l m v) j).next) f) (sym c)
+    let n = set_put l m v h (λ z. if_any z.next) in
+    let c = set_same l m v h (λ z. if_any z.child) refl in
+    ap (λ (f : ℕ → ℕ). links_by begin f (put (λ j. if_any (link_at l j).next) m (if_any later)) (λ j. if_any (link_at l j).child)) (sym p)
+    ∙ ap (λ (f : ℕ → Option ℕ). links_by begin (λ j. (link_at (set l m v) j).parent) f (λ j. if_any (link_at l j).child)) (sym n)
+    ∙ ap (λ (f : ℕ → Option ℕ). links_by begin (λ j. (link_at (set l m v) j).parent) (λ j. if_any (link_at (set l m v) j).next) f) (sym c)
 
-row_stored : (begin : List ℕ) (l : List Link) (k later : ℕ) → k < length l
-    → with_row (links_of begin l) k later ≡ links_of begin (set l k (record { parent = (link_at l k).parent; next = (link_at l k).next; child = later }))
+row_stored : (begin : List ℕ) (l : List Link) (k : ℕ) (later : code.Option ℕ) → k < length l
+    → with_row (links_of begin l) k (if_any later) ≡ links_of begin (set l k (record { parent = (link_at l k).parent; next = (link_at l k).next; child = later }))
 row_stored begin l k later h =
     let v : Link = record { parent = (link_at l k).parent; next = (link_at l k).next; child = later } in
     let p = set_same l k v h (λ z. z.parent) refl in
-    let n = set_same l k v h (λ z. z.next) refl in
-    let c = set_put l k v h (λ z. z.child) in
-    ap (λ (f : ℕ → ℕ). links_by begin (λ j. (link_at l j).parent) (λ j. (link_at l j).next) f) (sym c)
-    ∙ ap (λ (f : ℕ → ℕ). links_by begin f (λ j. (link_at l j).next) (λ j. (link_at (set l k v) j).child)) (sym p)
-    ∙ ap (λ (f : ℕ → ℕ). links_by begin (λ j. (link_at (set l k v) j).parent) f (λ j. (link_at (set l k v) j).child)) (sym n)
+    let n = set_same l k v h (λ z. if_any z.next) refl in
+    let c = set_put l k v h (λ z. if_any z.child) in
+    ap (λ (f : ℕ → Option ℕ). links_by begin (λ j. (link_at l j).parent) (λ j. if_any (link_at l j).next) f) (sym c)
+    ∙ ap (λ (f : ℕ → ℕ). links_by begin f (λ j. if_any (link_at l j).next) (λ j. if_any (link_at (set l k v) j).child)) (sym p)
+    ∙ ap (λ (f : ℕ → Option ℕ). links_by begin (λ j. (link_at (set l k v) j).parent) f (λ j. if_any (link_at (set l k v) j).child)) (sym n)
 
 -- ---- so many parts as the check wants
 
@@ -112,7 +114,7 @@ parts_many words k = as_many (word_at words k 1) (word_at words k 2) (word_at wo
 -- ---- the parts of row k, back to the cursor
 
 module _ (words begin : List ℕ) where
-  pub record Joining (t : Links) (k cursor later : ℕ) : Type 0 where
+  pub record Joining (t : Links) (k cursor : ℕ) (later : Option ℕ) : Type 0 where
     taken : ℕ
     wanted : List Sort
     taking : Taking (row_at words) t k taken cursor later
@@ -153,25 +155,25 @@ module _ (words begin : List ℕ) where
   unfolding parts_begin
   none_there sort wanted first e = none_some e
 
-  join_start : (t : Links) (k rows : ℕ) → k < rows → Begun words begin rows → Linking (row_at words) t k → Joining t k k 0
+  join_start : (t : Links) (k rows : ℕ) → k < rows → Begun words begin rows → Linking (row_at words) t k → Joining t k k none
   join_start t k rows h b l = record { taken = 0; wanted = goal.parts_of (row_at words k); taking = taking_start (row_at words) t k l; found = b.begun k h; all = omega (arith, parts_many words k) }
 
-  module _ (low : (k : ℕ) → get_or begin k 0 ≤ k) (t : Links) (same : (j : ℕ) → t.begin j ≡ get_or begin j 0) (k m later : ℕ) where
-    join_part : get_or begin k 0 < suc m → Joining t k (suc m) later → Joining (with_part t k m later) k (get_or begin m 0) m
+  module _ (low : (k : ℕ) → get_or begin k 0 ≤ k) (t : Links) (same : (j : ℕ) → t.begin j ≡ get_or begin j 0) (k m : ℕ) (later : Option ℕ) where
+    join_part : get_or begin k 0 < suc m → Joining t k (suc m) later → Joining (with_part t k m later) k (get_or begin m 0) (some m)
     join_part h j = by j.wanted j.found j.all
       where
         by : (wanted : List Sort) → parts_begin words begin wanted (suc m) ≡ Some (get_or begin k 0) → j.taken + length wanted ≡ parts_of (row_at words k)
-            → Joining (with_part t k m later) k (get_or begin m 0) m
+            → Joining (with_part t k m later) k (get_or begin m 0) (some m)
         by [] q all = absurd (omega (arith, none_wanted (suc m) (get_or begin k 0) q, h))
         by (sort ∷ wanted) q all = record {
           taken = suc j.taken;
           wanted = wanted;
-          taking = subst (λ (z : ℕ). Taking (row_at words) (with_part t k m later) k (suc j.taken) z m) (same m) (taking_part (row_at words) t k j.taken m later j.taking);
+          taking = subst (λ (z : ℕ). Taking (row_at words) (with_part t k m later) k (suc j.taken) z (some m)) (same m) (taking_part (row_at words) t k j.taken m later j.taking);
           found = part_served sort wanted m (get_or begin k 0) q;
           all = omega (arith, all);
         }
 
-  module _ (low : (k : ℕ) → get_or begin k 0 ≤ k) (t : Links) (same : (j : ℕ) → t.begin j ≡ get_or begin j 0) (k cursor later : ℕ) where
+  module _ (low : (k : ℕ) → get_or begin k 0 ≤ k) (t : Links) (same : (j : ℕ) → t.begin j ≡ get_or begin j 0) (k cursor : ℕ) (later : Option ℕ) where
     join_end : cursor ≤ get_or begin k 0 → Joining t k cursor later → Linking (row_at words) (with_row t k later) (suc k)
     join_end h j = by j.wanted j.found j.all
       where
@@ -196,10 +198,10 @@ module _ (begin : List ℕ) (rows : ℕ) where
     pub linking : (words : List ℕ) → Begun words begin rows → Linking (row_at words) (links_of begin l) row
 
   -- and the parts of this row from the cursor on
-  pub record PartsDone (l : List Link) (row cursor later : ℕ) : Type 0 where
+  pub record PartsDone (l : List Link) (row cursor : ℕ) (later : code.Option ℕ) : Type 0 where
     pub under : cursor ≤ row
     pub long : length l ≡ 2048
-    pub joining : (words : List ℕ) → Begun words begin rows → Joining words begin (links_of begin l) row cursor later
+    pub joining : (words : List ℕ) → Begun words begin rows → Joining words begin (links_of begin l) row cursor (if_any later)
 
   pub cursor_falls : ((k : ℕ) → get_or begin k 0 ≤ k) → (first cursor : ℕ) → first < cursor → get_or begin (cursor - 1) 0 < cursor
   cursor_falls low first cursor h = omega (arith, low (cursor - 1), h)
@@ -207,28 +209,28 @@ module _ (begin : List ℕ) (rows : ℕ) where
   pub rows_start : {l : List Link} → length l ≡ 2048 → ((k : ℕ) → get_or begin k 0 ≤ k) → RowsDone l 0
   rows_start {l} p low = record { most = omega arith; long = p; linking = λ words b. linking_start (row_at words) (links_of begin l) low }
 
-  pub parts_start : {l : List Link} {row : ℕ} → RowsDone l row → row < rows → PartsDone l row row 0
+  pub parts_start : {l : List Link} {row : ℕ} → RowsDone l row → row < rows → PartsDone l row row None
   parts_start {l} {row} d h =
       record { under = omega arith; long = d.long; joining = λ words b. join_start words begin (links_of begin l) row rows h b (d.linking words b) }
 
-  pub parts_more : {l : List Link} {row cursor later : ℕ} → ((k : ℕ) → get_or begin k 0 ≤ k) → row < 2048 → PartsDone l row cursor later → get_or begin row 0 < cursor
-      → PartsDone (set l (cursor - 1) (record { parent = row; next = later; child = (link_at l (cursor - 1)).child })) row (get_or begin (cursor - 1) 0) (cursor - 1)
+  pub parts_more : {l : List Link} {row cursor : ℕ} {later : code.Option ℕ} → ((k : ℕ) → get_or begin k 0 ≤ k) → row < 2048 → PartsDone l row cursor later → get_or begin row 0 < cursor
+      → PartsDone (set l (cursor - 1) (record { parent = row; next = later; child = (link_at l (cursor - 1)).child })) row (get_or begin (cursor - 1) 0) (Some (cursor - 1))
   parts_more {l} {row} {cursor} {later} low few d h = by cursor d h
     where
       by : (cursor : ℕ) → PartsDone l row cursor later → get_or begin row 0 < cursor
-          → PartsDone (set l (cursor - 1) (record { parent = row; next = later; child = (link_at l (cursor - 1)).child })) row (get_or begin (cursor - 1) 0) (cursor - 1)
+          → PartsDone (set l (cursor - 1) (record { parent = row; next = later; child = (link_at l (cursor - 1)).child })) row (get_or begin (cursor - 1) 0) (Some (cursor - 1))
       by zero d h = absurd (omega arith)
       by (suc m) d h =
           let z : suc m - 1 ≡ m = omega arith in
           rw z (record {
             under = omega (arith, low m, d.under);
             long = length-set l m _ ∙ d.long;
-            joining = λ words b. subst (λ (t : Links). Joining words begin t row (get_or begin m 0) m)
+            joining = λ words b. subst (λ (t : Links). Joining words begin t row (get_or begin m 0) (some m))
                 (part_stored begin l row m later (omega (arith, d.under, d.long, few)))
-                (join_part words begin low (links_of begin l) (λ j. refl) row m later h (d.joining words b));
+                (join_part words begin low (links_of begin l) (λ j. refl) row m (if_any later) h (d.joining words b));
           })
 
-  pub row_done : {l : List Link} {row cursor later : ℕ} → ((k : ℕ) → get_or begin k 0 ≤ k) → row < rows → rows ≤ 2048
+  pub row_done : {l : List Link} {row cursor : ℕ} {later : code.Option ℕ} → ((k : ℕ) → get_or begin k 0 ≤ k) → row < rows → rows ≤ 2048
       → PartsDone l row cursor later → cursor ≤ get_or begin row 0
       → RowsDone (set l row (record { parent = (link_at l row).parent; next = (link_at l row).next; child = later })) (row + 1)
   row_done {l} {row} {cursor} {later} low h few p e = record {
@@ -236,7 +238,7 @@ module _ (begin : List ℕ) (rows : ℕ) where
     long = length-set l row _ ∙ p.long;
     linking = λ words b. rw (add-one row) (subst (λ (t : Links). Linking (row_at words) t (suc row))
         (row_stored begin l row later (omega (arith, p.long, h, few)))
-        (join_end words begin low (links_of begin l) (λ j. refl) row cursor later e (p.joining words b)));
+        (join_end words begin low (links_of begin l) (λ j. refl) row cursor (if_any later) e (p.joining words b)));
   }
 
   pub rows_linked : {l : List Link} {row : ℕ} → RowsDone l row → rows ≤ row → (words : List ℕ) → Begun words begin rows → RowsLinked words (links_of begin l) rows

@@ -14,15 +14,16 @@ use Rattle.tree_runs.specs.Links.{plains_from, plains}
 use Rattle.std.specs.Prelude.{Result, Ok, Err}
 use Rattle.std.specs.Result.{IsErrAnd}
 use Rattle.std.proofs.lemmas.Result.{err_from_is_err_and}
+use Rattle.tree_run.specs.declared.performed.Performed.{Performed}
 use Rattle.tree_run.specs.declared.RunError.{RunError}
 use Rattle.tree_run.specs.declared.RunError.TheVariants.{NoRoom}
-use Rattle.tree_run.specs.Holds.{Held, Took, took, filled}
+use Rattle.tree_run.specs.Holds.{Held, Took, took, filled, Performs}
 
 -- what a `?` hands on
 pub err_same : {T E : Type 0} {r : Result T E} {e : E} → IsErrAnd r (λ y. y ≡ e) → r ≡ Err e
 err_same {E = E} {r = r} h = let k = err_from_is_err_and r h in k.1 ∙ ap (λ (e : E). Err e) k.2
 
-pub err_ok : {e : RunError} {n : ℕ} → ◌≡◌ {A = Result ℕ RunError} (Err e) (Ok n) → ⊥
+pub err_ok : {e : RunError} {u : Unit {0}} → ◌≡◌ {A = Result (Unit {0}) RunError} (Err e) (Ok u) → ⊥
 err_ok z = cc
 
 module _ (words : List ℕ) where
@@ -40,20 +41,20 @@ module _ (words : List ℕ) where
     more_length : length (reached ++ (row ∷ [])) ≡ number + 1
     more_length = length-append reached (row ∷ []) ∙ ap (λ (n : ℕ). n + 1) h.count
 
-    pub row_other : (op ≡ 1 → ⊥) → Took words buffer (Ok number) (reached ++ plains_from (row_at words) row 1)
-    row_other f = took number refl (subst (λ (z : List ℕ). Held words buffer number z) (sym (other f)) h)
+    pub row_other : (op ≡ 1 → ⊥) → Took words buffer number (Ok tt) (reached ++ plains_from (row_at words) row 1)
+    row_other f = took refl (subst (λ (z : List ℕ). Held words buffer number z) (sym (other f)) h)
 
-    pub row_full : op ≡ 1 → length buffer ≤ number → Took words buffer (Err (NoRoom row)) (reached ++ plains_from (row_at words) row 1)
+    pub row_full : op ≡ 1 → length buffer ≤ number → Took words buffer number (Err (NoRoom row)) (reached ++ plains_from (row_at words) row 1)
     row_full e l =
         let z : number ≡ length buffer = omega (arith, h.fits, l) in
-        subst (λ (r : List ℕ). Took words buffer (Err (NoRoom row)) r) (sym (this e))
+        subst (λ (r : List ℕ). Took words buffer number (Err (NoRoom row)) r) (sym (this e))
         (filled (omega (arith, more_length, z)) (ap (λ (k : ℕ). Err (NoRoom k)) (sym (get_or_at reached row [] 0 (length buffer) (h.count ∙ z)))))
 
     pub row_one : {v : ℕ} → op ≡ 1 → number < length buffer → v ≡ word_at words row 1
-        → Took words (set buffer number v) (Ok (number + 1)) (reached ++ plains_from (row_at words) row 1)
+        → Took words (set buffer number v) (number + 1) (Ok tt) (reached ++ plains_from (row_at words) row 1)
     row_one {v} e l q =
-        subst (λ (r : List ℕ). Took words (set buffer number v) (Ok (number + 1)) r) (sym (this e))
-        (took (number + 1) refl (record { count = more_length; fits = omega (arith, length-set buffer number v, l); same = λ i g. by i g (eqb i number) refl }))
+        subst (λ (r : List ℕ). Took words (set buffer number v) (number + 1) (Ok tt) r) (sym (this e))
+        (took refl (record { count = more_length; fits = omega (arith, length-set buffer number v, l); same = λ i g. by i g (eqb i number) refl }))
       where
         by : (i : ℕ) → i < number + 1 → (y : Bool) → eqb i number ≡ y → get_or (set buffer number v) i 0 ≡ word_at words (get_or (reached ++ (row ∷ [])) i 0) 1
         by i g true z =
@@ -65,33 +66,32 @@ module _ (words : List ℕ) where
             get_or-set_other buffer number i v 0 w
             ∙ (h.same i under ∙ ap (λ (r : ℕ). word_at words r 1) (sym (get_or-append reached (row ∷ []) 0 i (omega (arith, under, h.count)))))
 
-  ok_is : {m n : ℕ} → ◌≡◌ {A = Result ℕ RunError} (Ok m) (Ok n) → m ≡ n
-  ok_is z = cc
-
   -- a buffer that can't take some rows can't take those and more
-  full_more : {buffer reached : List ℕ} {p : Result ℕ RunError} {e : RunError} (more all : List ℕ) → p ≡ Err e → Took words buffer p reached → reached ++ more ≡ all
-      → Took words buffer (Err e) all
-  full_more more all q (took n f h) z = absurd (err_ok (sym q ∙ f))
-  full_more {buffer} {reached} {p} {e} more all q (filled l f) z =
+  full_more : {buffer reached : List ℕ} {number : ℕ} {p : Result (Unit {0}) RunError} {e : RunError} (more all : List ℕ) → p ≡ Err e → Took words buffer number p reached
+      → reached ++ more ≡ all → Took words buffer number (Err e) all
+  full_more more all q (took f h) z = absurd (err_ok (sym q ∙ f))
+  full_more {buffer} {reached} {p = p} {e = e} more all q (filled l f) z =
       let at : get_or reached (length buffer) 0 ≡ get_or all (length buffer) 0
       = sym (get_or-append reached more 0 (length buffer) l) ∙ ap (λ (s : List ℕ). get_or s (length buffer) 0) z in
       let long : length reached ≤ length all = subst (λ (s : List ℕ). length reached ≤ length s) z (simp length-append (omega arith)) in
       filled (omega (arith, l, long)) (sym q ∙ (f ∙ ap (λ (k : ℕ). Err (NoRoom k)) at))
 
-  pub taken : {buffer reached : List ℕ} {p : Result ℕ RunError} {n : ℕ} → p ≡ Ok n → Took words buffer p reached → Held words buffer n reached
-  taken {buffer} {reached} q (took m f h) = subst (λ (k : ℕ). Held words buffer k reached) (ok_is (sym f ∙ q)) h
+  pub taken : {buffer reached : List ℕ} {number : ℕ} {p : Result (Unit {0}) RunError} {u : Unit {0}} → p ≡ Ok u → Took words buffer number p reached
+      → Held words buffer number reached
+  taken q (took f h) = h
   taken q (filled l f) = absurd (err_ok (sym f ∙ q))
 
   -- ---- row by row
 
   -- what is left of the rows to perform gives what they all give
-  pub record Performing (before now : List ℕ) (from to number row count : ℕ) : Type 0 where
-    pub long : length now ≡ length before
-    pub held : (reached : List ℕ) → Held words before number reached
-        → (so_far : List ℕ) × (Held words now count so_far) × (reached ++ plains (row_at words) from to ≡ so_far ++ plains (row_at words) row to)
+  pub record Performing (before now : Performed) (from to row : ℕ) : Type 0 where
+    pub same : now.rows.ghost_name ≡ before.rows.ghost_name
+    pub long : length now.rows.now ≡ length before.rows.now
+    pub held : (reached : List ℕ) → Held words before.rows.now before.number reached
+        → (so_far : List ℕ) × (Held words now.rows.now now.number so_far) × (reached ++ plains (row_at words) from to ≡ so_far ++ plains (row_at words) row to)
 
-  pub performing_start : (buffer : List ℕ) (from to number : ℕ) → Performing buffer buffer from to number from number
-  performing_start buffer from to number = record { long = refl; held = λ reached h. (reached, h, refl) }
+  pub performing_start : (done : Performed) (from to : ℕ) → Performing done done from to from
+  performing_start done from to = record { same = refl; long = refl; held = λ reached h. (reached, h, refl) }
 
   plains_next : (row to : ℕ) → row < to → plains (row_at words) row to ≡ plains_from (row_at words) row 1 ++ plains (row_at words) (row + 1) to
   unfolding plains_from
@@ -109,34 +109,49 @@ module _ (words : List ℕ) where
   unfolding plains_from
   plains_end row to h = let n : to - row ≡ 0 = omega arith in ap (λ (z : ℕ). plains_from (row_at words) row z) n
 
-  module _ {before now : List ℕ} {from to number row count : ℕ} (I : Performing before now from to number row count) where
-    module _ (h : row < to) {now' : List ℕ} {p : Result ℕ RunError} (each : (reached : List ℕ) → Held words now count reached → Took words now' p (reached ++ plains_from (row_at words) row 1)) where
+  module _ {before now : Performed} {from to row : ℕ} (I : Performing before now from to row) where
+    module _ (h : row < to) {now' : Performed} {p : Result (Unit {0}) RunError} (each : Performs words now now' p (plains_from (row_at words) row 1)) where
       on : (reached so_far : List ℕ) → reached ++ plains (row_at words) from to ≡ so_far ++ plains (row_at words) row to
           → (so_far ++ plains_from (row_at words) row 1) ++ plains (row_at words) (row + 1) to ≡ reached ++ plains (row_at words) from to
       on reached so_far q =
           append_assoc so_far (plains_from (row_at words) row 1) (plains (row_at words) (row + 1) to) ∙ (ap (λ (z : List ℕ). so_far ++ z) (sym (plains_next row to h)) ∙ sym q)
 
-      pub performing_full : {e : RunError} → p ≡ Err e → (reached : List ℕ) → Held words before number reached → Took words now' (Err e) (reached ++ plains (row_at words) from to)
-      performing_full e reached g =
-          let k = I.held reached g in
-          full_more (plains (row_at words) (row + 1) to) (reached ++ plains (row_at words) from to) e (each k.0 k.1) (on reached k.0 k.2)
-
-      pub performing_next : {n : ℕ} → p ≡ Ok n → length now' ≡ length now → Performing before now' from to number (row + 1) n
-      performing_next e l = record {
-        long = l ∙ I.long;
-        held = λ reached g. let k = I.held reached g in (k.0 ++ plains_from (row_at words) row 1, taken e (each k.0 k.1), sym (on reached k.0 k.2));
+      pub performing_full : {e : RunError} → p ≡ Err e → Performs words before now' (Err e) (plains (row_at words) from to)
+      performing_full e = record {
+        same = each.same ∙ I.same;
+        long = each.long ∙ I.long;
+        took = λ reached g. let k = I.held reached g in
+            full_more (plains (row_at words) (row + 1) to) (reached ++ plains (row_at words) from to) e (each.took k.0 k.1) (on reached k.0 k.2);
       }
 
-    pub performing_end : to ≤ row → (reached : List ℕ) → Held words before number reached → Took words now (Ok count) (reached ++ plains (row_at words) from to)
-    performing_end h reached g =
-        let k = I.held reached g in
-        took count refl (subst (λ (z : List ℕ). Held words now count z) (sym (k.2 ∙ (ap (λ (z : List ℕ). k.0 ++ z) (plains_end row to h) ∙ append-nil k.0))) k.1)
+      pub performing_next : {u : Unit {0}} → p ≡ Ok u → Performing before now' from to (row + 1)
+      performing_next e = record {
+        same = each.same ∙ I.same;
+        long = each.long ∙ I.long;
+        held = λ reached g. let k = I.held reached g in (k.0 ++ plains_from (row_at words) row 1, taken e (each.took k.0 k.1), sym (on reached k.0 k.2));
+      }
+
+    pub performing_end : to ≤ row → Performs words before now (Ok tt) (plains (row_at words) from to)
+    performing_end h = record {
+      same = I.same;
+      long = I.long;
+      took = λ reached g. let k = I.held reached g in
+          took refl (subst (λ (z : List ℕ). Held words now.rows.now now.number z) (sym (k.2 ∙ (ap (λ (z : List ℕ). k.0 ++ z) (plains_end row to h) ∙ append-nil k.0))) k.1);
+    }
 
   -- both stretches of a turn
-  pub both_full : {buffer : List ℕ} {p : Result ℕ RunError} {e : RunError} (reached rows more : List ℕ) → p ≡ Err e → Took words buffer p (reached ++ rows)
-      → Took words buffer (Err e) (reached ++ (rows ++ more))
-  both_full reached rows more e t = full_more more (reached ++ (rows ++ more)) e t (append_assoc reached rows more)
+  pub both_full : {old new : Performed} {p : Result (Unit {0}) RunError} {e : RunError} (rows more : List ℕ) → p ≡ Err e → Performs words old new p rows
+      → Performs words old new (Err e) (rows ++ more)
+  both_full rows more e t = record {
+    same = t.same;
+    long = t.long;
+    took = λ reached h. full_more more (reached ++ (rows ++ more)) e (t.took reached h) (append_assoc reached rows more);
+  }
 
-  pub both_on : {b b' : List ℕ} {p q : Result ℕ RunError} {n : ℕ} (reached rows more : List ℕ) → p ≡ Ok n → Took words b p (reached ++ rows)
-      → ((all : List ℕ) → Held words b n all → Took words b' q (all ++ more)) → Took words b' q (reached ++ (rows ++ more))
-  both_on {b} {b'} {p} {q} reached rows more e t each = subst (λ (z : List ℕ). Took words b' q z) (append_assoc reached rows more) (each (reached ++ rows) (taken e t))
+  pub both_on : {old mid new : Performed} {p q : Result (Unit {0}) RunError} {u : Unit {0}} (rows more : List ℕ) → p ≡ Ok u → Performs words old mid p rows
+      → Performs words mid new q more → Performs words old new q (rows ++ more)
+  both_on {new = new} {q = q} rows more e t then = record {
+    same = then.same ∙ t.same;
+    long = then.long ∙ t.long;
+    took = λ reached h. subst (λ (z : List ℕ). Took words new.rows.now new.number q z) (append_assoc reached rows more) (then.took (reached ++ rows) (taken e (t.took reached h)));
+  }

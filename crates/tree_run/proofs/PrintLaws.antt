@@ -24,9 +24,10 @@ use Rattle.tree_grammar.specs.Needs as goal
 use Rattle.tree_run.specs.Given.{Given, stopped as misread, read, file_given, run_given, file_run}
 use Rattle.std.specs.Prelude.{Result, Ok, Err}
 use Rattle.tree_run.specs.declared.Run as told
-use Rattle.tree_run.specs.declared.file.FileError.{FileError}
-use Rattle.tree_run.specs.declared.file.FileError.TheVariants as file
-use Rattle.tree_run.specs.declared.file.FileError.TheVariants.{TooLong, NotInForm}
+use Rattle.tree_check.specs.declared.file.FileError.{FileError}
+use Rattle.tree_check.specs.declared.file.FileError.TheVariants as file
+use Rattle.tree_check.specs.declared.file.FileError.TheVariants.{TooLong, NotInForm}
+use Rattle.tree_run.specs.declared.RunError.{RunError}
 use Rattle.tree_run.specs.declared.RunError.TheVariants.{NotATree, NoTarget, NotRun, NoRoom}
 use Rattle.tree_check.specs.declared.TreeError.TheVariants.{RowOutOfRange, PartsMissing, NotOneTree}
 use Rattle.tree_run.specs.Answer.{file_code}
@@ -92,12 +93,12 @@ file_within file lent = by (leb (length file) 262144)
     by true = given_run_within (file_given file) lent
     by false = refusal_within 51 0 lent
 
-told_buffer : (r : Result told.Run FileError) (buffer : List ℕ) → (file_outcome r buffer).buffer ≡ buffer
+told_buffer : (r : Result told.Run (FileError RunError)) (buffer : List ℕ) → (file_outcome r buffer).buffer ≡ buffer
 told_buffer (Ok run) buffer = refl
 told_buffer (Err error) buffer = refl
 
 -- no more rows are told than the buffer has words
-pub number_within : (file : List ℕ) (lent : ℕ) (r : Result told.Run FileError) (buffer : List ℕ) → file_outcome r buffer ≡ file_run file lent → (file_outcome r buffer).number ≤ length buffer
+pub number_within : (file : List ℕ) (lent : ℕ) (r : Result told.Run (FileError RunError)) (buffer : List ℕ) → file_outcome r buffer ≡ file_run file lent → (file_outcome r buffer).number ≤ length buffer
 number_within file lent r buffer e =
     subst (λ (b : List ℕ). (file_outcome r buffer).number ≤ length b) (told_buffer r buffer) (subst Within (sym e) (file_within file lent))
 
@@ -125,15 +126,15 @@ module _ (code at number reason : ℕ) (buffer : List ℕ) {b b' b'' : List ℕ}
   run_wrote e p = rw (run_lines code number buffer e) (wrote_then n (wrote_then l p))
 
 -- a refusal has a code
-pub no_code : (error : FileError) → file_code error ≡ 0 → ⊥
+pub no_code : (error : FileError RunError) → file_code error ≡ 0 → ⊥
 no_code TooLong z = omega arith
 no_code (NotInForm bad) z = omega arith
-no_code (file.NotRun (NotATree (RowOutOfRange at))) z = omega arith
-no_code (file.NotRun (NotATree (PartsMissing at))) z = omega arith
-no_code (file.NotRun (NotATree NotOneTree)) z = omega arith
-no_code (file.NotRun (NoTarget at)) z = omega arith
-no_code (file.NotRun (NotRun at)) z = omega arith
-no_code (file.NotRun (NoRoom at)) z = omega arith
+no_code (file.Refused (NotATree (RowOutOfRange at))) z = omega arith
+no_code (file.Refused (NotATree (PartsMissing at))) z = omega arith
+no_code (file.Refused (NotATree NotOneTree)) z = omega arith
+no_code (file.Refused (NoTarget at)) z = omega arith
+no_code (file.Refused (NotRun at)) z = omega arith
+no_code (file.Refused (NoRoom at)) z = omega arith
 
 -- ---- room
 

@@ -1,6 +1,6 @@
 -- The turns by op: what is left of every other op; the turn at a place, and after an INSTR.
 use mathlib.Core.Path.{◌≡◌, refl, sym, ap, ◌∙◌}
-use Prim.Native.Nat.{ℕ, zero, suc, ◌+◌, ◌<◌}
+use Prim.Native.Nat.{ℕ, ◌+◌, ◌<◌}
 use native.Mathlib.Omega.{arith}
 use native.Mathlib.Numerals.{add-one}
 use mathlib.Core.List.{List, [], ◌++◌, append-nil}
@@ -15,7 +15,7 @@ use Rattle.definition.specs.Run.{not_plain}
 use Rattle.tree_grammar.proofs.Upto.{upto, ends, ◌and◌}
 use Rattle.tree_check.specs.Found.{word_at, row_at}
 use Rattle.tree_runs.specs.Layout.{Node, a_leaf}
-use Rattle.tree_runs.specs.Links.{Links, nodes_by_op, node_of, unless_zero, next_of, parent_of}
+use Rattle.tree_runs.specs.Links.{Links, nodes_by_op, node_of, next_of, parent_of}
 use Rattle.tree_runs.specs.Machine as machine
 use Rattle.tree_runs.specs.Machine.{enter, leave, or_leave, State, state, going, up_from, leaving, step}
 use Rattle.tree_runs.specs.Acts.{Act, act, go, do_then, do_act, act_down, act_up}
@@ -185,16 +185,12 @@ module _ (words : List ℕ) (t : Links) (rows row : ℕ) (instr : word_at words 
       rw (append-nil P, q) refl in
       decide_up words t rows row normal inside up P left ∙ ap (λ (s : State). going s) same
 
-  next_is : next_of t row (row_at words row) ≡ unless_zero (t.next row)
+  next_is : next_of t row (row_at words row) ≡ t.next row
   unfolding next_of
   next_is = rw instr refl
 
-  pub block_ends : {later : ℕ} {r : Place} → later ≡ t.next row → later ≡ 0 → place_of r ≡ leave block normal → After (layout_at words t rows) row r
-  block_ends {later} {r} n z e = moves (block_moves (e ∙ rw (is, next_is, ← n, z) refl))
+  pub block_ends : {r : Place} → none ≡ t.next row → place_of r ≡ leave block normal → After (layout_at words t rows) row r
+  block_ends {r} n e = moves (block_moves (e ∙ rw (is, next_is, ← n) refl))
 
-  pub block_goes_on : {later : ℕ} {r : Place} → later ≡ t.next row → (later ≡ 0 → ⊥) → place_of r ≡ enter later → After (layout_at words t rows) row r
-  block_goes_on {later} {r} n f e = moves (block_moves (e ∙ (by later f ∙ rw (next_is, n) refl)))
-    where
-      by : (l : ℕ) → (l ≡ 0 → ⊥) → enter l ≡ or_leave (unless_zero l) (t.parent row)
-      by zero f = absurd (f refl)
-      by (suc l) f = refl
+  pub block_goes_on : {later : ℕ} {r : Place} → some later ≡ t.next row → place_of r ≡ enter later → After (layout_at words t rows) row r
+  block_goes_on {later} {r} n e = moves (block_moves (e ∙ rw (next_is, ← n) refl))

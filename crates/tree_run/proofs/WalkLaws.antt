@@ -25,6 +25,7 @@ use Rattle.tree_runs.proofs.Appends.{Begins, performed_of, end_begins}
 use Rattle.tree_runs.proofs.Measure.{gives_next, gives_halt, turns_fall}
 use Rattle.tree_runs.proofs.ActLaws.{turns_alike}
 use Rattle.tree_run.specs.declared.completions.Completion.{Completion}
+use Rattle.tree_run.specs.declared.performed.Performed.{Performed}
 use Rattle.tree_run.specs.declared.turns.Place.{Place}
 use Rattle.tree_run.specs.declared.turns.Place.TheVariants.{Enter, Leave}
 use Rattle.tree_run.specs.declared.turns.Turn as code_turn
@@ -32,7 +33,7 @@ use Rattle.tree_run.specs.declared.Run.{Run}
 use Rattle.tree_run.specs.declared.RunError.{RunError}
 use Rattle.tree_run.specs.declared.RunError.TheVariants.{NoRoom}
 use Rattle.tree_run.specs.Abstraction.{completion_of, stops, place_of, layout_at, then_of, act_of, end_at}
-use Rattle.tree_run.specs.Holds.{Held, Took, took, filled, After, stays, moves, Walks, told, Ends, ended}
+use Rattle.tree_run.specs.Holds.{Held, Took, took, filled, Performs, After, stays, moves, Walks, told, Ends, ended}
 use Rattle.tree_run.specs.Holds as holds
 use Rattle.tree_run.proofs.PerformLaws.{taken, err_ok}
 use Rattle.tree_run.proofs.TurnLaws.{decide_down, node_by}
@@ -92,22 +93,22 @@ module _ (words : List ℕ) (t : Links) (rows : ℕ) where
     abbrev start : State
     start = state (enter (rows - 1)) [] answers
 
-    pub record Walking (before buffer : List ℕ) (place : machine.Place) (left : Answers) (number : ℕ) : Type 0 where
-      pub long : length buffer ≡ length before
+    pub record Walking (before : List ℕ) (done : Performed) (place : machine.Place) (left : Answers) : Type 0 where
+      pub long : length done.rows.now ≡ length before
       end : Completed
       started : Completes L fuel start end
       turns : ℕ
       few : turns ≤ fuel
       reached : List ℕ
       gives : Completes L turns (state place reached left) end
-      held : Held words buffer number reached
+      held : Held words done.rows.now done.number reached
 
     -- the measure of the loop: what was performed does not matter
     abbrev pub turns_from : machine.Place → Answers → ℕ
     turns_from place left = turns_left L fuel (state place [] left)
 
-    pub walk_start : {buffer : List ℕ} → Walks L rows answers → Walking buffer buffer (enter (rows - 1)) answers 0
-    walk_start w = record {
+    pub walk_start : {done : Performed} → done.number ≡ 0 → Walks L rows answers → Walking done.rows.now done (enter (rows - 1)) answers
+    walk_start none_yet w = record {
       long = refl;
       end = w.end;
       started = w.gives;
@@ -115,13 +116,18 @@ module _ (words : List ℕ) (t : Links) (rows : ℕ) where
       few = le_refl fuel;
       reached = [];
       gives = w.gives;
-      held = record { count = refl; fits = omega arith; same = λ i h. absurd (omega arith) };
+      held = record { count = sym none_yet; fits = omega (arith, none_yet); same = λ i h. absurd (omega (arith, none_yet, h)) };
     }
 
+    -- what the walk leaves in its buffer is left in the caller's: they are one
+    pub handed_back : {caller done : List ℕ} {ran : Result Run RunError} → caller ≡ done → ((n : ℕ) (end : Completed) → Completes L n start end → Ends words done ran end)
+        → (n : ℕ) (end : Completed) → Completes L n start end → Ends words caller ran end
+    handed_back e ends n end g = rw e (ends n end g)
+
     -- from the end of an INSTR on
-    module _ {before buffer : List ℕ} {left : Answers} {number : ℕ} (row : ℕ) (J : Walking before buffer (leave row normal) left number) (place : Place) where
-      after_next : After L row place → Walking before buffer (place_of place) left number
-      after_next (stays e) = subst (λ (p : machine.Place). Walking before buffer p left number) (sym e) J
+    module _ {before : List ℕ} {done : Performed} {left : Answers} (row : ℕ) (J : Walking before done (leave row normal) left) (place : Place) where
+      after_next : After L row place → Walking before done (place_of place) left
+      after_next (stays e) = subst (λ (p : machine.Place). Walking before done p left) (sym e) J
       after_next (moves m) =
           let g = gives_next L J.turns _ _ J.end J.gives (m J.reached left) in
           let e : suc g.0 ≡ J.turns = g.1 in
@@ -146,46 +152,46 @@ module _ (words : List ℕ) (t : Links) (rows : ℕ) where
           (turns_fall L J.turns fuel _ _ J.end J.gives J.few (m J.reached left)) in
           omega (arith, z)
 
-    module _ {before buffer : List ℕ} {place : machine.Place} {left : Answers} {number : ℕ} (I : Walking before buffer place left number) where
+    module _ {before : List ℕ} {done : Performed} {place : machine.Place} {left : Answers} (I : Walking before done place left) where
       -- the walk goes on, by a turn that performs these rows
       module _ (rows_of : List ℕ) (then : Then) (decided : (P a : List ℕ) → step L (state place P a) ≡ going (do_then then (P ++ rows_of) a))
-          {buffer' : List ℕ} {p : Result ℕ RunError} (did : (P : List ℕ) → Held words buffer number P → Took words buffer' p (P ++ rows_of)) where
+          {done' : Performed} {p : Result (Unit {0}) RunError} (did : Performs words done done' p rows_of) where
         -- the buffer can't take a row of it
-        pub walk_full : {e : RunError} → p ≡ Err e → (n : ℕ) (end : Completed) → Completes L n start end → Ends words buffer' (Err e) end
-        walk_full {e} f n end g = subst (λ (z : Completed). Ends words buffer' (Err e) z) (gives_one L I.started g) (by (did I.reached I.held))
+        pub walk_full : {e : RunError} → p ≡ Err e → (n : ℕ) (end : Completed) → Completes L n start end → Ends words done'.rows.now (Err e) end
+        walk_full {e} f n end g = subst (λ (z : Completed). Ends words done'.rows.now (Err e) z) (gives_one L I.started g) (by (did.took I.reached I.held))
           where
             more : Begins (I.reached ++ rows_of) I.end.rows
             more =
                 subst (λ (z : List ℕ). Begins z I.end.rows) (then_performs then (I.reached ++ rows_of) left)
                 (end_begins L (gives_next L I.turns _ _ I.end I.gives (decided I.reached left)).2)
 
-            by : Took words buffer' p (I.reached ++ rows_of) → Ends words buffer' (Err e) I.end
-            by (took m q h) = absurd (err_ok (sym f ∙ q))
+            by : Took words done'.rows.now done'.number p (I.reached ++ rows_of) → Ends words done'.rows.now (Err e) I.end
+            by (took q h) = absurd (err_ok (sym f ∙ q))
             by (filled l q) =
                 let w : length I.end.rows ≡ length (I.reached ++ rows_of) + length more.more = ap length more.whole ∙ length-append (I.reached ++ rows_of) more.more in
-                let at : get_or (I.reached ++ rows_of) (length buffer') 0 ≡ get_or I.end.rows (length buffer') 0
-                = sym (get_or-append (I.reached ++ rows_of) more.more 0 (length buffer') l) ∙ ap (λ (z : List ℕ). get_or z (length buffer') 0) (sym more.whole) in
-                let same : Err e ≡ Err (NoRoom (get_or I.end.rows (length buffer') 0)) = sym f ∙ (q ∙ ap (λ (z : ℕ). Err (NoRoom z)) at) in
-                let long : length buffer' < length I.end.rows = omega (arith, l, w) in
+                let at : get_or (I.reached ++ rows_of) (length done'.rows.now) 0 ≡ get_or I.end.rows (length done'.rows.now) 0
+                = sym (get_or-append (I.reached ++ rows_of) more.more 0 (length done'.rows.now) l) ∙ ap (λ (z : List ℕ). get_or z (length done'.rows.now) 0) (sym more.whole) in
+                let same : Err e ≡ Err (NoRoom (get_or I.end.rows (length done'.rows.now) 0)) = sym f ∙ (q ∙ ap (λ (z : ℕ). Err (NoRoom z)) at) in
+                let long : length done'.rows.now < length I.end.rows = omega (arith, l, w) in
                 holds.filled long cc
 
-        module _ {m : ℕ} (f : p ≡ Ok m) (place' : machine.Place) (left' : Answers) (went : (P : List ℕ) → state place' P left' ≡ do_then then P left) where
+        module _ {u : Unit {0}} (f : p ≡ Ok u) (place' : machine.Place) (left' : Answers) (went : (P : List ℕ) → state place' P left' ≡ do_then then P left) where
           next_is : step L (state place I.reached left) ≡ going (state place' (I.reached ++ rows_of) left')
           next_is = decided I.reached left ∙ ap (λ (s : State). going s) (sym (went (I.reached ++ rows_of)))
 
-          pub walk_next : length buffer' ≡ length buffer → Walking before buffer' place' left' m
-          walk_next l =
+          pub walk_next : Walking before done' place' left'
+          walk_next =
               let g = gives_next L I.turns _ _ I.end I.gives next_is in
               let e : suc g.0 ≡ I.turns = g.1 in
               record {
-                long = l ∙ I.long;
+                long = did.long ∙ I.long;
                 end = I.end;
                 started = I.started;
                 turns = g.0;
                 few = omega (arith, e, I.few);
                 reached = I.reached ++ rows_of;
                 gives = g.2;
-                held = taken words f (did I.reached I.held);
+                held = taken words f (did.took I.reached I.held);
               }
 
           pub walk_less : turns_from place' left' < turns_from place left
@@ -194,16 +200,16 @@ module _ (words : List ℕ) (t : Links) (rows : ℕ) where
               (turns_fall L I.turns fuel _ _ I.end I.gives I.few next_is)
 
       -- it halts
-      pub walk_end : {ran : Result Run RunError} (c : definition.Completion) → ((P a : List ℕ) → step L (state place P a) ≡ halt (completed P c a)) → ran ≡ told number (reason_of c)
-          → (n : ℕ) (end : Completed) → Completes L n start end → Ends words buffer ran end
+      pub walk_end : {ran : Result Run RunError} (c : definition.Completion) → ((P a : List ℕ) → step L (state place P a) ≡ halt (completed P c a)) → ran ≡ told done.number (reason_of c)
+          → (n : ℕ) (end : Completed) → Completes L n start end → Ends words done.rows.now ran end
       unfolding completed
       walk_end {ran} c halted tells n end g =
           let z : I.end ≡ completed I.reached c left = gives_halt L I.turns _ I.end _ I.gives (halted I.reached left) in
-          subst (λ (e : Completed). Ends words buffer ran e) (sym z ∙ gives_one L I.started g) (ended number I.held tells)
+          subst (λ (e : Completed). Ends words done.rows.now ran e) (sym z ∙ gives_one L I.started g) (ended done.number I.held tells)
 
       -- an INSTR is entered: its rows are performed, and the walk goes on from its end
       module _ {row : ℕ} (at : place ≡ enter row) (instr : word_at words row 0 ≡ 4) {first : ℕ} (begins : first ≡ t.begin row)
-          {buffer' : List ℕ} {p : Result ℕ RunError} (did : (P : List ℕ) → Held words buffer number P → Took words buffer' p (P ++ plains (row_at words) first row)) where
+          {done' : Performed} {p : Result (Unit {0}) RunError} (did : Performs words done done' p (plains (row_at words) first row)) where
         decided : (P a : List ℕ) → step L (state place P a) ≡ going (do_then (go (leave row normal)) (P ++ plains (row_at words) first row) a)
         unfolding act_down do_act
         decided P a = rw (at, begins) (decide_down words t rows row {a = act (plains (row_at words) (t.begin row) row) (go (leave row normal))} by P a)
@@ -215,14 +221,14 @@ module _ (words : List ℕ) (t : Links) (rows : ℕ) where
         unfolding do_then
         goes_out P = refl
 
-        pub instr_full : {e : RunError} → p ≡ Err e → (n : ℕ) (end : Completed) → Completes L n start end → Ends words buffer' (Err e) end
+        pub instr_full : {e : RunError} → p ≡ Err e → (n : ℕ) (end : Completed) → Completes L n start end → Ends words done'.rows.now (Err e) end
         instr_full = walk_full (plains (row_at words) first row) (go (leave row normal)) decided did
 
-        module _ {m : ℕ} (f : p ≡ Ok m) (l : length buffer' ≡ length buffer) (place' : Place) (after : After L row place') where
-          out : Walking before buffer' (leave row normal) left m
-          out = walk_next (plains (row_at words) first row) (go (leave row normal)) decided did f (leave row normal) left goes_out l
+        module _ {u : Unit {0}} (f : p ≡ Ok u) (place' : Place) (after : After L row place') where
+          out : Walking before done' (leave row normal) left
+          out = walk_next (plains (row_at words) first row) (go (leave row normal)) decided did f (leave row normal) left goes_out
 
-          pub instr_next : Walking before buffer' (place_of place') left m
+          pub instr_next : Walking before done' (place_of place') left
           instr_next = after_next row out place' after
 
           pub instr_less : turns_from (place_of place') left < turns_from place left

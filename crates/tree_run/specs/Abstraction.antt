@@ -52,10 +52,11 @@ abbrev pub begin_in : (begin : List ℕ) → ℕ → ℕ
 begin_in begin k = get_or begin k 0
 
 abbrev pub link_at : List Link → ℕ → Link
-link_at list k = get_or list k (record { parent = 0; next = 0; child = 0 })
+link_at list k = get_or list k (record { parent = 0; next = None; child = None })
 
 abbrev pub links_of : (begin : List ℕ) → List Link → links.Links
-links_of begin list = record { begin = begin_in begin; parent = λ k. (link_at list k).parent; next = λ k. (link_at list k).next; child = λ k. (link_at list k).child }
+links_of begin list =
+    record { begin = begin_in begin; parent = λ k. (link_at list k).parent; next = λ k. if_any (link_at list k).next; child = λ k. if_any (link_at list k).child }
 
 abbrev pub RowsLinked : (words : List ℕ) → links.Links → (rows : ℕ) → Type 0
 RowsLinked words t rows = (k : ℕ) → k < rows → Linked (row_at words) t k

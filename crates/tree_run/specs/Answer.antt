@@ -2,8 +2,8 @@
 use Rattle.std.specs.Prelude.{ℕ}
 use Rattle.tree_grammar.specs.Needs as check
 use Rattle.tree_check.specs.Found.{verdict_of}
-use Rattle.tree_run.specs.declared.file.FileError.{FileError}
-use Rattle.tree_run.specs.declared.file.FileError.TheVariants as file
+use Rattle.tree_check.specs.declared.file.FileError.{FileError}
+use Rattle.tree_check.specs.Prints as file
 use Rattle.tree_run.specs.declared.Reason.{Reason}
 use Rattle.tree_run.specs.declared.Reason.TheVariants.{Return, Throw, End, NoAnswer}
 use Rattle.tree_run.specs.declared.RunError.{RunError}
@@ -31,12 +31,8 @@ at_of (NotRun at) = at
 at_of (NoRoom at) = at
 
 -- of a file: "51 over .. bytes, at 0; then 50 not in the form", at the byte
-abbrev pub file_code : FileError → ℕ
-file_code file.TooLong = 51
-file_code (file.NotInForm bad) = 50
-file_code (file.NotRun error) = code_of error
+abbrev pub file_code : FileError RunError → ℕ
+file_code refused = file.file_code code_of refused
 
-abbrev pub file_at : FileError → ℕ
-file_at file.TooLong = 0
-file_at (file.NotInForm bad) = bad.at
-file_at (file.NotRun error) = at_of error
+abbrev pub file_at : FileError RunError → ℕ
+file_at refused = file.file_at at_of refused

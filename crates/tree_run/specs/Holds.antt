@@ -9,6 +9,7 @@ use Rattle.tree_runs.specs.Links.{before}
 use Rattle.tree_runs.specs.Layout.{Layout}
 use Rattle.tree_runs.specs.Machine.{Completes, enter, leave, state, going, step}
 use Rattle.tree_runs.specs.Ran.{Outcome, not_run}
+use Rattle.tree_run.specs.declared.performed.Performed.{Performed}
 use Rattle.tree_run.specs.declared.Reason.TheVariants.{Return, Throw, End, NoAnswer}
 use Rattle.tree_run.specs.declared.Run.{Run}
 use Rattle.tree_run.specs.declared.RunError.{RunError}
@@ -25,9 +26,15 @@ pub record Held (words buffer : List ℕ) (number : ℕ) (reached : List ℕ) : 
   pub same : (i : ℕ) → i < number → get_or buffer i 0 ≡ word_at words (get_or reached i 0) 1
 
 -- these rows were to be performed: the buffer took them all, or the first that it cannot take is named
-pub data Took (words buffer : List ℕ) (performed : Result ℕ RunError) (reached : List ℕ) : Type 0 where
-  took : (number : ℕ) → performed ≡ Ok number → Held words buffer number reached → Took words buffer performed reached
-  filled : length buffer < length reached → performed ≡ Err (NoRoom (get_or reached (length buffer) 0)) → Took words buffer performed reached
+pub data Took (words buffer : List ℕ) (number : ℕ) (performed : Result (Unit {0}) RunError) (reached : List ℕ) : Type 0 where
+  took : performed ≡ Ok tt → Held words buffer number reached → Took words buffer number performed reached
+  filled : length buffer < length reached → performed ≡ Err (NoRoom (get_or reached (length buffer) 0)) → Took words buffer number performed reached
+
+-- these rows were to be performed, behind those that the buffer holds: the same buffer, as long as it was
+pub record Performs (words : List ℕ) (old new : Performed) (answer : Result (Unit {0}) RunError) (rows : List ℕ) : Type 0 where
+  pub same : new.rows.ghost_name ≡ old.rows.ghost_name
+  pub long : length new.rows.now ≡ length old.rows.now
+  pub took : (reached : List ℕ) → Held words old.rows.now old.number reached → Took words new.rows.now new.number answer (reached ++ rows)
 
 -- from a case back over `count` cases, in source order
 abbrev pub back_by : (begin : List ℕ) → (count m : ℕ) → ℕ

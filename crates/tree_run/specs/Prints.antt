@@ -8,7 +8,8 @@ use Rattle.tree_runs.specs.Ran.{Outcome}
 use Rattle.tree_runs.specs.Given.{run_of}
 use Rattle.tree_run.specs.declared.Run.{Run}
 use Rattle.tree_run.specs.declared.RunError.{RunError}
-use Rattle.tree_run.specs.declared.file.FileError.{FileError}
+use Rattle.tree_check.specs.declared.file.FileError.{FileError}
+use Rattle.tree_run.specs.declared.RunError.{RunError}
 use Rattle.tree_run.specs.Answer.{file_code, file_at}
 use Rattle.tree_run.specs.Holds.{outcome_of}
 use Rattle.tree_run.specs.Given.{answers_from, file_run}
@@ -42,7 +43,7 @@ run_text file = printed_run (file_run file lent_rows)
 -- ---- the contracts of the functions below `run_file`
 
 -- the outcome that a file's run tells, with what the buffer holds
-abbrev pub file_outcome : Result Run FileError → (buffer : List ℕ) → Outcome
+abbrev pub file_outcome : Result Run (FileError RunError) → (buffer : List ℕ) → Outcome
 file_outcome (Ok run) buffer = outcome_of (Ok run) buffer
 file_outcome (Err error) buffer = record { code = file_code error; at = file_at error; number = 0; reason = 0; buffer = buffer }
 

@@ -1,65 +1,26 @@
 // The program treerun as a function: a file's bytes in, the bytes that are printed of it out.
 ghost use Rattle.std.specs.Prelude.{◌≡◌, ◌≤◌, length, Ok};
 ghost use Rattle.text.specs.Printed.{Wrote};
-ghost use Rattle.text.specs.Prints.{printing, WrittenText};
-ghost use Rattle.tree_run.specs.declared.file.FileError.TheVariants.{NotInForm, NotRun};
-ghost use Rattle.tree_run.specs.Answer.{file_code, file_at};
+ghost use Rattle.text.specs.Prints.{printing};
+ghost use Rattle.tree_check.specs.declared.file.FileError.TheVariants.{Refused};
 ghost use Rattle.tree_run.specs.Given.{opens_answers, file_run};
 ghost use Rattle.tree_run.specs.Prints.{file_outcome, printed_run, most_printed, run_text, AnswersAt, RunsWords};
 
 use crate::{Run, RunError, run_tree};
 use convert::written_tables::write_part;
 use text::lent::zeros;
+use text::placed::Coded;
 use text::version::Columns;
 use text::write::{NoRoom, finish_text, write_line, write_names};
 use tree_check::TreeError;
-use tree_check::file::{BadByte, read_table};
+use tree_check::file::{BadByte, FileError, read_table};
 use values::rows::clear;
 
-// Why a file is refused.
-#[derive(Clone, Copy, Debug, PartialEq, Eq)]
-pub enum FileError {
-    TooLong,
-    NotInForm(BadByte),
-    NotRun(RunError),
-}
+impl From<RunError> for FileError<RunError> {
+    ghost from_gives = { λ refused error. error ≡ Refused refused };
 
-impl From<BadByte> for FileError {
-    ghost from_gives = { λ bad error. error ≡ NotInForm bad };
-
-    fn from(bad: BadByte) -> FileError {
-        FileError::NotInForm(bad)
-    }
-}
-
-impl From<RunError> for FileError {
-    ghost from_gives = { λ refused error. error ≡ NotRun refused };
-
-    fn from(refused: RunError) -> FileError {
-        FileError::NotRun(refused)
-    }
-}
-
-impl FileError {
-    // Paper 01: "51 over .. bytes, at 0; then 50 not in the form"; then the run's own.
-    pub fn code(self) -> u32
-        ensures { result ≡ file_code self }
-    {
-        match self {
-            FileError::TooLong => 51,
-            FileError::NotInForm(_) => 50,
-            FileError::NotRun(error) => error.code(),
-        }
-    }
-
-    pub fn place(self) -> u32
-        ensures { result ≡ file_at self }
-    {
-        match self {
-            FileError::TooLong => 0,
-            FileError::NotInForm(bad) => bad.at,
-            FileError::NotRun(error) => error.place(),
-        }
+    fn from(refused: RunError) -> FileError<RunError> {
+        FileError::Refused(refused)
     }
 }
 
@@ -83,6 +44,7 @@ fn answers_at(file: &[u8]) -> usize
 }
 
 // The run of `count` words.
+// (No slice: `count` may be beyond the words that were lent.)
 fn run_words(
     words: &[u32],
     count: usize,
@@ -100,7 +62,7 @@ fn run_words(
 }
 
 // The run of a file: 51, 50, or what its rows and answers give.
-fn run_bytes(file: &[u8], performed: &mut [u32]) -> Result<Run, FileError>
+fn run_bytes(file: &[u8], performed: &mut [u32]) -> Result<Run, FileError<RunError>>
     ensures { file_outcome result performed.new ≡ file_run file.now (length performed.old) }
 {
     clear(performed, 0);
@@ -124,7 +86,7 @@ fn run_bytes(file: &[u8], performed: &mut [u32]) -> Result<Run, FileError>
 }
 
 // The lines of what a run gave.
-fn write_lines(out: &mut [u8], ran: Result<Run, FileError>, performed: &[u32]) -> usize
+fn write_lines(out: &mut [u8], ran: Result<Run, FileError<RunError>>, performed: &[u32]) -> usize
     requires number_in_bounds { (file_outcome ran performed.now).number ≤ length performed.now }
     requires number_bound { (file_outcome ran performed.now).number ≤ 65536 }
     ensures wrote { Wrote out.old 0 (printed_run (file_outcome ran performed.now)) out.new result }

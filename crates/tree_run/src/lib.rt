@@ -4,6 +4,8 @@
 mod completions;
 pub mod file;
 mod links;
+mod ops;
+mod performed;
 mod row_walk;
 mod rows;
 mod turns;
@@ -15,11 +17,13 @@ ghost use Rattle.tree_run.specs.declared.RunError.TheVariants.{NotATree};
 ghost use Rattle.tree_run.specs.Answer.{reason_number, code_of, at_of};
 ghost use Rattle.tree_run.specs.Holds.{not_run_from, kept, number_of, outcome_of};
 
-use crate::links::link_rows;
+use crate::links::{Link, link_rows};
+use crate::ops::{COND, FORIN, FOROF, LOGICAL, OPTIONAL, TRY};
 use crate::row_walk::walk;
 use crate::rows::{Tree, word};
+use text::placed::Coded;
 use tree_check::{TreeError, read_tree};
-use values::rows::{COND, FORIN, FOROF, LOGICAL, OPTIONAL, TRY, clear};
+use values::rows::clear;
 
 // Why a run stopped.
 #[derive(Clone, Copy, Debug, PartialEq, Eq)]
@@ -67,10 +71,12 @@ impl From<TreeError> for RunError {
     }
 }
 
-impl RunError {
-    pub fn code(self) -> u32
-        ensures { result ≡ code_of self }
-    {
+impl Coded for RunError {
+    ghost code_of = { code_of };
+
+    ghost place_of = { at_of };
+
+    fn code(self) -> u32 {
         match self {
             RunError::NotATree(error) => error.code(),
             RunError::NoTarget(_) => 63,
@@ -79,9 +85,7 @@ impl RunError {
         }
     }
 
-    pub fn place(self) -> u32
-        ensures { result ≡ at_of self }
-    {
+    fn place(self) -> u32 {
         match self {
             RunError::NotATree(error) => error.place(),
             RunError::NoTarget(row) => row,
@@ -120,7 +124,8 @@ fn run_rows(words: &[u32], answers: &[u32], performed: &mut [u32]) -> Result<Run
     if let Some(row) = first_not_run(words, rows) {
         return Err(RunError::NotRun(row));
     }
-    let links = link_rows(&begin, rows);
+    let mut links = [Link::default(); 2048];
+    link_rows(&begin, rows, &mut links);
     let tree = Tree {
         words,
         begin: &begin,
@@ -130,8 +135,8 @@ fn run_rows(words: &[u32], answers: &[u32], performed: &mut [u32]) -> Result<Run
     walk(&tree, answers, performed)
 }
 
-// Runs the tree whose rows are in the words, which may be any words. Writes the rows performed, then zeros: of a refused run zeros alone. The tree and the answers
-// stay as they are.
+// Runs the tree whose rows are in the words, which may be any words. Writes the rows performed, then zeros: of a refused run zeros alone. The
+// tree and the answers stay as they are.
 pub fn run_tree(tree: &[u32], answers: &[u32], performed: &mut [u32]) -> Result<Run, RunError>
     ensures { outcome_of result performed.new ≡ run_of tree.now answers.now (length performed.old) }
 {

@@ -1,71 +1,18 @@
 // The walk: turn after turn until it halts. No stack and no recursion: where a row stands is in the links.
-ghost use Rattle.std.specs.Prelude.{◌≡◌, List, [], ◌++◌, ℕ, ◌-◌, ◌≤◌, Option, Some, None};
-ghost use Rattle.definition.specs.Completion.{normal};
+ghost use Rattle.std.specs.Prelude.{◌≡◌, List, [], ℕ, ◌-◌, ◌≤◌, Option, Some, None};
 ghost use Rattle.definition.specs.TreeRun.{Completed, reason_of};
-ghost use Rattle.tree_check.specs.Found.{word_at, row_at};
-ghost use Rattle.tree_runs.specs.Links.{Links, plains, plains_from};
-ghost use Rattle.tree_runs.specs.Machine.{Completes, step, going, enter, leave, state};
+ghost use Rattle.tree_check.specs.Found.{word_at};
+ghost use Rattle.tree_runs.specs.Machine.{Completes, step, going, enter, state};
 ghost use Rattle.tree_runs.specs.Acts.{do_then, do_act};
 ghost use Rattle.tree_run.specs.Abstraction.{completion_of, place_of, links_in, layout_in, then_of, chosen_by, act_of, end_at};
-ghost use Rattle.tree_run.specs.Holds.{Held, Took, back_by, Instructs, After, Ends, Walks, told};
+ghost use Rattle.tree_run.specs.Holds.{back_by, Instructs, After, Ends, Walks, told};
 
 use crate::completions::Completion;
+use crate::ops::{BLOCK, INSTR};
+use crate::performed::Performed;
 use crate::rows::Tree;
 use crate::turns::{Place, Then, Turn, down, up};
 use crate::{Reason, Run, RunError};
-use std::ops::Range;
-use values::rows::{BLOCK, INSTR, PLAIN};
-
-// A PLAIN performs its row. The answer is how many rows the buffer holds now.
-fn perform_row(
-    tree: &Tree,
-    row: u32,
-    performed: &mut [u32],
-    number: usize,
-) -> Result<usize, RunError>
-    ensures { (reached : List ℕ) → Held tree.now.words.now performed.old number reached
-        → Took tree.now.words.now performed.new result (reached ++ plains_from (row_at tree.now.words.now) row 1) }
-{
-    if tree.word(row, 0) != PLAIN {
-        return Ok(number);
-    }
-    if performed.len() <= number {
-        return Err(RunError::NoRoom(row));
-    }
-    performed[number] = tree.word(row, 1);
-    Ok(number + 1)
-}
-
-fn perform(
-    tree: &Tree,
-    rows: Range<u32>,
-    performed: &mut [u32],
-    number: usize,
-) -> Result<usize, RunError>
-    ensures { (reached : List ℕ) → Held tree.now.words.now performed.old number reached
-        → Took tree.now.words.now performed.new result (reached ++ plains (row_at tree.now.words.now) rows.start rows.end) }
-{
-    let mut count = number;
-    for row in rows {
-        count = perform_row(tree, row, performed, count)?;
-    }
-    Ok(count)
-}
-
-fn perform_turn(
-    tree: &Tree,
-    turn: Turn,
-    performed: &mut [u32],
-    number: usize,
-) -> Result<usize, RunError>
-    ensures { (reached : List ℕ) → Held tree.now.words.now performed.old number reached
-        → Took tree.now.words.now performed.new result
-        (reached ++ (plains (row_at tree.now.words.now) turn.rows.start turn.rows.end ++ plains (row_at tree.now.words.now) turn.more.start turn.more.end)) }
-{
-    let Turn { rows, more, .. } = turn;
-    let count = perform(tree, rows, performed, number)?;
-    perform(tree, more, performed, count)
-}
 
 // The case at a place in source order: so many cases back from the row `last`.
 fn case_at(tree: &Tree, last: u32, place: u32) -> u32
@@ -161,12 +108,13 @@ fn after_instruction(tree: &Tree, row: u32) -> Place
         return Place::Leave(row, Completion::Normal);
     }
     match tree.next(row) {
-        0 => Place::Leave(block, Completion::Normal),
-        later => Place::Enter(later),
+        None => Place::Leave(block, Completion::Normal),
+        Some(later) => Place::Enter(later),
     }
 }
 
 // What is told of the completion at the end.
+// (Row 0 where a row is not run: as in specs/Holds.antt, `told`; `run_rows` has refused such a tree before.)
 #[tactic(auto, unfolding(definition::specs::TreeRun::reason_of))]
 fn told(end: Completion, number: usize) -> Result<Run, RunError>
     ensures { result ≡ told number (reason_of (completion_of end)) }
@@ -194,19 +142,22 @@ pub fn walk(tree: &Tree, answers: &[u32], performed: &mut [u32]) -> Result<Run, 
 {
     let mut place = Place::Enter(tree.rows - 1);
     let mut left = answers;
-    let mut number = 0;
+    let mut done = Performed {
+        rows: performed,
+        number: 0,
+    };
     loop {
         if let Some(end) = end_at(tree, place) {
-            return told(end, number);
+            return told(end, done.number);
         }
         if let Some(row) = instruction_at(tree, place) {
-            number = perform(tree, tree.begin(row)..row, performed, number)?;
+            done.perform(tree, tree.begin(row)..row)?;
             place = after_instruction(tree, row);
             continue;
         }
         let turn = decide(tree, place);
         let then = turn.then;
-        number = perform_turn(tree, turn, performed, number)?;
+        done.perform_turn(tree, turn)?;
         let (there, rest) = go_on(tree, left, then);
         place = there;
         left = rest;

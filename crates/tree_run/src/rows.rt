@@ -7,6 +7,7 @@ ghost use Rattle.tree_run.specs.Abstraction.{if_any, link_at};
 
 use crate::links::Link;
 
+// (`begin` is what `tree_check` gives, and the links are made from it: one array of both would be a copy of it.)
 #[derive(Clone, Copy)]
 pub struct Tree<'a> {
     pub words: &'a [u32],
@@ -23,7 +24,7 @@ pub fn word(words: &[u32], row: u32, column: u32) -> u32
     words.get(i).copied().unwrap_or(0)
 }
 
-impl<'a> Tree<'a> {
+impl Tree<'_> {
     pub fn word(&self, row: u32, column: u32) -> u32
         ensures { result ≡ word_at self.now.words.now row column }
     {
@@ -58,13 +59,13 @@ impl<'a> Tree<'a> {
         self.link(row).parent
     }
 
-    pub fn next(&self, row: u32) -> u32
+    pub fn next(&self, row: u32) -> Option<u32>
         ensures { result ≡ (link_at self.now.links.now row).next }
     {
         self.link(row).next
     }
 
-    pub fn child(&self, row: u32) -> u32
+    pub fn child(&self, row: u32) -> Option<u32>
         ensures { result ≡ (link_at self.now.links.now row).child }
     {
         self.link(row).child

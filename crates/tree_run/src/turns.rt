@@ -1,21 +1,21 @@
 // What a turn of the walk does, decided from the rows and their links: down into a part, or up with a completion.
-ghost use Rattle.std.specs.Prelude.{◌≡◌, List, [], ◌++◌, ℕ, ◌-◌};
+ghost use Rattle.std.specs.Prelude.{◌≡◌, List, [], ℕ, ◌-◌};
 ghost use Rattle.definition.specs.Completion as definition;
 ghost use Rattle.definition.specs.Completion.{normal, break, continue, label_set, loop_continues};
 ghost use Rattle.table.specs.Table.{unless_none};
 ghost use Rattle.tree_check.specs.Found.{word_at, row_at};
-ghost use Rattle.tree_runs.specs.Links.{Links, plains, cases_back, before, if_node, first_of, kind_of, jump_as, test_end, for_again, next_of};
+ghost use Rattle.tree_runs.specs.Links.{Links, plains, before, if_node, kind_of, jump_as, test_end, for_again, next_of};
 ghost use Rattle.tree_runs.specs.Machine.{enter, leave, or_leave, on_if_normal};
-ghost use Rattle.tree_runs.specs.Acts.{act, go, ask, pick, act_down, act_up, round_again};
-ghost use Rattle.tree_run.specs.Abstraction.{if_any, completion_of, place_of, links_in, begin_in, node_in, then_of, act_of};
+ghost use Rattle.tree_runs.specs.Acts.{act, go, ask, act_down, act_up, round_again};
+ghost use Rattle.tree_run.specs.Abstraction.{if_any, completion_of, links_in, begin_in, node_in, then_of, act_of};
 
 use crate::completions::{Completion, loop_continues};
-use crate::rows::Tree;
-use std::ops::Range;
-use values::rows::{
+use crate::ops::{
     BLOCK, BREAK, CASE, CONTINUE, DOWHILE, FOR, IF, INSTR, LABEL, PRUNED, RETURN, SCOPE, SWITCH,
     THROW, WHILE,
 };
+use crate::rows::Tree;
+use std::ops::Range;
 
 // Into a row, or out of it with a completion.
 #[derive(Clone, Copy, Debug, Drop, PartialEq, Eq)]
@@ -115,15 +115,16 @@ fn down_if(tree: &Tree, k: u32) -> Turn
 
 fn down_block(tree: &Tree, k: u32) -> Turn
     ensures { act_of tree.now.words.now (links_in tree.now) result
-        ≡ act [] (go (or_leave (first_of (word_at tree.now.words.now k 1) ((links_in tree.now).child k)) k)) }
+        ≡ act [] (go (or_leave ((links_in tree.now).child k) k)) }
 {
-    if tree.word(k, 1) == 0 {
-        return Turn::out_of(k, Completion::Normal);
+    match tree.child(k) {
+        None => Turn::out_of(k, Completion::Normal),
+        Some(first) => Turn::into(first),
     }
-    Turn::into(tree.child(k))
 }
 
 // An Implicit jump does nothing; an Unlabeled one has the empty target.
+// The kind is a row's word, 0 to 2: an enum of it would be made here and matched here.
 fn jump(tree: &Tree, k: u32) -> Completion
     ensures breaks { word_at tree.now.words.now k 0 ≡ 24
         → completion_of result ≡ jump_as (kind_of (word_at tree.now.words.now k 3)) (unless_none (word_at tree.now.words.now k 1)) k break }
@@ -152,8 +153,7 @@ fn test_end(tree: &Tree, k: u32) -> u32
     tree.begin(previous(first))
 }
 
-// Into row k. The op is a word of the lent rows, so it is a number here. Each op has its own arm: after `CASE | LABEL` the proof of the last arm does not see that
-// the op is neither.
+// Into row k. Each op has its own arm: after `CASE | LABEL` the proof of the last arm does not see that the op is neither.
 #[tactic(auto, unfolding(tree_runs::specs::Links::node_of, tree_runs::specs::Links::plains_from, tree_runs::specs::Acts::act_down))]
 pub fn down(tree: &Tree, k: u32) -> Turn
     ensures { act_of tree.now.words.now (links_in tree.now) result ≡ act_down (node_in tree.now k) k }
@@ -204,8 +204,7 @@ fn next_part(tree: &Tree, part: u32) -> Option<u32>
         let is_last = first == tree.begin(tree.parent(part));
         return (!is_last).then_some(previous(first));
     }
-    let next = tree.next(part);
-    (next != 0).then_some(next)
+    tree.next(part)
 }
 
 // After a part that completed so: on to the next, or out of row k with the completion `out`.

@@ -21,7 +21,7 @@ use Rattle.tree_runs.specs.Numbered.{close_value, end_instructions, close_statem
 use Rattle.tree_runs.specs.Numbered.{numbered_statement, numbered, numbered_cases}
 use Rattle.tree_runs.specs.Layout.{an_instr, a_block, an_if, a_switch, a_loop, a_label, a_leaf, Layout, Laid, LaidBlock, LaidList, LaidCases}
 use Rattle.tree_runs.specs.Links.{Links, before, parts_of, Parts, no_part, a_part, Linked, is_plain, plains_from, plains, kind_of, jump_as, cases_back}
-use Rattle.tree_runs.specs.Links.{for_node, node_of, unless_zero, case_before, is_case, next_of, parent_of, layout_of}
+use Rattle.tree_runs.specs.Links.{for_node, node_of, case_before, is_case, next_of, parent_of, layout_of}
 
 -- a jump's target is a block, and not none
 abbrev pub Targets : Row → Type 0
@@ -48,8 +48,8 @@ module _ (row_at : ℕ → Row) (t : Links) (number : ℕ) where
   targets : {r : Row} {list : List Row} (f : ℕ) → Stand f (r ∷ list) → Targets r
   targets f (stands e x k h) = x
 
-  linked : {r : Row} {list : List Row} (f : ℕ) → Stand f (r ∷ list) → Parts t f (parts_of r) f 0
-  linked f (stands e x k h) = subst (λ (z : Row). Parts t f (parts_of z) f 0) e k
+  linked : {r : Row} {list : List Row} (f : ℕ) → Stand f (r ∷ list) → Parts t f (parts_of r) f none
+  linked f (stands e x k h) = subst (λ (z : Row). Parts t f (parts_of z) f none) e k
 
   stand_le : (list : List Row) (f : ℕ) → Stand f list → f ≤ number
   stand_le [] f (at_end h) = omega (arith, h)
@@ -58,10 +58,10 @@ module _ (row_at : ℕ → Row) (t : Links) (number : ℕ) where
   inside : {r : Row} {list : List Row} (f : ℕ) → Stand f (r ∷ list) → f < number
   inside {r} {list} f h = stand_le list (suc f) (onward h)
 
-  part : {k n m later f : ℕ} → Parts t k (suc n) (suc m) later → t.begin m ≡ f → (t.parent m ≡ k) × (t.next m ≡ later) × Parts t k n f m
-  part {k} {n} {m} {later} {f} (a_part p q r) b = (p, q, subst (λ (c : ℕ). Parts t k n c m) b r)
+  part : {k n m f : ℕ} {later : Option ℕ} → Parts t k (suc n) (suc m) later → t.begin m ≡ f → (t.parent m ≡ k) × (t.next m ≡ later) × Parts t k n f (some m)
+  part {k} {n} {m} (a_part p q r) b = (p, q, subst (λ (c : ℕ). Parts t k n c (some m)) b r)
 
-  whole : {k f x : ℕ} → Parts t k 0 f x → (t.begin k ≡ f) × (t.child k ≡ x)
+  whole : {k f : ℕ} {x : Option ℕ} → Parts t k 0 f x → (t.begin k ≡ f) × (t.child k ≡ x)
   whole (no_part p q) = (p, q)
 
   -- ---- PLAINs
@@ -125,7 +125,7 @@ module _ (row_at : ℕ → Row) (t : Links) (number : ℕ) where
   pub record InstructionsAt (f : ℕ) (is : Instructions) (after : List Row) : Type 0 where
     performed : Plains f (end_instructions f is) (performs_all (numbered_instructions f is))
     pub rest : Stand (end_instructions f is) after
-    back : (k j x : ℕ) → Parts t k (count_instructions is + j) (end_instructions f is) x → (y : ℕ) × Parts t k j f y
+    back : (k j : ℕ) (x : Option ℕ) → Parts t k (count_instructions is + j) (end_instructions f is) x → (y : Option ℕ) × Parts t k j f y
 
   plain_of : {r : Row} {list : List Row} {y : Bool} (f : ℕ) → Stand f (r ∷ list) → is_plain r ≡ y → is_plain (row_at f) ≡ y
   plain_of f h q = ap (λ (z : Row). is_plain z) (the_row h) ∙ q
@@ -145,7 +145,7 @@ module _ (row_at : ℕ → Row) (t : Links) (number : ℕ) where
         let q = value_at v (end_instructions f is) (row 5 (count_instructions is) i 0 0 0 ∷ after) p.rest in
         let k : ℕ = suc (close_value (end_instructions f is) v) in
         let z = part (linked k q.rest) q.begins in
-        let y = p.back k 0 _ (subst (λ (n : ℕ). Parts t k n (end_instructions f is) (close_value (end_instructions f is) v)) (sym (add-zero (count_instructions is))) z.2) in
+        let y = p.back k 0 _ (subst (λ (n : ℕ). Parts t k n (end_instructions f is) (some (close_value (end_instructions f is) v))) (sym (add-zero (count_instructions is))) z.2) in
         record { begins = (whole y.1).0; performed = no_more (plains_both p.performed q.performed) (plain_of k q.rest refl); rest = onward q.rest }
     value_at (LOGICAL o l r) f after h =
         let p = value_at l f (value_rows r (row 6 o 0 0 0 0 ∷ after)) h in
@@ -184,7 +184,7 @@ module _ (row_at : ℕ → Row) (t : Links) (number : ℕ) where
           rest = q.rest;
           back = λ k j x z.
               let y = q.back k (suc j) x (subst (λ (n : ℕ). Parts t k n (end_instructions (suc m) r) x) (next_one (count_instructions r) j) z) in
-              (m, (part y.1 b).2);
+              (some m, (part y.1 b).2);
         }
 
   -- ---- statements
@@ -204,19 +204,15 @@ module _ (row_at : ℕ → Row) (t : Links) (number : ℕ) where
   case_of : {r : Row} {list : List Row} {y : Bool} (f : ℕ) → Stand f (r ∷ list) → is_case r ≡ y → is_case (row_at f) ≡ y
   case_of f h q = ap (λ (z : Row). is_case z) (the_row h) ∙ q
 
-  next_is : (m x : ℕ) → is_case (row_at m) ≡ false → t.next m ≡ x → L.next m ≡ unless_zero x
+  next_is : (m : ℕ) (x : Option ℕ) → is_case (row_at m) ≡ false → t.next m ≡ x → L.next m ≡ x
   unfolding next_of
-  next_is m x e q = ap (λ (y : Bool). elim y [ true ↦ case_before (t.begin m) (t.begin (t.parent m)) | false ↦ unless_zero (t.next m) ]) e ∙ ap (λ (z : ℕ). unless_zero z) q
+  next_is m x e q = ap (λ (y : Bool). elim y [ true ↦ case_before (t.begin m) (t.begin (t.parent m)) | false ↦ t.next m ]) e ∙ q
 
   next_case : (m f b : ℕ) → is_case (row_at m) ≡ true → t.begin m ≡ f → t.begin (t.parent m) ≡ b → L.next m ≡ case_before f b
   unfolding next_of
   next_case m f b e q p =
-      ap (λ (y : Bool). elim y [ true ↦ case_before (t.begin m) (t.begin (t.parent m)) | false ↦ unless_zero (t.next m) ]) e
+      ap (λ (y : Bool). elim y [ true ↦ case_before (t.begin m) (t.begin (t.parent m)) | false ↦ t.next m ]) e
       ∙ (ap (λ (z : ℕ). case_before z (t.begin (t.parent m))) q ∙ ap (λ (z : ℕ). case_before f z) p)
-
-  not_zero : (x : ℕ) → 0 < x → unless_zero x ≡ some x
-  not_zero zero h = absurd (omega (arith, h))
-  not_zero (suc n) h = refl
 
   label_read : (l : Option ℕ) → BelowNone l → unless_none (or_none l) ≡ l
   unfolding unless_none
@@ -250,15 +246,15 @@ module _ (row_at : ℕ → Row) (t : Links) (number : ℕ) where
   pub record ListAt (f : ℕ) (ss : Statements) (after : List Row) : Type 0 where
     up : f ≤ end_statements f ss
     pub rest : Stand (end_statements f ss) after
-    lays : (k j : ℕ) → 0 < f → end_statements f ss ≤ k → k < number → Parts t k (count_statements ss + j) (end_statements f ss) 0
-        → (x : ℕ) × Parts t k j f x × LaidList L k (numbered f ss) (unless_zero x)
+    lays : (k j : ℕ) → end_statements f ss ≤ k → k < number → Parts t k (count_statements ss + j) (end_statements f ss) none
+        → (x : Option ℕ) × Parts t k j f x × LaidList L k (numbered f ss) x
 
   pub record CasesAt (f : ℕ) (cs : Cases) (after : List Row) : Type 0 where
     up : f ≤ end_cases f cs
     pub rest : Stand (end_cases f cs) after
     back : (n : ℕ) (later : List ℕ) → cases_back t (count_cases cs + n) (before (end_cases f cs)) later ≡ cases_back t (count_cases cs) (before (end_cases f cs)) (cases_back t n (before f) later)
-    lays : (k j x : ℕ) → end_cases f cs ≤ k → k < number → Parts t k (count_cases cs + j) (end_cases f cs) x
-        → (y : ℕ) × Parts t k j f y × (t.begin k ≤ f → (all later : List ℕ) (next : Option ℕ) → case_before f (t.begin k) ≡ next
+    lays : (k j : ℕ) (x : Option ℕ) → end_cases f cs ≤ k → k < number → Parts t k (count_cases cs + j) (end_cases f cs) x
+        → (y : Option ℕ) × Parts t k j f y × (t.begin k ≤ f → (all later : List ℕ) (next : Option ℕ) → case_before f (t.begin k) ≡ next
         → cases_back t (count_cases cs) (before (end_cases f cs)) later ≡ all → LaidCases L k all (numbered_cases f cs) next later)
 
   -- the parts of a value, with its first row
@@ -266,12 +262,12 @@ module _ (row_at : ℕ → Row) (t : Links) (number : ℕ) where
   plains_up p = p.up
 
   -- a BLOCK, a value and their like as the only or the last part: the row's own numbers
-  last_part : {n m f : ℕ} {r : Row} {list : List Row} → Stand (suc m) (r ∷ list) → parts_of r ≡ suc n → t.begin m ≡ f → (L.parent m ≡ some (suc m)) × Parts t (suc m) n f m
+  last_part : {n m f : ℕ} {r : Row} {list : List Row} → Stand (suc m) (r ∷ list) → parts_of r ≡ suc n → t.begin m ≡ f → (L.parent m ≡ some (suc m)) × Parts t (suc m) n f (some m)
   last_part {n} {m} {f} {r} h e b =
-      let p = part (subst (λ (z : ℕ). Parts t (suc m) z (suc m) 0) e (linked (suc m) h)) b in
+      let p = part (subst (λ (z : ℕ). Parts t (suc m) z (suc m) none) e (linked (suc m) h)) b in
       (parent_is m (suc m) (le_refl (suc m)) (inside (suc m) h) p.0, p.2)
 
-  next_part : {k n m f x : ℕ} → Parts t k (suc n) (suc m) x → m < k → k < number → t.begin m ≡ f → (L.parent m ≡ some k) × Parts t k n f m
+  next_part : {k n m f : ℕ} {x : Option ℕ} → Parts t k (suc n) (suc m) x → m < k → k < number → t.begin m ≡ f → (L.parent m ≡ some k) × Parts t k n f (some m)
   next_part {k} {n} {m} q u v b = let p = part q b in (parent_is m k u v p.0, p.2)
 
   one_more : (n : ℕ) → suc n ≡ n + 1
@@ -367,7 +363,7 @@ module _ (row_at : ℕ → Row) (t : Links) (number : ℕ) where
     statement_at (SWITCH x i l cs) f after (wl, wc) h =
         let p = cases_at cs f (row 12 x (count_cases cs) i (or_none l) 0 ∷ after) wc h in
         let k : ℕ = end_cases f cs in
-        let z = p.lays k 0 0 (le_refl k) (inside k p.rest) (subst (λ (n : ℕ). Parts t k n k 0) (sym (add-zero (count_cases cs))) (linked k p.rest)) in
+        let z = p.lays k 0 none (le_refl k) (inside k p.rest) (subst (λ (n : ℕ). Parts t k n k none) (sym (add-zero (count_cases cs))) (linked k p.rest)) in
         let b : t.begin k ≡ f = (whole z.1).0 in
         record {
           begins = b;
@@ -560,7 +556,13 @@ module _ (row_at : ℕ → Row) (t : Links) (number : ℕ) where
         }
 
     pub block_at_lem : (ss : Statements) (f : ℕ) (after : List Row) → WellFormed ss → Stand f (block_rows ss after) → BlockAt f ss after
-    block_at_lem done f after w h = record { begins = (whole (linked f h)).0; up = le_refl f; laid = node_is f h; rest = onward h }
+    block_at_lem done f after w h =
+        record {
+          begins = (whole (linked f h)).0;
+          up = le_refl f;
+          laid = node_is f h ∙ ap (λ (e : Option ℕ). a_block e) (whole (linked f h)).1;
+          rest = onward h;
+        }
     block_at_lem (s ▸ r) f after (ws, wr) h =
         let p = statement_at s f (statements_rows r (row 9 (suc (count_statements r)) 0 0 0 0 ∷ after)) ws h in
         let m : ℕ = close_statement f s in
@@ -568,14 +570,14 @@ module _ (row_at : ℕ → Row) (t : Links) (number : ℕ) where
         let k : ℕ = end_statements (suc m) r in
         let u : suc m ≤ k = q.up in
         let y : f ≤ m = p.up in
-        let z = q.lays k 1 (omega arith) (le_refl k) (inside k q.rest) (subst (λ (n : ℕ). Parts t k n k 0) (one_more (count_statements r)) (linked k q.rest)) in
+        let z = q.lays k 1 (le_refl k) (inside k q.rest) (subst (λ (n : ℕ). Parts t k n k none) (one_more (count_statements r)) (linked k q.rest)) in
         let v = part z.1 p.begins in
         record {
           begins = (whole v.2).0;
           up = omega (arith, u, y);
           laid = (
             m,
-            node_is k q.rest ∙ ap (λ (e : ℕ). a_block (some e)) (whole v.2).1,
+            node_is k q.rest ∙ ap (λ (e : Option ℕ). a_block e) (whole v.2).1,
             parent_is m k (omega (arith, u)) (inside k q.rest) v.0,
             p.laid,
             subst (λ (e : Option ℕ). LaidList L k (numbered (suc m) r) e) (sym (next_is m z.0 p.not_case v.1)) z.2,
@@ -584,7 +586,7 @@ module _ (row_at : ℕ → Row) (t : Links) (number : ℕ) where
         }
 
     pub list_at : (ss : Statements) (f : ℕ) (after : List Row) → WellFormed ss → Stand f (statements_rows ss after) → ListAt f ss after
-    list_at done f after w h = record { up = le_refl f; rest = h; lays = λ k j g u v p. (0, subst (λ (n : ℕ). Parts t k n f 0) (zero-add j) p, refl) }
+    list_at done f after w h = record { up = le_refl f; rest = h; lays = λ k j u v p. (none, subst (λ (n : ℕ). Parts t k n f none) (zero-add j) p, refl) }
     list_at (s ▸ r) f after (ws, wr) h =
         let p = statement_at s f (statements_rows r after) ws h in
         let m : ℕ = close_statement f s in
@@ -594,14 +596,14 @@ module _ (row_at : ℕ → Row) (t : Links) (number : ℕ) where
         record {
           up = omega (arith, u, y);
           rest = q.rest;
-          lays = λ k j g w v d.
-              let z = q.lays k (suc j) (omega arith) w v (subst (λ (n : ℕ). Parts t k n (end_statements (suc m) r) 0) (next_one (count_statements r) j) d) in
+          lays = λ k j w v d.
+              let z = q.lays k (suc j) w v (subst (λ (n : ℕ). Parts t k n (end_statements (suc m) r) none) (next_one (count_statements r) j) d) in
               let e = part z.1 p.begins in (
-                m,
+                some m,
                 e.2,
                 (
                   m,
-                  not_zero m (omega (arith, g, y)),
+                  refl,
                   parent_is m k (omega (arith, u, w)) v e.0,
                   p.laid,
                   subst (λ (o : Option ℕ). LaidList L k (numbered (suc m) r) o) (sym (next_is m z.0 p.not_case e.1)) z.2,
@@ -633,7 +635,7 @@ module _ (row_at : ℕ → Row) (t : Links) (number : ℕ) where
           lays = λ k j d w v o.
               let z = q.lays k (suc j) d w v (subst (λ (n : ℕ). Parts t k n (end_cases (suc kc) r) d) (next_one (count_cases r) j) o) in
               let e = part z.1 bc in (
-                kc,
+                some kc,
                 e.2,
                 λ g all later next a i. (
                   kc,

@@ -13,10 +13,10 @@ pub record Links : Type 0 where
   pub begin : ℕ → ℕ
   -- the closing row of what it is a part of
   pub parent : ℕ → ℕ
-  -- the closing row of the part after it, or 0
-  pub next : ℕ → ℕ
-  -- the closing row of its first part, or 0
-  pub child : ℕ → ℕ
+  -- the closing row of the part after it, if there is one
+  pub next : ℕ → Option ℕ
+  -- the closing row of its first part, if it has any
+  pub child : ℕ → Option ℕ
 
 abbrev pub before : ℕ → ℕ
 before zero = zero
@@ -36,13 +36,13 @@ unfoldable pub parts_of : Row → ℕ
 parts_of (row op a b c d e) = get_or (parts_by_op a b c) op 0
 
 -- `count` parts of row k, from the last back: the last of them closes just before the row `cursor`, and `later` comes after it
-pub data Parts (t : Links) (k : ℕ) : (count cursor later : ℕ) → Type 0 where
-  no_part : {cursor later : ℕ} → t.begin k ≡ cursor → t.child k ≡ later → Parts t k 0 cursor later
-  a_part : {count m later : ℕ} → t.parent m ≡ k → t.next m ≡ later → Parts t k count (t.begin m) m → Parts t k (suc count) (suc m) later
+pub data Parts (t : Links) (k : ℕ) : (count cursor : ℕ) (later : Option ℕ) → Type 0 where
+  no_part : {cursor : ℕ} {later : Option ℕ} → t.begin k ≡ cursor → t.child k ≡ later → Parts t k 0 cursor later
+  a_part : {count m : ℕ} {later : Option ℕ} → t.parent m ≡ k → t.next m ≡ later → Parts t k count (t.begin m) (some m) → Parts t k (suc count) (suc m) later
 
 -- the links of a row's parts
 abbrev pub Linked : (row_at : ℕ → Row) → Links → ℕ → Type 0
-Linked row_at t k = Parts t k (parts_of (row_at k)) k 0
+Linked row_at t k = Parts t k (parts_of (row_at k)) k none
 
 -- ---- the layout
 
@@ -57,10 +57,6 @@ plains_from row_at f (suc count) = elim (is_plain (row_at f)) [ true ↦ f ∷ p
 -- those from f on and before e
 abbrev pub plains : (row_at : ℕ → Row) → (f e : ℕ) → List ℕ
 plains row_at f e = plains_from row_at f (e - f)
-
-abbrev pub first_of : (count child : ℕ) → Option ℕ
-first_of zero child = none
-first_of (suc count) child = some child
 
 abbrev pub kind_of : ℕ → Kind
 kind_of zero = implicit
@@ -106,7 +102,7 @@ nodes_by_op row_at t k a b c d =
     ∷ a_leaf (stop not_plain)
     ∷ a_leaf (stop not_plain)
     ∷ a_leaf (stop not_plain)
-    ∷ a_block (first_of a (t.child k))
+    ∷ a_block (t.child k)
     ∷ if_node t.begin k b (unless_none d)
     ∷ a_case (before k)
     ∷ a_switch (unless_none d) (cases_back t b (before k) [])
@@ -128,10 +124,6 @@ nodes_by_op row_at t k a b c d =
 unfoldable pub node_of : (ℕ → Row) → Links → ℕ → Row → Node
 node_of row_at t k (row op a b c d e) = get_or (nodes_by_op row_at t k a b c d) op (a_leaf (stop not_plain))
 
-abbrev pub unless_zero : ℕ → Option ℕ
-unless_zero zero = none
-unless_zero (suc n) = some (suc n)
-
 -- the next case in source order closes before this one begins
 abbrev pub case_before : (begin outer : ℕ) → Option ℕ
 case_before begin outer = elim (eqb begin outer) [ true ↦ none | false ↦ some (before begin) ]
@@ -140,7 +132,7 @@ abbrev pub is_case : Row → Bool
 is_case (row op a b c d e) = eqb op 11
 
 unfoldable pub next_of : Links → ℕ → Row → Option ℕ
-next_of t k r = elim (is_case r) [ true ↦ case_before (t.begin k) (t.begin (t.parent k)) | false ↦ unless_zero (t.next k) ]
+next_of t k r = elim (is_case r) [ true ↦ case_before (t.begin k) (t.begin (t.parent k)) | false ↦ t.next k ]
 
 unfoldable pub parent_of : Links → (number k : ℕ) → Option ℕ
 parent_of t number k = elim (eqb (suc k) number) [ true ↦ none | false ↦ some (t.parent k) ]
@@ -151,13 +143,13 @@ layout_of row_at t number = record { node = λ k. node_of row_at t k (row_at k);
 
 -- ---- how the links are made: row by row, and of a row from its last part back
 
-unfoldable pub put : (ℕ → ℕ) → (i v : ℕ) → ℕ → ℕ
+unfoldable pub put : {A : Type 0} → (ℕ → A) → (i : ℕ) (v : A) → ℕ → A
 put f i v j = elim (eqb j i) [ true ↦ v | false ↦ f j ]
 
 -- m is a part of row k, and `later` comes after it
-abbrev pub with_part : Links → (k m later : ℕ) → Links
+abbrev pub with_part : Links → (k m : ℕ) (later : Option ℕ) → Links
 with_part t k m later = record { begin = t.begin; parent = put t.parent m k; next = put t.next m later; child = t.child }
 
 -- `later` is the first part of row k
-abbrev pub with_row : Links → (k later : ℕ) → Links
+abbrev pub with_row : Links → (k : ℕ) (later : Option ℕ) → Links
 with_row t k later = record { begin = t.begin; parent = t.parent; next = t.next; child = put t.child k later }

@@ -3,15 +3,17 @@
 
 use build::file::build_file;
 use control::rule::Rule;
-use program::{PRINTED_BYTES, TABLE_BYTES, read_all, write_printed};
+use program::{PRINTED_BYTES, TABLE_BYTES, run};
 use text::lent::zeros;
 
 fn main(rt: HostRuntime) {
     let mut file = zeros::<u8, TABLE_BYTES>();
-    let Ok(count) = read_all(&rt, b"treebuild", &mut file) else {
-        return;
-    };
     let mut out = zeros::<u8, PRINTED_BYTES>();
-    let written = build_file(Rule::Rust, &file[..count], &mut out);
-    write_printed(&rt, b"treebuild", &out, written);
+    run(
+        &rt,
+        b"treebuild",
+        &mut file,
+        &mut out,
+        |file, out| build_file(Rule::Rust, file, out),
+    );
 }

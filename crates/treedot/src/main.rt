@@ -2,15 +2,11 @@
 #![tactic(auto)]
 
 use dot::file::draw_file;
-use program::{DRAWING_BYTES, TABLE_BYTES, read_all, write_printed};
+use program::{DRAWING_BYTES, TABLE_BYTES, run};
 use text::lent::zeros;
 
 fn main(rt: HostRuntime) {
     let mut file = zeros::<u8, TABLE_BYTES>();
-    let Ok(count) = read_all(&rt, b"treedot", &mut file) else {
-        return;
-    };
     let mut out = zeros::<u8, DRAWING_BYTES>();
-    let written = draw_file(&file[..count], &mut out);
-    write_printed(&rt, b"treedot", &out, written);
+    run(&rt, b"treedot", &mut file, &mut out, draw_file);
 }

@@ -2,15 +2,11 @@
 #![tactic(auto)]
 
 use order::file::order_file;
-use program::{PRINTED_BYTES, TABLE_BYTES, read_all, write_printed};
+use program::{PRINTED_BYTES, TABLE_BYTES, run};
 use text::lent::zeros;
 
 fn main(rt: HostRuntime) {
     let mut file = zeros::<u8, TABLE_BYTES>();
-    let Ok(count) = read_all(&rt, b"treeorder", &mut file) else {
-        return;
-    };
     let mut out = zeros::<u8, PRINTED_BYTES>();
-    let written = order_file(&file[..count], &mut out);
-    write_printed(&rt, b"treeorder", &out, written);
+    run(&rt, b"treeorder", &mut file, &mut out, order_file);
 }

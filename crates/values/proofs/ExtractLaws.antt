@@ -1,42 +1,34 @@
 -- The value of a block's instructions: the last of them, with the others in a sequence before it.
 use mathlib.Core.Path.{◌≡◌, refl, sym, ap, ◌∙◌}
-use mathlib.Core.Bool.{Bool, true, false, ◌&&◌}
+use mathlib.Core.Bool.{Bool, true, false, not, ◌&&◌}
 use mathlib.Core.List.{List, [], ◌∷◌}
-use mathlib.Core.Option.{none}
-use Prim.Native.Nat.{ℕ, zero, suc, ◌+◌, ◌-◌, ◌≤◌, ◌<◌}
+use Prim.Native.Nat.{ℕ, zero, suc, ◌+◌, ◌-◌, ◌<◌}
 use native.Mathlib.Omega.{arith}
 use lib.Dec.{eqb}
 use borrow.Author.Tests.{ne_eqb, eqb-true, eqb-false}
 use Rattle.table.specs.declared.columns.Span.{Span}
-use Rattle.table.specs.Words.{block_count, instruction_count, place_count, identifier_count, place_word, identifier_word, code_at, operation_code_at}
-use Rattle.table.specs.Table.{Table, Instruction, Operation, other, load_local, store_local, table_of, instruction_of, operation_of, terminal_at, block_at, instruction_at, instruction_rows_at, rows_from, is_goto}
-use Rattle.table.specs.Promise.{Promise, Heads, Instructs, Operates}
+use Rattle.table.specs.Words.{place_count, identifier_count, place_word, identifier_word}
+use Rattle.table.specs.Table.{Operation, other, load_local, store_local, table_of, Variant, goto, terminal_at, block_at, instruction_at, instruction_rows_at, rows_from, is_goto}
+use Rattle.table.specs.Promise as table
+use Rattle.table.specs.Promise.{Promise, Heads, Instructs, Operates, OperandsInRange}
 use Rattle.table.proofs.ColumnLaws.{head_rows}
-use Rattle.table.proofs.TableLaws.{instruction_at_lem, place_at, named_at}
-use Rattle.table.proofs.RangeLaws.{operation_known}
-use Rattle.table.proofs.BlockLaws.{code_at_lem}
+use Rattle.table.proofs.TableLaws.{place_at, named_at}
 use Rattle.std.specs.Prelude.{Some, None}
+use Rattle.table.specs.declared.columns.Operation as code
+use Rattle.table.specs.declared.columns.Operation.TheVariants as operation
+use Rattle.table.specs.declared.terminals.Terminal as end
+use Rattle.table.specs.declared.terminals.Terminal.TheVariants as end_as
+use Rattle.table.specs.declared.terminals.Goto.{Goto}
+use Rattle.table.specs.Ending.{ending, operating}
+use Rattle.values.proofs.EndingLaws.{no_goto}
+use Rattle.std.specs.Bool.{then_some}
 use Rattle.definition.specs.Result.{Result, ok, refused}
 use Rattle.definition.specs.Tree.{PLAIN, LOAD}
-use Rattle.definition.specs.Value.{ValueBlockResult, wrap_with_sequence, final_value, final_place, stored_to_named, all_but_last, last, extract_value_block_result, extract_or_refuse, branch_value, loaded_by, is_empty, is_empty_goto}
-use Rattle.values.specs.Met.{loads, Ends, unnamed_store, Loaded}
+use Rattle.definition.specs.Value.{ValueBlockResult, wrap_with_sequence, final_value, final_place, stored_to_named, all_but_last, last, extract_value_block_result, extract_or_refuse, branch_value, is_empty, is_empty_goto}
+use Rattle.values.specs.Met.{loads, Ends, UnnamedStore}
 use Rattle.values.proofs.MetLaws.{wrap}
 
 -- ---- one instruction, by its operation
-
-module _ (t : Table) (p q : ℕ) where
-  only_store : (code : ℕ) → code ≤ 2 → stored_to_named t (operation_of code p q) ≡ 0 → code ≡ 2
-  unfolding stored_to_named operation_of
-  only_store zero h e = absurd (omega arith)
-  only_store (suc zero) h e = absurd (omega arith)
-  only_store (suc (suc zero)) h e = refl
-  only_store (suc (suc (suc n))) h e = absurd (omega arith)
-
-  no_load : (code : ℕ) → (code ≡ 1 → ⊥) → loaded_by (operation_of code p q) ≡ none
-  unfolding operation_of
-  no_load zero f = refl
-  no_load (suc zero) f = absurd (f refl)
-  no_load (suc (suc n)) f = refl
 
 plain_value : (i : ℕ) (o : Operation) (named : ℕ) → (named ≡ 0 → ⊥) → final_value i o named ≡ PLAIN i
 unfolding final_value
@@ -52,57 +44,40 @@ plain_place l (load_local p) n f = refl
 plain_place l (store_local p q) zero f = absurd (f refl)
 plain_place l (store_local p q) (suc n) f = refl
 
--- whether what an instruction stores to is named: 0 is a store to an unnamed identifier
-abbrev name : List ℕ → ℕ → ℕ
-name ws i = stored_to_named (table_of ws) (instruction_at (table_of ws) i).operation
+module _ {ws : List ℕ} (p : Promise ws) {to value identifier : ℕ} (inside : OperandsInRange (place_count ws) (store_local to value)) (e : identifier ≡ place_word ws to) where
+  pub place_identifier : identifier < identifier_count ws
+  place_identifier = rw e (p.place to inside.0)
 
-module _ {ws : List ℕ} {i : ℕ} (p : Promise ws) (inside : i < instruction_count ws) where
-  pub store_code : unnamed_store ws i ≡ true → operation_code_at ws i ≡ 2
-  unfolding instruction_of
-  store_code e =
-      let named : name ws i ≡ 0 = eqb-true (name ws i) 0 e in
-      only_store (table_of ws) _ _ _ (operation_known ws p i inside) (rw (instruction_at_lem ws i inside) at named)
-
-  pub no_store : {code : ℕ} → code ≡ operation_code_at ws i → (code ≡ 2 → ⊥) → false ≡ unnamed_store ws i
-  no_store c f = by (unnamed_store ws i) refl
-    where
-      by : (y : Bool) → unnamed_store ws i ≡ y → false ≡ y
-      by true e = absurd (f (c ∙ store_code e))
-      by false e = refl
-
-  pub store_named : {to value identifier name : ℕ} → Operates ws i (store_local to value) → identifier ≡ place_word ws to → name ≡ identifier_word ws identifier → eqb name 0 ≡ unnamed_store ws i
+  -- the name of what a StoreLocal stores to
+  name_is : stored_to_named (table_of ws) (store_local to value) ≡ identifier_word ws identifier
   unfolding stored_to_named
-  store_named {to} {identifier} o e n =
-      let known : place_word ws to < identifier_count ws = p.place to o.named.0 in
-      rw (o.is, place_at ws to 0 o.named.0, named_at ws (place_word ws to) 0 known, n, e)
+  name_is = rw (place_at ws to 0 inside.0, named_at ws (place_word ws to) 0 (p.place to inside.0), e)
 
-  pub loads_none : {code : ℕ} → code ≡ operation_code_at ws i → (code ≡ 1 → ⊥) → Loaded ws i None
-  unfolding instruction_of
-  loads_none c f = record {
-    same = sym (ap (λ (k : Instruction). loaded_by k.operation) (instruction_at_lem ws i inside) ∙ no_load (table_of ws) _ _ _ (λ e. f (c ∙ e)));
-    there = tt;
-  }
+  pub stores_unnamed : {named : Bool} → named ≡ not (eqb (identifier_word ws identifier) 0) → UnnamedStore ws (store_local to value) (then_some (not named) (to, value))
+  stores_unnamed {named = named} n = by (eqb (identifier_word ws identifier) 0) refl named n
+    where
+      by : (y : Bool) → eqb (identifier_word ws identifier) 0 ≡ y → (named : Bool) → named ≡ not (eqb (identifier_word ws identifier) 0) → UnnamedStore ws (store_local to value) (then_some (not named) (to, value))
+      by true e named q = rw (q, e) (refl, name_is ∙ eqb-true _ 0 e)
+      by false e named q = rw (q, e) (λ z. eqb-false _ 0 e (sym name_is ∙ z))
 
-pub loads_place : {ws : List ℕ} {i place : ℕ} → Operates ws i (load_local place) → Loaded ws i (Some place)
-loads_place {place = place} o = record { same = sym (ap loaded_by o.is); there = o.named }
+-- no other operation stores
+pub other_stores : (ws : List ℕ) (o : code.Operation) → ((to value : ℕ) → o ≡ operation.StoreLocal to value → ⊥) → UnnamedStore ws (operating o) None
+unfolding stored_to_named
+other_stores ws operation.Other f = λ z. omega (arith, z)
+other_stores ws (operation.LoadLocal place) f = λ z. omega (arith, z)
+other_stores ws (operation.StoreLocal to value) f = absurd (f to value refl)
 
-pub place_identifier : {ws : List ℕ} {place identifier : ℕ} → Promise ws → place < place_count ws → identifier ≡ place_word ws place → identifier < identifier_count ws
-place_identifier {place = place} p h e = rw e (p.place place h)
-
-module _ {ws : List ℕ} {i id lvalue : ℕ} {span : Span} (head : Instructs ws i id lvalue span) (block visits : ℕ) where
+module _ {ws : List ℕ} {i id lvalue : ℕ} {span : Span} (head : Instructs ws i id lvalue span) (block visits : ℕ) {o : Operation} (is : (instruction_at (table_of ws) i).operation ≡ o) where
   -- "Last instruction StoreLocal to an unnamed identifier"
-  pub extract_load : {to value : ℕ} → Operates ws i (store_local to value) → unnamed_store ws i ≡ true
+  pub extract_load : {to value : ℕ} → o ≡ store_local to value → stored_to_named (table_of ws) o ≡ 0
       → extract_value_block_result (table_of ws) block i [] visits ≡ record { block = block; place = to; value = LOAD value; id = id; visits = visits }
   unfolding extract_value_block_result last all_but_last wrap_with_sequence final_value final_place
-  extract_load o e = rw (eqb-true (name ws i) 0 e) (rw (o.is, head.is_id))
+  extract_load e n = rw (is, n) (rw (e, head.is_id))
 
-  pub extract_plain : unnamed_store ws i ≡ false
+  pub extract_plain : (stored_to_named (table_of ws) o ≡ 0 → ⊥)
       → extract_value_block_result (table_of ws) block i [] visits ≡ record { block = block; place = lvalue; value = PLAIN i; id = id; visits = visits }
   unfolding extract_value_block_result last all_but_last wrap_with_sequence
-  extract_plain e =
-      let o : Operation = (instruction_at (table_of ws) i).operation in
-      let f = eqb-false (name ws i) 0 e in
-      rw (plain_value i o (name ws i) f, plain_place (instruction_at (table_of ws) i).lvalue o (name ws i) f, head.is_id, head.is_lvalue)
+  extract_plain f = rw is (rw (plain_value i o (stored_to_named (table_of ws) o) f, plain_place (instruction_at (table_of ws) i).lvalue o (stored_to_named (table_of ws) o) f, head.is_id, head.is_lvalue))
 
 -- ---- several instructions
 
@@ -163,9 +138,9 @@ load_ends h = record { sequences = refl; instructions = refl; loaded = refl; the
 -- ---- an empty Goto block
 
 module _ {ws : List ℕ} {block first count id : ℕ} {span : Span} (head : Heads ws block first count id span) where
-  goto_by : (rows : List ℕ) → rows_from first count ≡ rows → is_empty_goto (block_at (table_of ws) block) ≡ is_empty rows && is_goto (terminal_at (table_of ws) block)
+  goto_by : (list : List ℕ) → rows_from first count ≡ list → is_empty_goto (block_at (table_of ws) block) ≡ is_empty list && is_goto (terminal_at (table_of ws) block)
   unfolding is_empty_goto
-  goto_by rows e = ap (λ (l : List ℕ). is_empty l && is_goto (terminal_at (table_of ws) block)) (head_rows head ∙ e)
+  goto_by list e = ap (λ (l : List ℕ). is_empty l && is_goto (terminal_at (table_of ws) block)) (head_rows head ∙ e)
 
   pub goto_full : (count ≡ 0 → ⊥) → eqb count 0 ≡ is_empty_goto (block_at (table_of ws) block)
   goto_full f = ne_eqb count 0 f ∙ by first count f ∙ sym (goto_by (rows_from first count) refl)
@@ -174,5 +149,8 @@ module _ {ws : List ℕ} {block first count id : ℕ} {span : Span} (head : Head
       by first zero g = absurd (g refl)
       by first (suc n) g = refl
 
-  pub goto_empty : {code : ℕ} → Promise ws → block < block_count ws → count ≡ 0 → code ≡ code_at ws block → eqb code 4 ≡ is_empty_goto (block_at (table_of ws) block)
-  goto_empty p h e c = ap (λ (k : ℕ). eqb k 4) (c ∙ sym (code_at_lem ws block p h)) ∙ sym (goto_by [] (ap (rows_from first) e))
+  pub goto_empty : {x : ℕ} {v : Variant} → table.Ends ws block (goto x v) → count ≡ 0 → true ≡ is_empty_goto (block_at (table_of ws) block)
+  goto_empty ends e = ap is_goto (sym ends.is) ∙ sym (goto_by [] (ap (rows_from first) e))
+
+  pub other_empty : (e : end.Terminal) → table.Ends ws block (ending e) → ((x : Goto) → e ≡ end_as.Goto x → ⊥) → count ≡ 0 → false ≡ is_empty_goto (block_at (table_of ws) block)
+  other_empty e ends f z = sym (no_goto e f) ∙ ap is_goto (sym ends.is) ∙ sym (goto_by [] (ap (rows_from first) z))

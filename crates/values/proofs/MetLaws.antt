@@ -29,7 +29,7 @@ use Rattle.values.specs.Met.{loads, block_result, Fit, Ends, Found, Begun, Numbe
 -- ---- steps
 
 -- a `?` hands on the refusal that it meets
-pub handed_on : {T : Type 0} {r : std.Result T Refused} {e : Refused} → IsErr r × IsErrAnd r (λ y. y ≡ e) → r ≡ Err e
+pub handed_on : {T E : Type 0} {r : std.Result T E} {e : E} → IsErr r × IsErrAnd r (λ y. y ≡ e) → r ≡ Err e
 handed_on {r = Ok t} h = absurd h.1
 handed_on {r = Err y} h = ap Err h.1
 

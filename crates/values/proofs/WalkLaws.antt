@@ -2,17 +2,19 @@
 use mathlib.Core.Path.{◌≡◌, refl, sym, ap, ◌∙◌}
 use mathlib.Core.Bool.{Bool, true, false}
 use mathlib.Core.List.{List}
-use mathlib.Core.Option.{Option, none}
-use Prim.Native.Nat.{ℕ, zero, suc, ◌+◌, ◌-◌, ◌≤◌, ◌<◌}
+use mathlib.Core.Option.{Option}
+use Prim.Native.Nat.{ℕ, zero, suc, ◌+◌, ◌-◌, ◌≤◌}
 use native.Mathlib.Numerals.{add-one}
 use native.Mathlib.Omega.{arith}
 use lib.Dec.{eqb, leb}
-use borrow.Author.Tests.{eq-eqb, ne_eqb, lt-leb}
+use borrow.Author.Tests.{lt-leb}
 use Rattle.table.specs.declared.columns.Span.{Span}
-use Rattle.table.specs.Words.{block_count, code_at}
-use Rattle.table.specs.Table.{Table, Block, Terminal, absent, unreachable, throw, return, goto, if, branch, switch, do_while, while, for, for_of, for_in, logical, ternary, optional, label, sequence, maybe_throw, try, scope, table_of, terminal_of, terminal_at, block_at, instruction_rows_at, code_of, is_absent}
-use Rattle.table.specs.Promise.{Promise, Ends, Heads}
-use Rattle.table.proofs.BlockLaws.{end_by, code_at_lem}
+use Rattle.table.specs.Table.{Table, Terminal, Variant, goto, branch, label, maybe_throw, table_of, terminal_at, block_at, instruction_rows_at, is_absent}
+use Rattle.table.specs.declared.terminals.Terminal as code
+use Rattle.table.specs.declared.terminals.Terminal.TheVariants as end_as
+use Rattle.table.specs.declared.terminals.Branch.{Branch}
+use Rattle.table.specs.Ending.{ending}
+use Rattle.table.specs.Promise.{Ends, Heads}
 use Rattle.table.proofs.ColumnLaws.{head_rows}
 use Rattle.definition.specs.Result.{Result, ok, refused, ◌>>=◌, refuse_if}
 use Rattle.definition.specs.Value as definition
@@ -28,6 +30,7 @@ use Rattle.std.specs.Option.{option_eq}
 use Rattle.std.specs.Prelude as std
 use Rattle.values.specs.Met.{block_result, Fit, Met}
 use Rattle.values.specs.WalkOutcome.{visit, block_outcome, terminal_outcome}
+use Rattle.values.proofs.EndingLaws.{OtherEnd, NoValue, other_end, no_value, no_ways}
 use Rattle.values.proofs.MetLaws.{wrap, unless_on, unless_off, defined, moved, stops}
 
 -- ---- a visit
@@ -66,9 +69,6 @@ module _ {ws : List ℕ} {tally : Tally} {block : ℕ} (fit : Fit ws tally 0 blo
   abbrev outcome : Result definition.ValueBlockResult
   outcome = visit ws levels block (maybe_of fallthrough) span visits
 
-  missing_at : is_absent (terminal_at t block) ≡ eqb (code_at ws block) 0
-  missing_at = ap (λ (k : ℕ). eqb k 0) (code_at_lem ws block fit.promise fit.at)
-
   -- "Order at a visit: 30, 31, 10, then 11 or 23"
   pub visit_30 : levels ≡ 0 → outcome ≡ refused 30 block visits
   unfolding visit_value_block
@@ -82,37 +82,37 @@ module _ {ws : List ℕ} {tally : Tally} {block : ℕ} (fit : Fit ws tally 0 blo
     unfolding ◌>>=◌ refuse_if
     visit_31 e = begin _ (begin_by t block visits true (is_absent (terminal_at t block)) (rw e) refl)
 
-    module _ (few : visits ≡ 8192 → ⊥) {code : ℕ} (known : code ≡ code_at ws block) where
-      begins : (missing : Bool) → eqb (code_at ws block) 0 ≡ missing
+    module _ (few : visits ≡ 8192 → ⊥) {absent : Bool} (known : absent ≡ is_absent (terminal_at t block)) where
+      begins : (missing : Bool) → absent ≡ missing
           → outcome ≡ begun t (visit ws (levels - 1)) block (maybe_of fallthrough) span (refuse_if missing 10 block (suc visits) >>= λ _. ok (suc visits))
       unfolding ◌>>=◌ refuse_if
-      begins missing e = begin _ (begin_by t block visits false missing (lt-leb 8192 visits (omega (arith, fit.visits))) (missing_at ∙ e))
+      begins missing q = begin _ (begin_by t block visits false missing (lt-leb 8192 visits (omega (arith, fit.visits))) (sym known ∙ q))
 
-      pub visit_10 : code ≡ 0 → outcome ≡ refused 10 block (visits + 1)
+      pub visit_10 : absent ≡ true → outcome ≡ refused 10 block (visits + 1)
       unfolding ◌>>=◌ refuse_if
-      visit_10 e = rw (add-one visits) (begins true (eq-eqb (code_at ws block) 0 (sym known ∙ e)))
+      visit_10 q = rw (add-one visits) (begins true q)
 
-      module _ (there : code ≡ 0 → ⊥) where
+      module _ (there : absent ≡ false) where
         -- what the visit gives once it has begun, and the fallthrough is not reached
         at_end : Result definition.ValueBlockResult
         at_end = visit_value_block_at t (visit ws (levels - 1)) (terminal_at t block) block (block_at t block) (maybe_of fallthrough) span (suc visits)
 
         reaches : (this : Bool) → is_fallthrough (maybe_of fallthrough) block ≡ this → outcome ≡ (refuse_if this 23 block (suc visits) >>= λ _. at_end)
         unfolding ◌>>=◌ refuse_if at_end
-        reaches this e =
-            begins false (ne_eqb (code_at ws block) 0 (λ q. there (known ∙ q))) ∙ ap (λ (y : Bool). refuse_if y 23 block (suc visits) >>= λ _. at_end) e
+        reaches this q = begins false there ∙ ap (λ (y : Bool). refuse_if y 23 block (suc visits) >>= λ _. at_end) q
 
         pub visit_23 : option_eq eqb fallthrough (Some block) ≡ true → outcome ≡ refused 23 block (visits + 1)
         unfolding ◌>>=◌ refuse_if
-        visit_23 e = rw (add-one visits) (reaches true (this_is fallthrough block ∙ e))
+        visit_23 q = rw (add-one visits) (reaches true (this_is fallthrough block ∙ q))
 
         pub visit_on : option_eq eqb fallthrough (Some block) ≡ false → outcome ≡ block_outcome ws (levels - 1) block fallthrough span (visits + 1)
         unfolding ◌>>=◌ refuse_if at_end
-        visit_on e = rw (add-one visits) (reaches false (this_is fallthrough block ∙ e))
+        visit_on q = rw (add-one visits) (reaches false (this_is fallthrough block ∙ q))
 
 -- the visit has begun, and its fallthrough is not reached: the value is what the block's end gives
-pub visit_begun : {ws : List ℕ} {tally : Tally} {block code n : ℕ} {b b' : List ℕ} {r : std.Result ValueBlockResult Refused} (fit : Fit ws tally 0 block) (levels : ℕ)
-    (fallthrough : std.Option ℕ) (span : Span) → (levels ≡ 0 → ⊥) → (tally.visits ≡ 8192 → ⊥) → code ≡ code_at ws block → (code ≡ 0 → ⊥) → option_eq eqb fallthrough (Some block) ≡ false
+pub visit_begun : {ws : List ℕ} {tally : Tally} {block n : ℕ} {b b' : List ℕ} {r : std.Result ValueBlockResult Refused} (fit : Fit ws tally 0 block) (levels : ℕ)
+    (fallthrough : std.Option ℕ) (span : Span) → (levels ≡ 0 → ⊥) → (tally.visits ≡ 8192 → ⊥) → {absent : Bool} → absent ≡ is_absent (terminal_at (table_of ws) block) → absent ≡ false
+    → option_eq eqb fallthrough (Some block) ≡ false
     → Met ws block_result (block_outcome ws (levels - 1) block fallthrough span (tally.visits + 1)) (begun_tally tally) n b r b' → n ≤ 8200
     → Met ws block_result (visit ws levels block (maybe_of fallthrough) span tally.visits) tally 0 b r b'
 visit_begun fit levels fallthrough span more few known there passed met most =
@@ -125,88 +125,7 @@ pub visit_full : {ws : List ℕ} {tally : Tally} {block : ℕ} {b b' : List ℕ}
 visit_full {block = block} fit levels fallthrough span more full e =
     defined (visit_31 fit levels fallthrough span more full) (stops (TooManyVisits block) _ e (record { visits = fit.visits; rises = omega arith }))
 
--- neither absent nor one of the three ends that a value block treats by themselves
-pub record OtherEnd (code : ℕ) : Type 0 where
-  pub not_0 : code ≡ 0 → ⊥
-  pub not_4 : code ≡ 4 → ⊥
-  pub not_6 : code ≡ 6 → ⊥
-  pub not_18 : code ≡ 18 → ⊥
-
--- ---- by the block's code
-
-other_end : (t : Table) (deeper : VisitValueBlock) (m : Terminal) (number : ℕ) (block : Block) (fallthrough : Option ℕ) (span : Span) (visits : ℕ)
-    → (code_of m ≡ 4 → ⊥) → (code_of m ≡ 6 → ⊥) → (code_of m ≡ 18 → ⊥)
-    → visit_value_block_at t deeper m number block fallthrough span visits ≡ then_fallthrough t deeper block span (visit_value_block_terminal t deeper m block.id block.span visits number)
-unfolding visit_value_block_at
-other_end t v absent n k ft s w f g e = refl
-other_end t v unreachable n k ft s w f g e = refl
-other_end t v (throw x) n k ft s w f g e = refl
-other_end t v (return x) n k ft s w f g e = refl
-other_end t v (goto x y) n k ft s w f g e = absurd (f refl)
-other_end t v (if x y z a) n k ft s w f g e = refl
-other_end t v (branch x y z) n k ft s w f g e = absurd (g refl)
-other_end t v (switch x y z a) n k ft s w f g e = refl
-other_end t v (do_while x y z) n k ft s w f g e = refl
-other_end t v (while x y z) n k ft s w f g e = refl
-other_end t v (for x y z a b) n k ft s w f g e = refl
-other_end t v (for_of x y z a) n k ft s w f g e = refl
-other_end t v (for_in x y z) n k ft s w f g e = refl
-other_end t v (logical x y z) n k ft s w f g e = refl
-other_end t v (ternary x y) n k ft s w f g e = refl
-other_end t v (optional x y z) n k ft s w f g e = refl
-other_end t v (label x y) n k ft s w f g e = refl
-other_end t v (sequence x y) n k ft s w f g e = refl
-other_end t v (maybe_throw x) n k ft s w f g e = absurd (e refl)
-other_end t v (try x y z a) n k ft s w f g e = refl
-other_end t v (scope x y z a) n k ft s w f g e = refl
-
-no_value : (t : Table) (deeper : VisitValueBlock) (m : Terminal) (id : ℕ) (span : Span) (visits at : ℕ) → (12 < code_of m → code_of m < 19 → ⊥)
-    → visit_value_block_terminal t deeper m id span visits at ≡ refused 27 at visits
-unfolding visit_value_block_terminal
-no_value t v absent i s w a f = refl
-no_value t v unreachable i s w a f = refl
-no_value t v (throw x) i s w a f = refl
-no_value t v (return x) i s w a f = refl
-no_value t v (goto x y) i s w a f = refl
-no_value t v (if x y z u) i s w a f = refl
-no_value t v (branch x y z) i s w a f = refl
-no_value t v (switch x y z u) i s w a f = refl
-no_value t v (do_while x y z) i s w a f = refl
-no_value t v (while x y z) i s w a f = refl
-no_value t v (for x y z u b) i s w a f = refl
-no_value t v (for_of x y z u) i s w a f = refl
-no_value t v (for_in x y z) i s w a f = refl
-no_value t v (logical x y z) i s w a f = absurd (f (omega arith) (omega arith))
-no_value t v (ternary x y) i s w a f = absurd (f (omega arith) (omega arith))
-no_value t v (optional x y z) i s w a f = absurd (f (omega arith) (omega arith))
-no_value t v (label x y) i s w a f = absurd (f (omega arith) (omega arith))
-no_value t v (sequence x y) i s w a f = absurd (f (omega arith) (omega arith))
-no_value t v (maybe_throw x) i s w a f = absurd (f (omega arith) (omega arith))
-no_value t v (try x y z u) i s w a f = refl
-no_value t v (scope x y z u) i s w a f = refl
-
-no_ways : (m : Terminal) → (code_of m ≡ 6 → ⊥) → branch_ways m ≡ none
-no_ways absent f = refl
-no_ways unreachable f = refl
-no_ways (throw x) f = refl
-no_ways (return x) f = refl
-no_ways (goto x y) f = refl
-no_ways (if x y z u) f = refl
-no_ways (branch x y z) f = absurd (f refl)
-no_ways (switch x y z u) f = refl
-no_ways (do_while x y z) f = refl
-no_ways (while x y z) f = refl
-no_ways (for x y z u w) f = refl
-no_ways (for_of x y z u) f = refl
-no_ways (for_in x y z) f = refl
-no_ways (logical x y z) f = refl
-no_ways (ternary x y) f = refl
-no_ways (optional x y z) f = refl
-no_ways (label x y) f = refl
-no_ways (sequence x y) f = refl
-no_ways (maybe_throw x) f = refl
-no_ways (try x y z u) f = refl
-no_ways (scope x y z u) f = refl
+-- ---- by the block's end
 
 module _ (ws : List ℕ) (block levels : ℕ) where
   abbrev table : Table
@@ -219,35 +138,30 @@ module _ (ws : List ℕ) (block levels : ℕ) where
     abbrev ends_so : Result definition.ValueBlockResult
     ends_so = block_outcome ws levels block fallthrough span visits
 
-    pub at_goto : block < block_count ws → code_at ws block ≡ 4 → ends_so ≡ extract_or_refuse table block (instruction_rows_at table block) visits 24 block
-    unfolding visit_value_block_at terminal_of
-    at_goto h e = ap by_end (end_by ws block h 4 e)
+    pub at_goto : {next : ℕ} {v : Variant} → Ends ws block (goto next v) → ends_so ≡ extract_or_refuse table block (instruction_rows_at table block) visits 24 block
+    unfolding visit_value_block_at
+    at_goto ends = ap by_end ends.is
 
     pub at_branch : {test consequent alternate : ℕ} → Ends ws block (branch test consequent alternate)
         → ends_so ≡ branch_value table block test (block_at table block).id (instruction_rows_at table block) visits
     unfolding visit_value_block_at
     at_branch ends = ap by_end ends.is
 
-    pub at_other : {code : ℕ} → Promise ws → block < block_count ws → code ≡ code_at ws block → OtherEnd code
+    pub at_other : (e : code.Terminal) → Ends ws block (ending e) → OtherEnd e
         → ends_so ≡ then_fallthrough table (visit ws levels) (block_at table block) span (terminal_outcome ws levels block visits)
-    at_other p h known other =
-        let c = known ∙ sym (code_at_lem ws block p h) in
-        other_end table (visit ws levels) (terminal_at table block) block (block_at table block) (maybe_of fallthrough) span visits
-        (λ e. other.not_4 (c ∙ e)) (λ e. other.not_6 (c ∙ e)) (λ e. other.not_18 (c ∙ e))
+    at_other e ends other =
+        rw ends.is (other_end table (visit ws levels) e other block (block_at table block) (maybe_of fallthrough) span visits)
 
     -- MaybeThrow, by its continuation. "That continuation is looked up first, before any visit: 10 if missing."
-    module _ {next : ℕ} (ends : Ends ws block (maybe_throw next)) (p : Promise ws) {code : ℕ} (known : code ≡ code_at ws next) where
-      missing_is : (missing : Bool) → eqb code 0 ≡ missing → is_absent (terminal_at table next) ≡ missing
-      missing_is missing e = ap (λ (k : ℕ). eqb k 0) (code_at_lem ws next p ends.named ∙ sym known) ∙ e
-
-      pub maybe_throw_missing : code ≡ 0 → ends_so ≡ refused 10 next visits
+    module _ {next : ℕ} (ends : Ends ws block (maybe_throw next)) {missing : Bool} (known : missing ≡ is_absent (terminal_at table next)) where
+      pub maybe_throw_missing : missing ≡ true → ends_so ≡ refused 10 next visits
       unfolding visit_value_block_at
-      maybe_throw_missing e = ap by_end ends.is ∙ unless_on _ 10 next visits _ (missing_is true (eq-eqb code 0 e))
+      maybe_throw_missing e = ap by_end ends.is ∙ unless_on _ 10 next visits _ (sym known ∙ e)
 
-      module _ (there : code ≡ 0 → ⊥) {empty : Bool} (asked : empty ≡ is_empty_goto (block_at table next)) where
+      module _ (there : missing ≡ false) {empty : Bool} (asked : empty ≡ is_empty_goto (block_at table next)) where
         goes_on : (y : Bool) → empty ≡ y → ends_so ≡ maybe_throw_value table (visit ws levels) block next (instruction_rows_at table block) (maybe_of fallthrough) span visits y
         unfolding visit_value_block_at
-        goes_on y e = ap by_end ends.is ∙ unless_off _ 10 next visits _ (missing_is false (ne_eqb code 0 there))
+        goes_on y e = ap by_end ends.is ∙ unless_off _ 10 next visits _ (sym known ∙ there)
             ∙ ap (maybe_throw_value table (visit ws levels) block next (instruction_rows_at table block) (maybe_of fallthrough) span visits) (sym asked ∙ e)
 
         pub maybe_throw_own : empty ≡ true → ends_so ≡ extract_or_refuse table next (instruction_rows_at table block) visits 28 block
@@ -268,19 +182,16 @@ module _ (ws : List ℕ) (block levels : ℕ) where
     pub terminal_by : {e : Terminal} {first count id : ℕ} {span : Span} → Ends ws block e → Heads ws block first count id span → terminal_outcome ws levels block visits ≡ with_end e id span
     terminal_by ends head = rw (ends.is, head.is_id, head.is_span)
 
-    module _ (h : block < block_count ws) where
-      pub terminal_label : code_at ws block ≡ 16 → terminal_outcome ws levels block visits ≡ refused 26 block visits
-      unfolding terminal_of visit_value_block_terminal
-      terminal_label e = ap (λ (m : Terminal). with_end m (block_at table block).id (block_at table block).span) (end_by ws block h 16 e)
+    pub terminal_label : {x f : ℕ} → Ends ws block (label x f) → terminal_outcome ws levels block visits ≡ refused 26 block visits
+    unfolding visit_value_block_terminal
+    terminal_label ends = ap (λ (m : Terminal). with_end m (block_at table block).id (block_at table block).span) ends.is
 
-      pub terminal_maybe_throw : code_at ws block ≡ 18 → terminal_outcome ws levels block visits ≡ refused 92 block visits
-      unfolding terminal_of visit_value_block_terminal
-      terminal_maybe_throw e = ap (λ (m : Terminal). with_end m (block_at table block).id (block_at table block).span) (end_by ws block h 18 e)
+    pub terminal_maybe_throw : {next : ℕ} → Ends ws block (maybe_throw next) → terminal_outcome ws levels block visits ≡ refused 92 block visits
+    unfolding visit_value_block_terminal
+    terminal_maybe_throw ends = ap (λ (m : Terminal). with_end m (block_at table block).id (block_at table block).span) ends.is
 
-      pub terminal_other : Promise ws → (12 < code_at ws block → code_at ws block < 19 → ⊥) → terminal_outcome ws levels block visits ≡ refused 27 block visits
-      terminal_other p f =
-          let c = code_at_lem ws block p h in
-          no_value table (visit ws levels) (terminal_at table block) (block_at table block).id (block_at table block).span visits block (λ a b. f (rw c at a) (rw c at b))
+    pub terminal_other : (e : code.Terminal) → Ends ws block (ending e) → NoValue e → terminal_outcome ws levels block visits ≡ refused 27 block visits
+    terminal_other e ends not_value = rw ends.is (no_value table (visit ws levels) e not_value (block_at table block).id (block_at table block).span visits block)
 
 -- ---- a test, by its end
 
@@ -293,6 +204,6 @@ module _ (ws : List ℕ) (test : definition.ValueBlockResult) (at : ℕ) where
   unfolding test_block_ended
   ended_branch ends = ap (λ (m : Terminal). test_block_ended test (branch_ways m) at) ends.is
 
-  pub ended_other : Promise ws → test.block < block_count ws → (code_at ws test.block ≡ 6 → ⊥) → ended ≡ refused 25 at test.visits
+  pub ended_other : (e : code.Terminal) → Ends ws test.block (ending e) → ((end : Branch) → e ≡ end_as.Branch end → ⊥) → ended ≡ refused 25 at test.visits
   unfolding test_block_ended
-  ended_other p h f = ap (λ (w : Option Ways). test_block_ended test w at) (no_ways (terminal_at (table_of ws) test.block) (λ q. f (sym (code_at_lem ws test.block p h) ∙ q)))
+  ended_other e ends f = rw ends.is (ap (λ (w : Option Ways). test_block_ended test w at) (no_ways e f))

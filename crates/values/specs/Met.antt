@@ -1,13 +1,12 @@
 -- What the functions of the value walk promise: the definition's result or refusal, and the rows of its value in the buffer.
-use Rattle.std.specs.Prelude.{◌≡◌, Bool, List, ◌∷◌, ℕ, suc, ◌+◌, ◌*◌, ◌≤◌, ◌<◌, eqb, Ok, Err, None, IfOk, IfSome, MatchResult}
+use Rattle.std.specs.Prelude.{◌≡◌, List, ◌∷◌, ℕ, suc, ◌+◌, ◌*◌, ◌≤◌, ◌<◌, Ok, Err, None, Some, IfOk, IfSome, MatchResult}
 use Rattle.std.specs.Prelude as std
 use Rattle.table.specs.declared.columns.Span.{Span}
 use Rattle.table.specs.Words.{block_count, place_count}
-use Rattle.table.specs.Table.{table_of, instruction_at, rows_from}
-use Rattle.table.specs.Promise.{Promise}
+use Rattle.table.specs.Table.{Operation, store_local, table_of, rows_from}
 use Rattle.definition.specs.Result.{Result, ok}
 use Rattle.definition.specs.Tree.{Row, row, Value, PLAIN, LOAD, UNDEF, SEQ, LOGICAL, COND, OPTIONAL, count_instructions}
-use Rattle.definition.specs.Value.{ValueBlockResult, ValueTerminalResult, stored_to_named, innermost_value, loaded_place, loaded_by, value_block_result_to_sequence}
+use Rattle.definition.specs.Value.{ValueBlockResult, ValueTerminalResult, stored_to_named, innermost_value, loaded_place, value_block_result_to_sequence}
 use Rattle.table.specs.Columns.{maybe_of}
 use Rattle.values.specs.Refusal.{refused_by}
 use Rattle.values.specs.Rows.{placed, Holds}
@@ -38,7 +37,6 @@ answered of (Err e) value = refused_by e
 
 -- What a visit of a block requires: the block is there; the count of rows cannot wrap, since each visit pays for 8,200 rows and `spare` of them are not used yet
 pub record Fit (words : List ℕ) (tally : Tally) (spare block : ℕ) : Type 0 where
-  pub promise : Promise words
   pub at : block < block_count words
   pub visits : tally.visits ≤ 8192
   pub room : tally.rows + spare ≤ 1000000000 + 8200 * tally.visits
@@ -127,18 +125,13 @@ pub record Wrapped (count : ℕ) (v : code.ValueBlockResult) (buffer : List ℕ)
   pub visits : r.tally.visits ≡ v.tally.visits
   pub most : r.tally.rows ≤ v.tally.rows + 1
 
--- the place that an instruction loads, if it is a LoadLocal
-pub record Loaded (words : List ℕ) (i : ℕ) (place : std.Option ℕ) : Type 0 where
-  pub same : maybe_of place ≡ loaded_by (instruction_at (table_of words) i).operation
-  pub there : IfSome place (λ p. p < place_count words)
-
--- whether an instruction stores to an identifier that is not named
-abbrev pub unnamed_store : List ℕ → ℕ → Bool
-unnamed_store words i = eqb (stored_to_named (table_of words) (instruction_at (table_of words) i).operation) 0
+-- what an instruction stores, the place and the value, if it is a StoreLocal to an identifier that is not named
+abbrev pub UnnamedStore : List ℕ → Operation → std.Option (ℕ × ℕ) → Type 0
+UnnamedStore words operation None = stored_to_named (table_of words) operation ≡ 0 → ⊥
+UnnamedStore words operation (Some store) = (operation ≡ store_local store.0 store.1) × (stored_to_named (table_of words) operation ≡ 0)
 
 -- what value_block_result_to_sequence requires of a result; `Found` gives it
 pub record Flattens (words : List ℕ) (result : code.ValueBlockResult) : Type 0 where
-  pub promise : Promise words
   pub place : result.place < place_count words
   pub there : IfSome result.trailing.loaded (λ p. p < place_count words)
   pub more : result.trailing.sequences + result.trailing.instructions < result.tally.rows

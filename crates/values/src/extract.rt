@@ -1,81 +1,89 @@
 // The value of a block's instructions: the last of them, with the others in a sequence before it.
-ghost use Rattle.std.specs.Prelude.{◌≡◌, ◌+◌, ◌<◌, Ok};
+ghost use Rattle.std.specs.Prelude.{◌≡◌, ℕ, ◌+◌, ◌<◌, Ok, IfSome};
 ghost use Rattle.table.specs.Words.{block_count, instruction_count, place_count};
+ghost use Rattle.table.specs.Columns.{maybe_of};
+ghost use Rattle.table.specs.Ending.{operating};
 ghost use Rattle.table.specs.Table.{table_of, block_at};
-ghost use Rattle.table.specs.Promise.{Promise};
-ghost use Rattle.definition.specs.Value.{is_empty_goto};
+ghost use Rattle.table.specs.Promise.{OperandsInRange};
+ghost use Rattle.definition.specs.Value.{is_empty_goto, loaded_by};
 ghost use Rattle.values.specs.Refusal.{code_of, place_of};
-ghost use Rattle.values.specs.Met.{block_result, Fit, Met, Wrappable, Wrapped, Loaded, unnamed_store};
+ghost use Rattle.values.specs.Met.{block_result, Fit, Met, UnnamedStore, Wrappable, Wrapped};
 ghost use Rattle.values.specs.Outcome.{run_outcome, extract_outcome, branch_outcome};
 
 use crate::instructions::put_instructions;
+use crate::op::Op;
 use crate::refusal::{Refusal, Refused};
 use crate::result::{Tally, Trailing, ValueBlockResult};
-use crate::rows::{LOAD, PLAIN, SEQ};
 use crate::steps::{loading, put_row};
-use table::columns::{
-    block_at, code_at, instruction_at, load_local_at, operation_code_at, store_local_at,
-};
-use table::words::{identifier_word, place_word};
-
-// Whether an instruction is a StoreLocal to an identifier with no name.
-fn stores_to_unnamed(words: &[u32], i: u32) -> bool
-    requires promise { Promise words.now }
-    requires i_bound { i < instruction_count words.now }
-    ensures { result ≡ unnamed_store words.now i }
-{
-    if operation_code_at(words, i) != 2 {
-        return false;
-    }
-    let identifier = place_word(words, store_local_at(words, i).stored_to);
-    identifier_word(words, identifier) == 0
-}
+use table::Table;
+use table::columns::Operation;
+use table::terminals::Terminal;
 
 // The place that a LoadLocal loads.
-fn loaded_by(words: &[u32], i: u32) -> Option<u32>
-    requires promise { Promise words.now }
-    requires i_bound { i < instruction_count words.now }
-    ensures { Loaded words.now i result }
+fn loaded_by(operation: Operation) -> Option<u32>
+    ensures loaded { maybe_of result ≡ loaded_by (operating operation) }
+    ensures there { (places : ℕ) → OperandsInRange places (operating operation) → IfSome result (λ p. p < places) }
 {
-    if operation_code_at(words, i) != 1 {
-        return None;
+    match operation {
+        Operation::LoadLocal { place } => Some(place),
+        _ => None,
     }
-    Some(load_local_at(words, i).place)
+}
+
+// The place stored to, and the one whose value is stored, by a StoreLocal to an identifier with no name.
+fn unnamed_store(table: Table<'_>, operation: Operation) -> Option<(u32, u32)>
+    requires { OperandsInRange (place_count table.words.now) (operating operation) }
+    ensures { UnnamedStore table.entry.words.now (operating operation) result }
+{
+    match operation {
+        Operation::StoreLocal {
+            stored_to,
+            stored_value,
+        } => {
+            let unnamed = !table.is_named(table.identifier(stored_to));
+            unnamed.then_some((stored_to, stored_value))
+        }
+        _ => None,
+    }
 }
 
 // The value of one instruction, the last of its block. "Last instruction StoreLocal to an unnamed identifier: the value is a LOAD of the place
 // whose value is stored (q), and the result's place is the one stored to (p)."
+// (`Fit` is of the tally and the block of each call: see value_walk.rt.)
 fn final_value(
-    words: &[u32],
+    table: Table<'_>,
     buffer: &mut [u32],
     tally: Tally,
     i: u32,
     block: u32,
 ) -> ValueBlockResult
-    requires fit { Fit words.now tally 1 block }
-    requires i_bound { i < instruction_count words.now }
-    ensures { Met words.now block_result (run_outcome words.now block i 0 tally.visits) tally 1 buffer.old (Ok result) buffer.new }
+    requires fit { Fit table.words.now tally 1 block }
+    requires i_bound { i < instruction_count table.words.now }
+    ensures { Met table.entry.words.now block_result (run_outcome table.entry.words.now block i 0 tally.visits) tally 1 buffer.old (Ok result) buffer.new }
 {
-    let head = instruction_at(words, i);
-    if stores_to_unnamed(words, i) {
-        let store = store_local_at(words, i);
-        let load = put_row(buffer, tally, LOAD, store.stored_value, 0);
-        return ValueBlockResult {
-            block,
-            place: store.stored_to,
-            id: head.id,
-            tally: load,
-            trailing: loading(Some(store.stored_value)),
-        };
-    }
-    let loaded = loaded_by(words, i);
-    let plain = put_row(buffer, tally, PLAIN, i, 0);
-    ValueBlockResult {
-        block,
-        place: head.lvalue,
-        id: head.id,
-        tally: plain,
-        trailing: loading(loaded),
+    let head = table.instruction(i);
+    let operation = table.operation(i);
+    match unnamed_store(table, operation) {
+        Some((stored_to, stored_value)) => {
+            let load = put_row(buffer, tally, Op::Load, stored_value, 0);
+            ValueBlockResult {
+                block,
+                place: stored_to,
+                id: head.id,
+                tally: load,
+                trailing: loading(Some(stored_value)),
+            }
+        }
+        None => {
+            let plain = put_row(buffer, tally, Op::Plain, i, 0);
+            ValueBlockResult {
+                block,
+                place: head.lvalue,
+                id: head.id,
+                tally: plain,
+                trailing: loading(loaded_by(operation)),
+            }
+        }
     }
 }
 
@@ -91,7 +99,7 @@ pub fn wrap_with_sequence(
     if count == 0 {
         return value;
     }
-    let seq = put_row(buffer, value.tally, SEQ, count, value.id);
+    let seq = put_row(buffer, value.tally, Op::Seq, count, value.id);
     let end = value.trailing;
     let trailing = Trailing {
         sequences: end.sequences + 1,
@@ -107,38 +115,38 @@ pub fn wrap_with_sequence(
 
 // The value of the instruction `first` and the `more` ones after it: the last, with the others in a sequence before it.
 fn extract_value_block_result(
-    words: &[u32],
+    table: Table<'_>,
     buffer: &mut [u32],
     tally: Tally,
     block: u32,
     first: u32,
     more: u32,
 ) -> ValueBlockResult
-    requires fit { Fit words.now tally 8192 block }
-    requires more_bound { first + more < instruction_count words.now }
-    ensures { Met words.now block_result (run_outcome words.now block first more tally.visits) tally 8192 buffer.old (Ok result) buffer.new }
+    requires fit { Fit table.words.now tally 8192 block }
+    requires more_bound { first + more < instruction_count table.words.now }
+    ensures { Met table.entry.words.now block_result (run_outcome table.entry.words.now block first more tally.visits) tally 8192 buffer.old (Ok result) buffer.new }
 {
-    let rows = put_instructions(words, buffer, tally.rows, first, more);
+    let rows = put_instructions(table, buffer, tally.rows, first, more);
     let after = Tally { rows, ..tally };
-    let value = final_value(words, buffer, after, first + more, block);
+    let value = final_value(table, buffer, after, first + more, block);
     wrap_with_sequence(buffer, more, value)
 }
 
 // The value of the instructions of `block`; the refusal where it has none. The result's block is `ends_in`.
 #[inline(always)]
 pub(crate) fn extract_or_refuse(
-    words: &[u32],
+    table: Table<'_>,
     buffer: &mut [u32],
     tally: Tally,
     block: u32,
     ends_in: u32,
     refusal: Refusal,
 ) -> Result<ValueBlockResult, Refused>
-    requires fit { Fit words.now tally 8192 block }
-    requires ends_in_bound { ends_in < block_count words.now }
-    ensures { Met words.now block_result (extract_outcome words.now block ends_in (code_of refusal) (place_of refusal) tally.visits) tally 8192 buffer.old result buffer.new }
+    requires fit { Fit table.words.now tally 8192 block }
+    requires ends_in_bound { ends_in < block_count table.words.now }
+    ensures { Met table.entry.words.now block_result (extract_outcome table.entry.words.now block ends_in (code_of refusal) (place_of refusal) tally.visits) tally 8192 buffer.old result buffer.new }
 {
-    let head = block_at(words, block);
+    let head = table.block(block);
     if head.count == 0 {
         return Err(Refused {
             refusal,
@@ -146,25 +154,25 @@ pub(crate) fn extract_or_refuse(
         });
     }
     let more = head.count - 1;
-    Ok(extract_value_block_result(words, buffer, tally, ends_in, head.first, more))
+    Ok(extract_value_block_result(table, buffer, tally, ends_in, head.first, more))
 }
 
 // A Branch on `test`: its last instruction, or a LOAD of the test where it has none.
 #[inline(always)]
 pub fn branch_value(
-    words: &[u32],
+    table: Table<'_>,
     buffer: &mut [u32],
     tally: Tally,
     block: u32,
     test: u32,
 ) -> ValueBlockResult
-    requires fit { Fit words.now tally 8192 block }
-    requires test_bound { test < place_count words.now }
-    ensures { Met words.now block_result (branch_outcome words.now block test tally.visits) tally 8192 buffer.old (Ok result) buffer.new }
+    requires fit { Fit table.words.now tally 8192 block }
+    requires test_bound { test < place_count table.words.now }
+    ensures { Met table.entry.words.now block_result (branch_outcome table.entry.words.now block test tally.visits) tally 8192 buffer.old (Ok result) buffer.new }
 {
-    let head = block_at(words, block);
+    let head = table.block(block);
     if head.count == 0 {
-        let load = put_row(buffer, tally, LOAD, test, 0);
+        let load = put_row(buffer, tally, Op::Load, test, 0);
         return ValueBlockResult {
             block,
             place: test,
@@ -173,14 +181,13 @@ pub fn branch_value(
             trailing: loading(Some(test)),
         };
     }
-    extract_value_block_result(words, buffer, tally, block, head.first, head.count - 1)
+    extract_value_block_result(table, buffer, tally, block, head.first, head.count - 1)
 }
 
 // Whether a block is a Goto with no instruction.
-pub fn is_empty_goto(words: &[u32], block: u32) -> bool
-    requires promise { Promise words.now }
-    requires block_bound { block < block_count words.now }
-    ensures { result ≡ is_empty_goto (block_at (table_of words.now) block) }
+pub fn is_empty_goto(table: Table<'_>, block: u32) -> bool
+    requires block_bound { block < block_count table.words.now }
+    ensures { result ≡ is_empty_goto (block_at (table_of table.entry.words.now) block) }
 {
-    block_at(words, block).count == 0 && code_at(words, block) == 4
+    table.block(block).count == 0 && matches!(table.terminal(block), Terminal::Goto(_))
 }

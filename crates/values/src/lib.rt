@@ -1,6 +1,8 @@
 // Values: rows in the lent buffer, what a block's own instructions make, and the value walk.
 #![tactic(auto)]
 
+// The ops of tree rows.
+pub mod op;
 // Tree rows in a lent buffer: six words each, written where a whole place is left, and counted in any case.
 pub mod rows;
 // The results of the value walk's steps, and the rows that they put.

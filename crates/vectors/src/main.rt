@@ -3,12 +3,13 @@
 // number of each vector that differs, then how many there are, how many differ, and how many bytes are left.
 #![tactic(auto)]
 
+use build::answer::BuildError;
 use build::build_reactive_function;
 use program::read_part;
 use std::fs::File;
 use std::io;
 use text::lent::zeros;
-use walk::Outcome;
+use walk::answer::{Numbered, Walked};
 
 // The bytes that are left.
 #[derive(Drop)]
@@ -16,7 +17,7 @@ struct Reader<'a> {
     rest: &'a [u8],
 }
 
-impl<'a> Reader<'a> {
+impl Reader<'_> {
     // A byte; 0 past the end.
     fn byte(&mut self) -> u8 {
         match self.rest.split_first() {
@@ -51,7 +52,7 @@ impl<'a> Reader<'a> {
 }
 
 // What the Rust answers.
-#[derive(Clone, Copy)]
+#[derive(Clone, Copy, PartialEq, Eq)]
 struct Answer {
     code: u32,
     at: u32,
@@ -60,11 +61,22 @@ struct Answer {
 }
 
 impl Answer {
-    fn is(&self, got: &Outcome) -> bool {
-        got.code == self.code
-            && got.at == self.at
-            && got.rows == self.rows
-            && got.visits == self.visits
+    // The same numbers of what is built here.
+    fn of(got: Result<Walked, BuildError>) -> Answer {
+        match got {
+            Ok(built) => Answer {
+                code: 0,
+                at: 0,
+                rows: built.rows,
+                visits: built.visits,
+            },
+            Err(error) => Answer {
+                code: error.code(),
+                at: error.place(),
+                rows: error.rows(),
+                visits: error.visits(),
+            },
+        }
     }
 
     // The number of words that the rows take: 0 where the build refuses.
@@ -78,7 +90,12 @@ impl Answer {
 }
 
 // Builds the table in the first `count` words, with `lent` words lent. The index has room for the lines of any table (M-101): the Rust has none to compare.
-fn build_part(words: &[u32], count: u32, tree: &mut [u32], lent: u32) -> Outcome {
+fn build_part(
+    words: &[u32],
+    count: u32,
+    tree: &mut [u32],
+    lent: u32,
+) -> Result<Walked, BuildError> {
     let end = words.len().min(count as usize);
     let room = tree.len().min(lent as usize);
     let mut index = zeros::<u32, 3072>();
@@ -87,6 +104,7 @@ fn build_part(words: &[u32], count: u32, tree: &mut [u32], lent: u32) -> Outcome
 }
 
 // Whether the first `count` words are the same.
+// (No slices: the number is the file's, which may be beyond both.)
 fn same_words(left: &[u32], right: &[u32], count: u32) -> bool {
     let count = count as usize;
     count <= left.len() && count <= right.len() && left[..count] == right[..count]
@@ -111,7 +129,7 @@ fn replay(
     reader.words(answer.held(), expected);
     tree.fill(7);
     let got = build_part(words, count, tree, lent);
-    answer.is(&got) && same_words(tree, expected, lent)
+    Answer::of(got) == answer && same_words(tree, expected, lent)
 }
 
 fn replay_all(rt: &impl Print, bytes: &[u8]) -> io::Result<()> {

@@ -7,8 +7,7 @@ use mathlib.Core.Path.{◌≡◌, refl, sym, ap, ◌∙◌, subst}
 use mathlib.Core.Bool.{Bool, true, false}
 use mathlib.Core.Option.{Option, none, some}
 use lib.ListN.{length, get_or, set, length-set}
-use Rattle.table.specs.Table.{unless_none}
-use Rattle.table.proofs.BlockLaws.{no_number, some_number}
+use Rattle.table.specs.Columns.{maybe_of}
 use Rattle.definition.specs.Context.{Flags, add, emit, remove, block_asked, scheduled_by, schedule_catch_handler, mark_scope_fallthrough, unscheduled_by}
 use Rattle.definition.specs.Context.{ControlFlowTarget, target_if, target_switch, target_case, target_loop}
 use Rattle.definition.specs.Context as definition
@@ -17,7 +16,6 @@ use Rattle.control.specs.declared.ControlFlowTarget as code
 use Rattle.control.specs.declared.Context.{Context}
 use Rattle.control.specs.declared.Entry.{Entry}
 use Rattle.control.specs.declared.Blocked as control
-use Rattle.control.specs.declared.Blocked.TheVariants as reason
 use Rattle.control.specs.Abstraction.{target_of, no_entry, context_of, blocked_number, result_by, stored}
 use Rattle.control.specs.Contract.{Named, Room, Bounded, Last, Scheduled, Unscheduled}
 use Rattle.control.proofs.ContextLaws.{stores}
@@ -35,11 +33,11 @@ emitted none cx = cx
 emitted (some block) cx = emit block cx
 
 -- the Context with its sets marked
-abbrev pub with_marks : (visited handler fallthrough : ℕ) → Context → Context
+abbrev pub with_marks : (visited handler fallthrough : std.Option ℕ) → Context → Context
 with_marks visited handler fallthrough cx = record {
-  emitted = marked (unless_none visited) cx.emitted;
-  catch_handlers = marked (unless_none handler) cx.catch_handlers;
-  scope_fallthroughs = marked (unless_none fallthrough) cx.scope_fallthroughs;
+  emitted = marked (maybe_of visited) cx.emitted;
+  catch_handlers = marked (maybe_of handler) cx.catch_handlers;
+  scope_fallthroughs = marked (maybe_of fallthrough) cx.scope_fallthroughs;
   len = cx.len;
   scheduled = cx.scheduled;
   pushed = cx.pushed;
@@ -49,8 +47,8 @@ with_marks visited handler fallthrough cx = record {
 }
 
 -- the three sets as the calls of `mark` leave them
-pub marks_as : (visited handler fallthrough asked : ℕ) (cx : Context) (emitted handlers scopes : Flags) → asked ≡ visited → emitted ≡ marked (unless_none asked) cx.emitted
-    → handlers ≡ marked (unless_none handler) cx.catch_handlers → scopes ≡ marked (unless_none fallthrough) cx.scope_fallthroughs
+pub marks_as : (visited handler fallthrough asked : std.Option ℕ) (cx : Context) (emitted handlers scopes : Flags) → asked ≡ visited → emitted ≡ marked (maybe_of asked) cx.emitted
+    → handlers ≡ marked (maybe_of handler) cx.catch_handlers → scopes ≡ marked (maybe_of fallthrough) cx.scope_fallthroughs
     → record {
       emitted = emitted;
       catch_handlers = handlers;
@@ -83,16 +81,15 @@ pub record Changed (change : std.Option Change) (cx r : Context) : Type 0 where
 -- a change that `schedule` refuses
 pub record Blocked (change : std.Option Change) (cx : Context) (code at : ℕ) : Type 0 where
   pub context : (visits : ℕ) → changed change (context_of visits cx) ≡ refused code at visits
-  pub refuses : code ≡ 0 → ⊥
 
-pub record Applicable (visited : ℕ) (plan : Plan) (cx : Context) : Type 0 where
-  pub block : Below 1024 (unless_none visited)
-  pub handler : Below 1024 (unless_none plan.handler)
-  pub scope : Below 1024 (unless_none plan.scope)
+pub record Applicable (visited : std.Option ℕ) (plan : Plan) (cx : Context) : Type 0 where
+  pub block : Below 1024 (maybe_of visited)
+  pub handler : Below 1024 (maybe_of plan.handler)
+  pub scope : Below 1024 (maybe_of plan.scope)
   pub change : Changeable plan.change cx
   pub whole : Whole cx
 
-pub record Applied (visited : ℕ) (plan : Plan) (cx r : Context) : Type 0 where
+pub record Applied (visited : std.Option ℕ) (plan : Plan) (cx r : Context) : Type 0 where
   pub context : (visits : ℕ) → changed plan.change (context_of visits (with_marks visited plan.handler plan.scope cx)) ≡ ok (context_of visits r)
   pub whole : Whole r
 
@@ -108,11 +105,6 @@ length_scheduled (target_switch b) s = length-set s b true
 length_scheduled (target_case b) s = length-set s b true
 length_scheduled (target_loop b c l) s = length-set (set (set s b true) c true) l true ∙ length-set (set s b true) c true ∙ length-set s b true
 
--- no refusal of `schedule` has the number 0
-refuses : (reason : control.Blocked) → blocked_number reason ≡ 0 → ⊥
-refuses reason.ContinueBlock e = omega (arith, e)
-refuses reason.Block e = omega (arith, e)
-
 -- whether the target that went on is refused, as `schedule` tells
 module _ (target : code.ControlFlowTarget) (cx r : Context) (h : Scheduled target cx r) (w : Whole cx) where
   asked_of : block_asked (target_of r.pushed.target) ≡ block_asked (target_of target)
@@ -121,7 +113,6 @@ module _ (target : code.ControlFlowTarget) (cx r : Context) (h : Scheduled targe
   pub schedule_blocked : {reason : control.Blocked} → r.refused ≡ Some reason → Blocked (Some (Schedule target)) cx (blocked_number reason) (block_asked (target_of target))
   schedule_blocked {reason} b = record {
     context = λ visits. h.context visits ∙ ap (λ (o : std.Option control.Blocked). result_by o visits r) b ∙ ap (λ (at : ℕ). refused (blocked_number reason) at visits) asked_of;
-    refuses = refuses reason;
   }
 
   long : length r.stack ≡ 1152
@@ -178,30 +169,19 @@ marks_by (some b) none (some f) cx visits = refl
 marks_by (some b) (some h) none cx visits = refl
 marks_by (some b) (some h) (some f) cx visits = refl
 
-pub marks : (visited handler fallthrough : ℕ) (cx : Context) (visits : ℕ)
-    → context_of visits (with_marks visited handler fallthrough cx) ≡ scoped (unless_none fallthrough) (handled (unless_none handler) (emitted (unless_none visited) (context_of visits cx)))
-marks visited handler fallthrough cx visits = marks_by (unless_none visited) (unless_none handler) (unless_none fallthrough) cx visits
+pub marks : (visited handler fallthrough : std.Option ℕ) (cx : Context) (visits : ℕ)
+    → context_of visits (with_marks visited handler fallthrough cx) ≡ scoped (maybe_of fallthrough) (handled (maybe_of handler) (emitted (maybe_of visited) (context_of visits cx)))
+marks visited handler fallthrough cx visits = marks_by (maybe_of visited) (maybe_of handler) (maybe_of fallthrough) cx visits
 
-pub changeable_marked : (change : std.Option Change) (visited handler fallthrough : ℕ) (cx : Context) → Changeable change cx → Changeable change (with_marks visited handler fallthrough cx)
+pub changeable_marked : (change : std.Option Change) (visited handler fallthrough : std.Option ℕ) (cx : Context) → Changeable change cx → Changeable change (with_marks visited handler fallthrough cx)
 changeable_marked None visited handler fallthrough cx h = tt
 changeable_marked (Some (Schedule target)) visited handler fallthrough cx (n, r) = (n, record { len = r.len; id = r.id })
 changeable_marked (Some Unschedule) visited handler fallthrough cx h = h
 
-pub plan_applied : (visited : ℕ) (plan : Plan) (cx m r : Context) → m ≡ with_marks visited plan.handler plan.scope cx → Changed plan.change m r → Applied visited plan cx r
+pub plan_applied : (visited : std.Option ℕ) (plan : Plan) (cx m r : Context) → m ≡ with_marks visited plan.handler plan.scope cx → Changed plan.change m r → Applied visited plan cx r
 plan_applied visited plan cx m r e h = record { context = λ visits. ap (λ (z : Context). changed plan.change (context_of visits z)) (sym e) ∙ h.context visits; whole = h.whole }
 
--- ---- one mark
-
-pub marked_none : (n : ℕ) (flags : Flags) → n ≡ 65535 → flags ≡ marked (unless_none n) flags
-marked_none n flags e = ap (λ (o : Option ℕ). marked o flags) (sym (ap unless_none e ∙ no_number))
-
-pub marked_some : (n : ℕ) (flags : Flags) → (n ≡ 65535 → ⊥) → add flags n ≡ marked (unless_none n) flags
-marked_some n flags h = ap (λ (o : Option ℕ). marked o flags) (sym (some_number n h))
-
-pub below_block : (n : ℕ) → Below 1024 (unless_none n) → (n ≡ 65535 → ⊥) → n < 1024
-below_block n b h = subst (λ (o : Option ℕ). Below 1024 o) (some_number n h) b
-
-pub whole_marked : (visited handler fallthrough : ℕ) (cx : Context) → Whole cx → Whole (with_marks visited handler fallthrough cx)
+pub whole_marked : (visited handler fallthrough : std.Option ℕ) (cx : Context) → Whole cx → Whole (with_marks visited handler fallthrough cx)
 whole_marked visited handler fallthrough cx w = record { bounded = w.bounded; wide = w.wide; tall = w.tall }
 
 -- ---- what the methods ask

@@ -1,23 +1,23 @@
 -- The loop of the walk: what a turn needs, and what it leaves.
-use Rattle.std.specs.Prelude.{None, Some, Ok, Err}
+use Rattle.std.specs.Prelude.{None, Some, Ok, Err, is_some}
 use Rattle.std.specs.Prelude as std
 use Prim.Native.Nat.{ℕ, zero, suc, ◌+◌, ◌-◌, ◌≤◌, ◌<◌}
 use native.Mathlib.Omega.{arith}
 use mathlib.Core.Path.{◌≡◌, refl, sym, ap, ◌∙◌, subst}
 use mathlib.Core.Bool.{Bool, true, false}
 use mathlib.Core.List.{List, [], ◌∷◌, ◌++◌}
-use mathlib.Core.Option.{Option, none, some}
+use mathlib.Core.Option.{Option}
 use lib.Dec.{eqb}
 use lib.ListN.{length, drop, get_or, set, length-set, length-replicate}
 use lib.Seq.{get_or-set_same, get_or-set_other}
 use borrow.Author.Tests.{eqb-true, eqb-false}
 use Rattle.table.specs.Words.{block_count, entry_word}
 use Rattle.table.specs.Promise.{Promise}
-use Rattle.table.specs.Table.{Table, table_of, terminal_at, unless_none}
+use Rattle.table.specs.Columns.{maybe_of}
+use Rattle.table.specs.Table.{Table, table_of, terminal_at}
 use Rattle.table.proofs.TableLaws.{length_blocks}
-use Rattle.table.proofs.BlockLaws.{no_number, some_number}
 use Rattle.definition.proofs.Steps.{true_false}
-use Rattle.definition.specs.Build.{Report, accepted, rejected, report}
+use Rattle.definition.specs.Build.{accepted, rejected, report}
 use Rattle.definition.specs.Context.{emit, with_visits}
 use Rattle.definition.specs.Context as definition
 use Rattle.machine.specs.Machine.{enclosings, around_of, State, visiting, ended, choosing, popping, making, going, halt, step}
@@ -31,14 +31,12 @@ use Rattle.machine.proofs.Invariant.{Checked, Sound, Going, going_start, going_s
 use Rattle.definition.proofs.Flags.{marks_below}
 use Rattle.machine.proofs.Invariant as invariant
 use Rattle.control.specs.declared.Context.{Context}
-use Rattle.control.specs.declared.Resolution as resolved
 use Rattle.control.specs.declared.around.Goal as code
-use Rattle.control.specs.AroundAbstraction.{aim_of, FoundBelow}
-use Rattle.control.specs.declared.Entry.{Entry}
-use Rattle.control.specs.Abstraction.{context_of, resolved_of, resolution_of, target_of, stack_of, no_entry}
-use Rattle.control.specs.Contract.{Named, Room, Created}
+use Rattle.control.specs.AroundAbstraction.{aim_of}
+use Rattle.control.specs.Abstraction.{context_of, stack_of, no_entry}
+use Rattle.control.specs.Contract.{Room, Created}
 use Rattle.definition.proofs.Flags.{length_none}
-use Rattle.control.proofs.ContextLaws.{stack_length, named_block}
+use Rattle.control.proofs.ContextLaws.{stack_length}
 use Rattle.values.specs.Rows.{Holds}
 use Rattle.values.specs.Stack.{pushed}
 use Rattle.values.proofs.StackLaws.{length_pushed}
@@ -51,30 +49,17 @@ use Rattle.statements.specs.declared.plan.Change.TheVariants.{Schedule, Unschedu
 use Rattle.statements.specs.declared.plan.Plan.{Plan}
 use Rattle.statements.specs.declared.refusal.Refused.{Refused}
 use Rattle.statements.specs.Refusal.{refusal_code, refusal_place}
-use Rattle.statements.proofs.RefusalLaws.{numbered as refused_number}
 use Rattle.statements.proofs.PlanLaws.{refused_applied}
 use Rattle.statements.specs.declared.search.Jump.{Jump}
-use Rattle.statements.specs.declared.search.Jump.TheVariants as search
 use Rattle.statements.specs.Plans.{frame_of, no_frame, frames_of, state_at, changed, handled, scoped, within, kept, context_after, onward, lined, applied}
 use Rattle.statements.specs.Planned.{NamedChange, entries_on_top, deepest, Nested, Fitting}
 use Rattle.statements.specs.Turn.{Resolves, Shown, in_hand, FrameFits, StageFits, Ready, emitting, PlannedTurn}
 use Rattle.walk.specs.Lined.{HoldsLines, LinePut}
 use Rattle.walk.proofs.LinedLaws.{lined_rows, lined_lines, no_lines}
 use Rattle.statements.specs.Search.{found_by, goal_by, Searches}
-use Rattle.walk.specs.Driver.{visited_block, is_halt, plan_ends, starting_at, walked_by, blocked_by, Reported}
+use Rattle.walk.specs.Driver.{visited_block, is_halt, starting_at, walked_by, Accepted}
 use Rattle.walk.proofs.ApplyLaws.{emitted, with_marks, Whole, Changeable, Blocked, Applicable, Applied, marks}
 use Rattle.walk.proofs.CheckedLaws.{checked_table}
-
-abbrev target_or : Option definition.Resolution → ℕ
-target_or none = 0
-target_or (some r) = r.target
-
-abbrev is_some : Option definition.Resolution → ℕ
-is_some none = 0
-is_some (some r) = 1
-
-none_some : {r : definition.Resolution} → none ≡ some r → ⊥
-none_some e = let o : ◌≡◌ {A = ℕ} 0 1 = ap is_some e in omega arith
 
 -- ---- the array of frames
 
@@ -97,34 +82,34 @@ frames_within A n d h = rw (frames_length A n) (go (n - d) n d (omega arith))
     go (suc k) zero d e = absurd (omega arith)
     go (suc k) (suc n) d e = go k n d (omega arith)
 
--- the frames with a plan's as the innermost, where it is kept
-abbrev pub stored_by : (keep : Bool) → (depth : ℕ) → Frame → List Frame → List Frame
-stored_by true depth frame frames = set frames (depth - 1) frame
-stored_by false depth frame frames = frames
+-- the frames with a plan's as the innermost, if there is one
+abbrev pub stored_by : std.Option Frame → (depth : ℕ) → List Frame → List Frame
+stored_by None depth frames = frames
+stored_by (Some frame) depth frames = set frames (depth - 1) frame
 
-pub stored_kept : (keep : Bool) (i depth : ℕ) (frame : Frame) (A frames : List Frame) → keep ≡ true → i ≡ depth - 1 → frames ≡ set A i frame → frames ≡ stored_by keep depth frame A
-stored_kept keep i depth frame A frames k e s = s ∙ rw (e, k) refl
+pub stored_kept : (kept : std.Option Frame) (i depth : ℕ) (frame : Frame) (A frames : List Frame) → kept ≡ Some frame → i ≡ depth - 1 → frames ≡ set A i frame → frames ≡ stored_by kept depth A
+stored_kept kept i depth frame A frames k e s = s ∙ rw (e, k) refl
 
-pub stored_not : (keep : Bool) (depth : ℕ) (frame : Frame) (A frames : List Frame) → keep ≡ false → frames ≡ A → frames ≡ stored_by keep depth frame A
-stored_not keep depth frame A frames k s = s ∙ rw k refl
+pub stored_not : (kept : std.Option Frame) (depth : ℕ) (A frames : List Frame) → kept ≡ None → frames ≡ A → frames ≡ stored_by kept depth A
+stored_not kept depth A frames k s = s ∙ rw k refl
 
-stored_length : (keep : Bool) (depth : ℕ) (frame : Frame) (frames : List Frame) → length (stored_by keep depth frame frames) ≡ length frames
-stored_length true depth frame frames = length-set frames (depth - 1) frame
-stored_length false depth frame frames = refl
+stored_length : (kept : std.Option Frame) (depth : ℕ) (frames : List Frame) → length (stored_by kept depth frames) ≡ length frames
+stored_length None depth frames = refl
+stored_length (Some frame) depth frames = length-set frames (depth - 1) frame
 
 -- what a plan keeps of the frames is what its store leaves
-frames_kept : (A : List Frame) (n d : ℕ) (keep : Bool) (f : Frame) → (keep ≡ true → 1 ≤ d) → d ≤ deepest keep n → d ≤ length A
-    → kept keep f d (frames_of A n) ≡ frames_of (stored_by keep d f A) d
+frames_kept : (A : List Frame) (n d : ℕ) (o : std.Option Frame) → (is_some o ≡ true → 1 ≤ d) → d ≤ deepest o n → d ≤ length A
+    → kept o d (frames_of A n) ≡ frames_of (stored_by o d A) d
 unfolding frames_of
-frames_kept A n zero true f deep next room = absurd (let z : 1 ≤ 0 = deep refl in omega arith)
-frames_kept A n (suc d) true f deep next room =
+frames_kept A n zero (Some f) deep next room = absurd (let z : 1 ≤ 0 = deep refl in omega arith)
+frames_kept A n (suc d) (Some f) deep next room =
     let e : suc d - 1 ≡ d = omega arith in
     rw (e, frames_within A n d (omega arith), get_or-set_same A d f no_frame (omega arith)) (ap {B = List machine.Frame} (λ (F : List machine.Frame). frame_of f ∷ F) (sym (frames_above A d (suc d - 1) f (omega arith))))
-frames_kept A n d false f deep next room = frames_within A n d next
+frames_kept A n d None deep next room = frames_within A n d next
 
-kept_length : (A : List Frame) (n d : ℕ) (keep : Bool) (f : Frame) → (keep ≡ true → 1 ≤ d) → d ≤ deepest keep n → length (kept keep f d (frames_of A n)) ≡ d
-kept_length A n d true f deep next = let one : 1 ≤ d = deep refl in rw (frames_within A n (d - 1) (omega arith), frames_length A (d - 1)) (omega arith)
-kept_length A n d false f deep next = rw (frames_within A n d next) (frames_length A d)
+kept_length : (A : List Frame) (n d : ℕ) (o : std.Option Frame) → (is_some o ≡ true → 1 ≤ d) → d ≤ deepest o n → length (kept o d (frames_of A n)) ≡ d
+kept_length A n d (Some f) deep next = let one : 1 ≤ d = deep refl in rw (frames_within A n (d - 1) (omega arith), frames_length A (d - 1)) (omega arith)
+kept_length A n d None deep next = rw (frames_within A n d next) (frames_length A d)
 
 -- the blocks of the frames in use
 frame_or : (t : Table) (A : List Frame) (k n : ℕ) → (get_or A n no_frame).block < length t.blocks → (k < n → (get_or A k no_frame).block < length t.blocks) → k < suc n
@@ -149,8 +134,8 @@ rest_of A Choose zero = []
 rest_of A Choose (suc n) = frames_of A n
 rest_of A Pop zero = []
 rest_of A Pop (suc n) = frames_of A n
-rest_of A Values zero = []
-rest_of A Values (suc n) = frames_of A n
+rest_of A (Values body) zero = []
+rest_of A (Values body) (suc n) = frames_of A n
 rest_of A Halt n = frames_of A n
 
 in_hand_lem : (A : List Frame) (s : Stage) (n : ℕ) (f : Frame) → f ≡ get_or A (n - 1) no_frame → in_hand s n f ++ rest_of A s n ≡ frames_of A n
@@ -162,8 +147,8 @@ in_hand_lem A Choose zero f e = refl
 in_hand_lem A Choose (suc n) f e = let q : suc n - 1 ≡ n = omega arith in ap {B = List machine.Frame} (λ (z : Frame). frame_of z ∷ frames_of A n) (rw q at e)
 in_hand_lem A Pop zero f e = refl
 in_hand_lem A Pop (suc n) f e = let q : suc n - 1 ≡ n = omega arith in ap {B = List machine.Frame} (λ (z : Frame). frame_of z ∷ frames_of A n) (rw q at e)
-in_hand_lem A Values zero f e = refl
-in_hand_lem A Values (suc n) f e = let q : suc n - 1 ≡ n = omega arith in ap {B = List machine.Frame} (λ (z : Frame). frame_of z ∷ frames_of A n) (rw q at e)
+in_hand_lem A (Values body) zero f e = refl
+in_hand_lem A (Values body) (suc n) f e = let q : suc n - 1 ≡ n = omega arith in ap {B = List machine.Frame} (λ (z : Frame). frame_of z ∷ frames_of A n) (rw q at e)
 in_hand_lem A Halt n f e = refl
 
 entries_top : (s : Stage) (n : ℕ) (f : Frame) (F : List machine.Frame) → entries_on_top (in_hand s n f) ≤ entries_of (in_hand s n f ++ F)
@@ -174,8 +159,8 @@ entries_top Choose zero f F = omega arith
 entries_top Choose (suc n) f F = omega arith
 entries_top Pop zero f F = omega arith
 entries_top Pop (suc n) f F = omega arith
-entries_top Values zero f F = omega arith
-entries_top Values (suc n) f F = omega arith
+entries_top (Values body) zero f F = omega arith
+entries_top (Values body) (suc n) f F = omega arith
 entries_top Halt n f F = omega arith
 
 -- ---- states
@@ -186,7 +171,7 @@ Live Visit depth = Unit {0}
 Live Ended depth = Unit {0}
 Live Choose depth = 1 ≤ depth
 Live Pop depth = 1 ≤ depth
-Live Values depth = 1 ≤ depth
+Live (Values body) depth = 1 ≤ depth
 Live Halt depth = ⊥
 
 abbrev pub state_of : Position → List Frame → Output → Context → State
@@ -217,9 +202,9 @@ numbers t Pop b [] R m C l h = absurd (omega arith)
 numbers t Pop b (f ∷ F) R m C l h =
     let z : invariant.Small (popping f F R C) = invariant.sound_small t (popping f F R C) h in record
     { visits = z.visits; frames = z.frames; stack = z.stack; ids = z.ids; rows = z.rows; lines = z.lines; entries = h.2.stack }
-numbers t Values b [] R m C l h = absurd (omega arith)
-numbers t Values b (f ∷ F) R m C l h =
-    let z : invariant.Small (making (unless_none b) f F R C) = invariant.sound_small t (making (unless_none b) f F R C) h in record
+numbers t (Values body) b [] R m C l h = absurd (omega arith)
+numbers t (Values body) b (f ∷ F) R m C l h =
+    let z : invariant.Small (making (maybe_of body) f F R C) = invariant.sound_small t (making (maybe_of body) f F R C) h in record
     { visits = z.visits; frames = z.frames; stack = z.stack; ids = z.ids; rows = z.rows; lines = z.lines; entries = h.3.stack }
 numbers t Halt b F R m C l h = absurd l
 
@@ -231,8 +216,8 @@ no_rows Choose b [] R m C = refl
 no_rows Choose b (f ∷ F) R m C = refl
 no_rows Pop b [] R m C = refl
 no_rows Pop b (f ∷ F) R m C = refl
-no_rows Values b [] R m C = refl
-no_rows Values b (f ∷ F) R m C = refl
+no_rows (Values body) b [] R m C = refl
+no_rows (Values body) b (f ∷ F) R m C = refl
 no_rows Halt b F R m C = refl
 
 -- ---- what holds at each turn of the loop
@@ -272,61 +257,6 @@ unfolding context_of
 found_jump rule w cx A p jump aim S R e =
     subst (λ (z : Option Goal). Resolves (terminal_at (table_of w) p.block) (around_of rule (table_of w) (frames_of A p.depth)) (context_of p.visits cx) z)
     (sym (R p.visits)) ((S e).resolves (around_of rule (table_of w) (frames_of A p.depth)) (context_of p.visits cx) refl refl)
-
--- its target is one of the 1,024 blocks, as every entry's is
-break_below : (entries : List Entry) (n b : ℕ) (top : Bool) (above : ℕ) → ((k : ℕ) → k < n → Named (get_or entries k no_entry).target)
-    → (r : definition.Resolution) → definition.break_target_from (stack_of entries n) b top above ≡ some r → r.target < 1024
-unfolding stack_of definition.break_target_from
-break_below entries zero b top above named r e = absurd (none_some e)
-break_below entries (suc n) b top above named r e =
-    at (eqb (definition.target_block (target_of (get_or entries n no_entry).target)) b) refl e
-    (λ t a h. break_below entries n b t a (λ k l. named k (omega arith)) r h)
-  where
-    at : (y : Bool) → eqb (definition.target_block (target_of (get_or entries n no_entry).target)) b ≡ y
-        → elim y [
-          | true ↦ some (record {
-            target = b;
-            kind = definition.break_kind (definition.is_loop (target_of (get_or entries n no_entry).target)) top above;
-            loops = above;
-          })
-          | false ↦ definition.break_target_from (stack_of entries n) b false
-              (definition.loops_of (target_of (get_or entries n no_entry).target) + above)
-        ] ≡ some r
-        → ((t : Bool) (a : ℕ) → definition.break_target_from (stack_of entries n) b t a ≡ some r → r.target < 1024) → r.target < 1024
-    at true q h again =
-        let t : b ≡ r.target = ap target_or (h) in let same : definition.target_block (target_of (get_or entries n no_entry).target) ≡ b = eqb-true _ _ q in omega
-        (arith, t, same, named_block (get_or entries n no_entry).target (named n (omega arith)))
-    at false q h again = again false (definition.loops_of (target_of (get_or entries n no_entry).target) + above) h
-
-continue_below : (entries : List Entry) (n b : ℕ) (top : Bool) (above : ℕ) → ((k : ℕ) → k < n → Named (get_or entries k no_entry).target)
-    → (r : definition.Resolution) → definition.continue_target_from (stack_of entries n) b top above ≡ some r → r.target < 1024
-unfolding stack_of definition.continue_target_from
-continue_below entries zero b top above named r e = absurd (none_some e)
-continue_below entries (suc n) b top above named r e =
-    at (definition.continues_at (target_of (get_or entries n no_entry).target) b) e (λ t a h. continue_below entries n b t a (λ k l. named k (omega arith)) r h)
-  where
-    at : (y : Bool)
-        → elim y [
-          | true ↦ some (record {
-            target = definition.target_block (target_of (get_or entries n no_entry).target);
-            kind = definition.continue_kind top above;
-            loops = above;
-          })
-          | false ↦ definition.continue_target_from (stack_of entries n) b false
-              (definition.loops_of (target_of (get_or entries n no_entry).target) + above)
-        ] ≡ some r
-        → ((t : Bool) (a : ℕ) → definition.continue_target_from (stack_of entries n) b t a ≡ some r → r.target < 1024) → r.target < 1024
-    at true h again =
-        let t : definition.target_block (target_of (get_or entries n no_entry).target) ≡ r.target = ap target_or (h) in omega
-        (arith, t, named_block (get_or entries n no_entry).target (named n (omega arith)))
-    at false h again = again false (definition.loops_of (target_of (get_or entries n no_entry).target) + above) h
-
-pub found_below : (cx : Context) (jump : std.Option Jump) (found : std.Option resolved.Resolution) → Whole cx → ((visits : ℕ) → resolved_of found ≡ found_by jump (context_of visits cx)) → FoundBelow found
-unfolding context_of definition.get_break_target definition.get_continue_target
-found_below cx jump None h e = tt
-found_below cx None (Some r) h e = absurd (none_some (sym (e 0)))
-found_below cx (Some (search.Break b)) (Some r) h e = break_below cx.stack cx.len b true 0 h.bounded.named (resolution_of r) (sym (e 0))
-found_below cx (Some (search.Continue b)) (Some r) h e = continue_below cx.stack cx.len b true 0 h.bounded.named (resolution_of r) (sym (e 0))
 
 module _ (rule : Rule) (w : List ℕ) (pr : Promise w) (ck : Checked (table_of w)) where
   -- where the loop begins
@@ -371,8 +301,8 @@ module _ (rule : Rule) (w : List ℕ) (pr : Promise w) (ck : Checked (table_of w
       (omega arith, rw z h.0, frame_fits 1 0 n rows A (frames_of A n) R 0 C f e l h.1 h.3)
   fits_at A R C f Pop b zero m rows u e l v h = absurd (omega arith)
   fits_at A R C f Pop b (suc n) m rows u e l v h = (omega arith, frame_fits 1 0 n rows A (frames_of A n) R 0 C f e l h.0 h.2)
-  fits_at A R C f Values b zero m rows u e l v h = absurd (omega arith)
-  fits_at A R C f Values b (suc n) m rows u e l v h = (omega arith, frame_fits 0 0 n rows A (frames_of A n) R 0 C f e l h.1 h.3)
+  fits_at A R C f (Values body) b zero m rows u e l v h = absurd (omega arith)
+  fits_at A R C f (Values body) b (suc n) m rows u e l v h = (omega arith, frame_fits 0 0 n rows A (frames_of A n) R 0 C f e l h.1 h.3)
   fits_at A R C f Halt b n m rows u e l v h = absurd v
 
   -- ---- a turn
@@ -396,7 +326,6 @@ module _ (rule : Rule) (w : List ℕ) (pr : Promise w) (ck : Checked (table_of w
     pub ready : (f : Frame) → f ≡ get_or A (p.depth - 1) no_frame → Ready w p f
     unfolding context_of
     ready f e = record {
-      promise = pr;
       depth = shallow;
       visits = numbered.visits;
       rows = omega (arith, numbered.rows, row_count);
@@ -418,8 +347,8 @@ module _ (rule : Rule) (w : List ℕ) (pr : Promise w) (ck : Checked (table_of w
         at Choose (suc n) h v l = frame_or (table_of w) A k n h.1.block (λ l. frames_each (table_of w) A k n h.2 l) l
         at Pop zero h v l = absurd (omega arith)
         at Pop (suc n) h v l = frame_or (table_of w) A k n h.0.block (λ l. frames_each (table_of w) A k n h.1 l) l
-        at Values zero h v l = absurd (omega arith)
-        at Values (suc n) h v l = frame_or (table_of w) A k n h.1.block (λ l. frames_each (table_of w) A k n h.2 l) l
+        at (Values body) zero h v l = absurd (omega arith)
+        at (Values body) (suc n) h v l = frame_or (table_of w) A k n h.1.block (λ l. frames_each (table_of w) A k n h.2 l) l
         at Halt n h v l = absurd v
 
     abbrev pub inside : Around
@@ -446,11 +375,8 @@ module _ (rule : Rule) (w : List ℕ) (pr : Promise w) (ck : Checked (table_of w
 
       -- a refusal
       module _ (e : Refused) (T : Turned (Err e)) where
-        refused_report : report rule (table_of w) ≡ rejected (refusal_code e.refusal) (refusal_place e.refusal) e.visits
+        pub refused_report : report rule (table_of w) ≡ rejected (refusal_code e.refusal) (refusal_place e.refusal) e.visits
         refused_report = going_halt rule (table_of w) (state_of p A I.out cx) _ I.going (taken (Err e) T ∙ refused_applied e _ _ _)
-
-        pub refused_reported : (index : List ℕ) (lines : ℕ) → Reported (report rule (table_of w)) (walked_by (Err e) lines) tree' index
-        refused_reported index lines = subst (λ (a : Report). Reported a (walked_by (Err e) lines) tree' index) (sym refused_report) (refl, refused_number e.refusal, refl, refl)
 
     -- a plan
     module _ (f : Frame) (read : f ≡ get_or A (p.depth - 1) no_frame) (aim : std.Option code.Goal) (buffer' : Lent) (plan : Plan)
@@ -495,35 +421,35 @@ module _ (rule : Rule) (w : List ℕ) (pr : Promise w) (ck : Checked (table_of w
           at Ended e = absurd (true_false (sym e))
           at Choose e = absurd (true_false (sym e))
           at Pop e = absurd (true_false (sym e))
-          at Values e = absurd (true_false (sym e))
+          at (Values body) e = absurd (true_false (sym e))
           at Halt e = refl
 
-      accepted_reported : is_halt plan.position.stage ≡ true → Reported (report rule (table_of w)) (walked_by (Ok plan) buffer'.lines) buffer'.tree buffer'.index
-      accepted_reported z = subst (λ (a : Report). Reported a (walked_by (Ok plan) buffer'.lines) buffer'.tree buffer'.index) (sym (accepted_report z)) (refl, refl, rows_held, lines_held)
+      pub accepted_reported : is_halt plan.position.stage ≡ true → Accepted (report rule (table_of w)) (walked_by plan buffer'.lines) buffer'.tree buffer'.index
+      accepted_reported z = record { rows = after.rows; lines = after.lines; is = accepted_report z; held = rows_held; indexed = lines_held }
 
       -- the turn leads on
       module _ (on : is_halt plan.position.stage ≡ false) where
         K : List machine.Frame
-        K = kept plan.keep plan.frame plan.position.depth (frames_of A p.depth)
+        K = kept plan.frame plan.position.depth (frames_of A p.depth)
 
         kept_deep : length K ≡ plan.position.depth
         unfolding K
-        kept_deep = kept_length A p.depth plan.position.depth plan.keep plan.frame fit.deep fit.next
+        kept_deep = kept_length A p.depth plan.position.depth plan.frame fit.deep fit.next
 
         next_live : Live plan.position.stage plan.position.depth
         next_live = at plan.position.stage on fit.nested
           where
-            at : (s : Stage) → is_halt s ≡ false → Nested s plan.keep → Live s plan.position.depth
+            at : (s : Stage) → is_halt s ≡ false → Nested s plan.frame → Live s plan.position.depth
             at Visit e n = tt
             at Ended e n = tt
             at Choose e n = fit.deep n
             at Pop e n = fit.deep n
-            at Values e n = fit.deep n
+            at (Values body) e n = fit.deep n
             at Halt e n = absurd (true_false e)
 
         -- ---- the Context
 
-        abbrev pub visited : ℕ
+        abbrev pub visited : std.Option ℕ
         visited = visited_block p.stage p.block
 
         visit_same : with_visits plan.position.visits (emit p.block C) ≡ emit p.block (context_of plan.position.visits cx)
@@ -536,24 +462,18 @@ module _ (rule : Rule) (w : List ℕ) (pr : Promise w) (ck : Checked (table_of w
 
         marked_context : context_after plan entering ≡ changed plan.change (context_of plan.position.visits (with_marks visited plan.handler plan.scope cx))
         unfolding entering
-        marked_context = ap (λ (D : definition.Context). changed plan.change (scoped (unless_none plan.scope) (handled (unless_none plan.handler) D))) (at p.stage visit_below)
+        marked_context = ap (λ (D : definition.Context). changed plan.change (scoped (maybe_of plan.scope) (handled (maybe_of plan.handler) D))) (at p.stage)
             ∙ sym (ap (changed plan.change) (marks (visited_block p.stage p.block) plan.handler plan.scope cx plan.position.visits))
           where
-            visit_at : (o : Option ℕ) → o ≡ some p.block → with_visits plan.position.visits (emit p.block C) ≡ emitted o (context_of plan.position.visits cx)
-            visit_at o e = visit_same ∙ ap (λ (z : Option ℕ). emitted z (context_of plan.position.visits cx)) (sym e)
-
-            none_at : (o : Option ℕ) → o ≡ none → with_visits plan.position.visits C ≡ emitted o (context_of plan.position.visits cx)
-            none_at o e = none_same ∙ ap (λ (z : Option ℕ). emitted z (context_of plan.position.visits cx)) (sym e)
-
-            at : (s : Stage) → (s ≡ Visit → p.block < block_count w)
-                → with_visits plan.position.visits (emitting s p.block C) ≡ emitted (unless_none (visited_block s p.block))
+            at : (s : Stage)
+                → with_visits plan.position.visits (emitting s p.block C) ≡ emitted (maybe_of (visited_block s p.block))
                 (context_of plan.position.visits cx)
-            at Visit h = visit_at (unless_none p.block) (some_number p.block (λ e. let z : p.block < block_count w = h refl in omega (arith, z, pr.sized.limited.blocks)))
-            at Ended h = none_at (unless_none 65535) no_number
-            at Choose h = none_at (unless_none 65535) no_number
-            at Pop h = none_at (unless_none 65535) no_number
-            at Values h = none_at (unless_none 65535) no_number
-            at Halt h = none_at (unless_none 65535) no_number
+            at Visit = visit_same
+            at Ended = none_same
+            at Choose = none_same
+            at Pop = none_same
+            at (Values body) = none_same
+            at Halt = none_same
 
         -- ---- what applying the plan asks
 
@@ -581,27 +501,25 @@ module _ (rule : Rule) (w : List ℕ) (pr : Promise w) (ck : Checked (table_of w
         pub applicable : Applicable visited plan cx
         applicable = record { block = at p.stage visit_below; handler = fit.handler; scope = fit.scope; change = changeable; whole = I.whole }
           where
-            at : (s : Stage) → (s ≡ Visit → p.block < block_count w) → Below 1024 (unless_none (visited_block s p.block))
-            at Visit h =
-                let z : p.block < block_count w = h refl in subst (λ (o : Option ℕ). Below 1024 o)
-                (sym (some_number p.block (λ e. omega (arith, z, pr.sized.limited.blocks)))) (omega (arith, z, pr.sized.limited.blocks))
-            at Ended h = subst (λ (o : Option ℕ). Below 1024 o) (sym no_number) tt
-            at Choose h = subst (λ (o : Option ℕ). Below 1024 o) (sym no_number) tt
-            at Pop h = subst (λ (o : Option ℕ). Below 1024 o) (sym no_number) tt
-            at Values h = subst (λ (o : Option ℕ). Below 1024 o) (sym no_number) tt
-            at Halt h = subst (λ (o : Option ℕ). Below 1024 o) (sym no_number) tt
+            at : (s : Stage) → (s ≡ Visit → p.block < block_count w) → Below 1024 (maybe_of (visited_block s p.block))
+            at Visit h = let z : p.block < block_count w = h refl in omega (arith, z, pr.sized.limited.blocks)
+            at Ended h = tt
+            at Choose h = tt
+            at Pop h = tt
+            at (Values body) h = tt
+            at Halt h = tt
 
         pub depth_below : plan.position.depth ≤ 129
-        depth_below = at plan.keep fit.next
+        depth_below = at plan.frame fit.next
           where
-            at : (keep : Bool) → plan.position.depth ≤ deepest keep p.depth → plan.position.depth ≤ 129
-            at true h = omega (arith, shallow)
-            at false h = omega (arith, shallow)
+            at : (o : std.Option Frame) → plan.position.depth ≤ deepest o p.depth → plan.position.depth ≤ 129
+            at None h = omega (arith, shallow)
+            at (Some kept) h = omega (arith, shallow)
 
         -- ---- a change that is refused
 
         module _ (code at : ℕ) (E : Blocked plan.change (with_marks visited plan.handler plan.scope cx) code at) where
-          blocked_report : report rule (table_of w) ≡ rejected code at plan.position.visits
+          pub blocked_report : report rule (table_of w) ≡ rejected code at plan.position.visits
           blocked_report = going_halt rule (table_of w) (state_of p A I.out cx) _ I.going
               (stepped ∙ ahead ∙ ap (onward plan.position.stage plan (frames_of A p.depth) after) (marked_context ∙ E.context plan.position.visits) ∙ ends plan.position.stage on)
             where
@@ -610,17 +528,14 @@ module _ (rule : Rule) (w : List ℕ) (pr : Promise w) (ck : Checked (table_of w
               ends Ended e = refl
               ends Choose e = refl
               ends Pop e = refl
-              ends Values e = refl
+              ends (Values body) e = refl
               ends Halt e = absurd (true_false e)
-
-          pub blocked_reported : Reported (report rule (table_of w)) (blocked_by code at plan.position) buffer'.tree buffer'.index
-          blocked_reported = subst (λ (a : Report). Reported a (blocked_by code at plan.position) buffer'.tree buffer'.index) (sym blocked_report) (refl, E.refuses, refl, refl)
 
         -- ---- and the next turn
 
         module _ (r : Context) (E : Applied visited plan cx r) where
           abbrev pub A' : List Frame
-          A' = stored_by plan.keep plan.position.depth plan.frame A
+          A' = stored_by plan.frame plan.position.depth A
 
           next : State
           next = state_at plan.position.stage plan.position.block K after plan.position.count (context_of plan.position.visits r)
@@ -642,9 +557,9 @@ module _ (rule : Rule) (w : List ℕ) (pr : Promise w) (ck : Checked (table_of w
               pop_same [] h = absurd (omega arith)
               pop_same (g ∷ F) h = refl
 
-              values_same : (F : List machine.Frame) → 1 ≤ length F → state_at Values plan.position.block F after 0 D ≡ state_at Values plan.position.block F after plan.position.count D
-              values_same [] h = absurd (omega arith)
-              values_same (g ∷ F) h = refl
+              values_same : (body : std.Option ℕ) (F : List machine.Frame) → 1 ≤ length F → state_at (Values body) 0 F after 0 D ≡ state_at (Values body) plan.position.block F after plan.position.count D
+              values_same body [] h = absurd (omega arith)
+              values_same body (g ∷ F) h = refl
 
               at : (s : Stage) → is_halt s ≡ false → Live s plan.position.depth
                   → onward s plan (frames_of A p.depth) after (ok D) ≡ going (state_at s plan.position.block K after plan.position.count D)
@@ -652,7 +567,7 @@ module _ (rule : Rule) (w : List ℕ) (pr : Promise w) (ck : Checked (table_of w
               at Ended e l = refl
               at Choose e l = ap going (choose_same K (omega (arith, kept_deep)))
               at Pop e l = ap going (pop_same K (omega (arith, kept_deep)))
-              at Values e l = ap going (values_same K (omega (arith, kept_deep)))
+              at (Values body) e l = ap going (values_same body K (omega (arith, kept_deep)))
               at Halt e l = absurd (true_false e)
 
           next_going : Going rule (table_of w) next
@@ -661,7 +576,7 @@ module _ (rule : Rule) (w : List ℕ) (pr : Promise w) (ck : Checked (table_of w
           arrived : next ≡ state_of plan.position A' after r
           unfolding next K
           arrived = ap (λ (F : List machine.Frame). state_at plan.position.stage plan.position.block F after plan.position.count (context_of plan.position.visits r))
-              (frames_kept A p.depth plan.position.depth plan.keep plan.frame fit.deep fit.next (rw I.frames depth_below))
+              (frames_kept A p.depth plan.position.depth plan.frame fit.deep fit.next (rw I.frames depth_below))
 
           pub walking_again : Walking rule w buffer' r A' plan.position
           walking_again = record {
@@ -671,7 +586,7 @@ module _ (rule : Rule) (w : List ℕ) (pr : Promise w) (ck : Checked (table_of w
             indexed = lines_held;
             live = next_live;
             whole = E.whole;
-            frames = stored_length plan.keep plan.position.depth plan.frame A ∙ I.frames;
+            frames = stored_length plan.frame plan.position.depth A ∙ I.frames;
           }
 
           pub turns_lower : turns_left plan.position A' r < turns_left p A cx
@@ -699,9 +614,9 @@ pub record AtTurn (rule : Rule) (w : List ℕ) (buffer : Lent) (cx : Context) (A
 
 -- refused
 pub turn_refused : {rule : Rule} {w : List ℕ} {buffer : Lent} {cx : Context} {A : List Frame} {p : Position} {tree' : List ℕ} {e : Refused} → AtTurn rule w buffer cx A p tree' (Err e)
-    → (index : List ℕ) (lines : ℕ) → Reported (report rule (table_of w)) (walked_by (Err e) lines) tree' index
+    → report rule (table_of w) ≡ rejected (refusal_code e.refusal) (refusal_place e.refusal) e.visits
 turn_refused {rule} {w} {buffer} {cx} {A} {p} {tree'} {e} t =
-    refused_reported rule w t.promise (checked_table w t.promise) buffer cx A p t.walking t.frame t.read t.aim t.jump tree' e (t.turned _)
+    refused_report rule w t.promise (checked_table w t.promise) buffer cx A p t.walking t.frame t.read t.aim t.jump tree' e (t.turned _)
 
 module _ {rule : Rule} {w : List ℕ} {buffer : Lent} {cx : Context} {A : List Frame} {p : Position} {buffer' : Lent} {plan : Plan} (t : AtTurn rule w buffer cx A p buffer'.tree (Ok plan))
     (put : LinePut buffer.index buffer.lines plan.line plan.position.rows buffer'.index buffer'.lines) where
@@ -709,11 +624,11 @@ module _ {rule : Rule} {w : List ℕ} {buffer : Lent} {cx : Context} {A : List F
   ck = checked_table w t.promise
 
   -- accepted
-  pub turn_ends : plan_ends (Ok plan) ≡ true → Reported (report rule (table_of w)) (walked_by (Ok plan) buffer'.lines) buffer'.tree buffer'.index
+  pub turn_ends : is_halt plan.position.stage ≡ true → Accepted (report rule (table_of w)) (walked_by plan buffer'.lines) buffer'.tree buffer'.index
   turn_ends e = accepted_reported rule w t.promise ck buffer cx A p t.walking t.frame t.read t.aim buffer' plan (t.turned _) put t.jump e
 
   -- or the walk goes on
-  module _ (on : plan_ends (Ok plan) ≡ false) where
+  module _ (on : is_halt plan.position.stage ≡ false) where
     pub turn_applicable : Applicable (visited_block p.stage p.block) plan cx
     turn_applicable = applicable rule w t.promise ck buffer cx A p t.walking t.frame t.read t.aim buffer' plan (t.turned _) put t.jump on
 
@@ -721,10 +636,10 @@ module _ {rule : Rule} {w : List ℕ} {buffer : Lent} {cx : Context} {A : List F
     turn_shallow = depth_below rule w t.promise ck buffer cx A p t.walking t.frame t.read t.aim buffer' plan (t.turned _) put t.jump on
 
     pub turn_blocked : {code at : ℕ} → Blocked plan.change (with_marks (visited_block p.stage p.block) plan.handler plan.scope cx) code at
-        → Reported (report rule (table_of w)) (blocked_by code at plan.position) buffer'.tree buffer'.index
-    turn_blocked {code} {at} E = blocked_reported rule w t.promise ck buffer cx A p t.walking t.frame t.read t.aim buffer' plan (t.turned _) put t.jump on code at E
+        → report rule (table_of w) ≡ rejected code at plan.position.visits
+    turn_blocked {code} {at} E = blocked_report rule w t.promise ck buffer cx A p t.walking t.frame t.read t.aim buffer' plan (t.turned _) put t.jump on code at E
 
-    module _ {r : Context} (E : Applied (visited_block p.stage p.block) plan cx r) {frames : List Frame} (stored : frames ≡ stored_by plan.keep plan.position.depth plan.frame A) where
+    module _ {r : Context} (E : Applied (visited_block p.stage p.block) plan cx r) {frames : List Frame} (stored : frames ≡ stored_by plan.frame plan.position.depth A) where
       pub turn_again : Walking rule w buffer' r frames plan.position
       turn_again = rw stored (walking_again rule w t.promise ck buffer cx A p t.walking t.frame t.read t.aim buffer' plan (t.turned _) put t.jump on r E)
 

@@ -1,3 +1,4 @@
+pub mod AnswerLaws
 pub mod LinedLaws
 pub mod ApplyLaws
 pub mod CheckedLaws

@@ -8,6 +8,9 @@ use mathlib.Core.Bool.{Bool, true, false}
 use mathlib.Core.List.{List, [], ◌∷◌, ◌++◌, append-nil}
 use lib.Dec.{ltb}
 use lib.ListN.{length, take, drop, length-append}
+use borrow.Rule.Slice.PartMut.{put_mid}
+use Rattle.std.proofs.lemmas.List.{take-append-drop}
+use Rattle.std.proofs.lemmas.Slice.{take-put_mid, drop-put_mid}
 use lib.Seq.{sets, sets-eq, length-sets, length-take-le, take_at}
 use borrow.Author.Tests.{lt-ltb, le-ltb}
 use Rattle.definition.specs.Index.{Line, line_words}
@@ -25,9 +28,22 @@ module _ (index : List ℕ) (n label first closing : ℕ) where
   abbrev words : List ℕ
   words = label ∷ first ∷ closing ∷ []
 
-  pub placed_here : n < length index / 3 → sets index (n * 3) words ≡ line_placed index n label first closing
+  placed_here : n < length index / 3 → sets index (n * 3) words ≡ line_placed index n label first closing
   unfolding line_placed
   placed_here h = ap (λ (y : Bool). elim y [ true ↦ sets index (n * 3) words | false ↦ index ]) (sym (lt-ltb n (length index / 3) h))
+
+  -- a copy into the place's three words
+  pub placed_part : (part : List ℕ) (k : ℕ) → n < length index / 3 → k ≡ 3 → part ≡ words → put_mid (n * 3) k index part ≡ line_placed index n label first closing
+  placed_part part k h e p =
+      let from : n * 3 ≤ length index = omega (arith, h) in
+      let long : length part ≡ 3 = rw p refl in
+      sym (take-append-drop (n * 3 + 3) (put_mid (n * 3) k index part))
+      ∙ rw (
+        take-put_mid (n * 3) k index part (n * 3 + 3) (omega (arith, long)) from,
+        drop-put_mid (n * 3) k index part (n * 3 + 3) (omega (arith, e)) from (omega (arith, long, e)),
+        p,
+      ) (sym (sets-eq words index (n * 3) (omega (arith, h))))
+      ∙ placed_here h
 
   pub placed_nowhere : length index / 3 ≤ n → index ≡ line_placed index n label first closing
   unfolding line_placed

@@ -1,9 +1,15 @@
 -- The parts of a plan that the walk applies, and the whole walk.
 use Rattle.std.specs.Prelude as std
-use Rattle.std.specs.Prelude.{ℕ, ◌≡◌, Bool, true, false, List, [], Ok, Err}
+use Rattle.std.specs.Prelude.{ℕ, ◌≡◌, Bool, true, false, List, [], None, Some, Ok, Err}
 use Rattle.std.proofs.Math.Option.{Option, none, some}
-use Rattle.definition.specs.Build.{Report, accepted, rejected}
+use Rattle.table.specs.Check.{Verdict, checked}
+use Rattle.table.specs.Check as check
+use Rattle.table.specs.Table.{table_of}
+use Rattle.definition.specs.Around.{Rule}
+use Rattle.definition.specs.Build.{Report, accepted, rejected, report}
 use Rattle.definition.specs.Context.{Flags, add}
+use Rattle.definition.specs.Index.{Line}
+use Rattle.definition.specs.Tree.{Row}
 use Rattle.values.specs.Rows.{Holds}
 use Rattle.values.specs.Stack.{pushed}
 use Rattle.walk.specs.Lined.{HoldsLines}
@@ -11,20 +17,20 @@ use Rattle.statements.specs.declared.plan.Stage.{Stage}
 use Rattle.statements.specs.declared.plan.Stage.TheVariants.{Visit, Ended, Choose, Pop, Values, Halt}
 use Rattle.statements.specs.declared.plan.Position.{Position}
 use Rattle.statements.specs.declared.plan.Plan.{Plan}
-use Rattle.statements.specs.declared.refusal.Refused.{Refused}
-use Rattle.statements.specs.Refusal.{refusal_code, refusal_place}
-use Rattle.walk.specs.declared.Outcome.{Outcome}
+use Rattle.walk.specs.Answer.{code_of, place_of, visits_of}
+use Rattle.walk.specs.declared.answer.Walked.{Walked}
+use Rattle.walk.specs.declared.answer.WalkError.{WalkError}
 
 -- ---- a plan
 
--- the block that is visited, 65,535 where none is
-abbrev pub visited_block : Stage → (block : ℕ) → ℕ
-visited_block Visit block = block
-visited_block Ended block = 65535
-visited_block Choose block = 65535
-visited_block Pop block = 65535
-visited_block Values block = 65535
-visited_block Halt block = 65535
+-- the block that is visited, if one is
+abbrev pub visited_block : Stage → (block : ℕ) → std.Option ℕ
+visited_block Visit block = Some block
+visited_block Ended block = None
+visited_block Choose block = None
+visited_block Pop block = None
+visited_block (Values body) block = None
+visited_block Halt block = None
 
 abbrev pub marked : Option ℕ → Flags → Flags
 marked none flags = flags
@@ -35,28 +41,36 @@ is_halt Visit = false
 is_halt Ended = false
 is_halt Choose = false
 is_halt Pop = false
-is_halt Values = false
+is_halt (Values body) = false
 is_halt Halt = true
-
--- refused, or accepted
-abbrev pub plan_ends : std.Result Plan Refused → Bool
-plan_ends (Ok plan) = is_halt plan.position.stage
-plan_ends (Err e) = true
 
 -- ---- the whole walk
 
 abbrev pub starting_at : (entry : ℕ) → Position
 starting_at entry = record { block = entry; depth = 0; count = 0; rows = 0; visits = 0; stage = Visit }
 
-abbrev pub walked_by : std.Result Plan Refused → (lines : ℕ) → Outcome
-walked_by (Ok plan) lines = record { code = 0; at = 0; rows = plan.position.rows; visits = plan.position.visits; lines = lines }
-walked_by (Err e) lines = record { code = refusal_code e.refusal; at = refusal_place e.refusal; rows = 0; visits = e.visits; lines = lines }
+abbrev pub walked_by : Plan → (lines : ℕ) → Walked
+walked_by plan lines = record { rows = plan.position.rows; visits = plan.position.visits; lines = lines }
 
--- what `schedule` refused
-abbrev pub blocked_by : (code at : ℕ) → Position → Outcome
-blocked_by code at p = record { code = code; at = at; rows = p.rows; visits = p.visits; lines = 0 }
+-- an accepted table's report: the buffers hold its rows and lines
+pub record Accepted (report : Report) (walked : Walked) (buffer index : List ℕ) : Type 0 where
+  pub rows : List Row
+  pub lines : List Line
+  pub is : report ≡ accepted rows lines walked.visits
+  pub held : Holds buffer walked.rows (pushed rows [])
+  pub indexed : HoldsLines index walked.lines lines
 
--- its answer is the table's report, and an accepted table's rows and lines are held
-abbrev pub Reported : Report → Outcome → (buffer index : List ℕ) → Type 0
-Reported (accepted rows lines visits) r buffer index = (r.code ≡ 0) × (r.visits ≡ visits) × Holds buffer r.rows (pushed rows []) × HoldsLines index r.lines lines
-Reported (rejected code at visits) r buffer index = (r.code ≡ code) × (code ≡ 0 → ⊥) × (r.at ≡ at) × (r.visits ≡ visits)
+-- its answer is the report
+abbrev pub Reported : Report → std.Result Walked WalkError → (buffer index : List ℕ) → Type 0
+Reported report (Ok walked) buffer index = Accepted report walked buffer index
+Reported report (Err error) buffer index = report ≡ rejected (code_of error) (place_of error) (visits_of error)
+
+-- ---- of any words
+
+-- the check's refusal, which begins no visit, or the report of the table
+abbrev pub report_after : Rule → Verdict → (words : List ℕ) → Report
+report_after rule (check.refused code at) words = rejected code at 0
+report_after rule check.accepted words = report rule (table_of words)
+
+unfoldable pub words_report : Rule → (words : List ℕ) → Report
+words_report rule words = report_after rule (checked words) words

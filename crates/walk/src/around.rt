@@ -2,10 +2,9 @@
 ghost use Rattle.std.specs.Prelude.{◌≡◌, ℕ, ◌≤◌, ◌<◌, get_or};
 ghost use Rattle.table.specs.Words.{block_count};
 ghost use Rattle.table.specs.Table.{table_of};
-ghost use Rattle.table.specs.Promise.{Promise};
 ghost use Rattle.machine.specs.Machine.{around_of};
 ghost use Rattle.control.specs.Abstraction.{resolved_of};
-ghost use Rattle.control.specs.AroundAbstraction.{rule_of, aim_of, FoundBelow, AimBelow};
+ghost use Rattle.control.specs.AroundAbstraction.{rule_of, aim_of};
 ghost use Rattle.statements.specs.Plans.{no_frame, frames_of};
 ghost use Rattle.statements.specs.Search.{goal_by};
 
@@ -14,6 +13,7 @@ use control::around::{Goal, pass, pass_from, target_of, unseen};
 use control::rule::Rule;
 use statements::plan::Frame;
 use statements::search::{Jump, aim_at, asks_around, knows};
+use table::Table;
 
 // Where to look first for the statement that owns the entry found: at the entry's own place. It is there if each statement around has one entry.
 fn likely_owner(at: usize, depth: usize) -> usize
@@ -24,20 +24,20 @@ fn likely_owner(at: usize, depth: usize) -> usize
 }
 
 // The search ended at the entry `at`. A Labeled break asks only whether a statement around has its label: the code looks at the likely one first.
+// Seven parameters: the walk calls it once, and no other function takes these together.
+// (The array with `depth` beside, and no slice of it: `frames_of` takes both, as the machine's frames are counted.)
 pub fn aim_around(
     rule: Rule,
-    words: &[u32],
+    table: Table<'_>,
     frames: &[Frame; 129],
     depth: u32,
     at: usize,
     jump: Option<Jump>,
     found: Option<Resolution>,
 ) -> Option<Goal>
-    requires promise { Promise words.now }
     requires depth_bound { depth ≤ 128 }
-    requires by_index { (k : ℕ) → k < depth → (get_or frames.now k no_frame).block < block_count words.now }
-    requires found_below { FoundBelow found }
-    ensures { (aim_of result ≡ goal_by jump (around_of (rule_of rule) (table_of words.now) (frames_of frames.now depth)) (resolved_of found)) × AimBelow result }
+    requires by_index { (k : ℕ) → k < depth → (get_or frames.now k no_frame).block < block_count table.words.now }
+    ensures { aim_of result ≡ goal_by jump (around_of (rule_of rule) (table_of table.entry.words.now) (frames_of frames.now depth)) (resolved_of found) }
 {
     let left = pass_from(asks_around(rule, found), depth);
     let mut seen = unseen(found);
@@ -46,13 +46,13 @@ pub fn aim_around(
     }
     let target = target_of(found);
     let owner = frames[likely_owner(at, left)];
-    let looked = pass(words, target, owner.block, owner.label, seen);
+    let looked = pass(table, target, owner.block, owner.label, seen);
     if knows(jump, found, looked) {
         return aim_at(rule, jump, found, looked);
     }
     for from_outside in (0..left).rev() {
         let around = frames[from_outside];
-        seen = pass(words, target, around.block, around.label, seen);
+        seen = pass(table, target, around.block, around.label, seen);
     }
     aim_at(rule, jump, found, seen)
 }

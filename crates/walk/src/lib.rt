@@ -1,60 +1,39 @@
 // The loop over the Context and the frames: `statements` plans each turn, and the loop applies the plan.
 #![tactic(auto)]
 
+pub mod answer;
 mod around;
 mod index;
 
-ghost use Rattle.std.specs.Prelude.{◌≡◌, ◌-◌, Ok, Err};
+ghost use Rattle.std.specs.Prelude.{◌≡◌, ◌-◌};
 ghost use Rattle.table.specs.Words.{entry_word};
-ghost use Rattle.table.specs.Table.{table_of, unless_none};
-ghost use Rattle.table.specs.Promise.{Promise};
+ghost use Rattle.table.specs.Columns.{maybe_of};
+ghost use Rattle.table.specs.Table.{table_of};
 ghost use Rattle.definition.specs.Build.{report};
 ghost use Rattle.machine.specs.Framed.{Below};
 ghost use Rattle.definition.specs.Context.{block_asked};
-ghost use Rattle.control.specs.Abstraction.{target_of, blocked_number};
+ghost use Rattle.control.specs.Abstraction.{target_of};
 ghost use Rattle.control.specs.AroundAbstraction.{rule_of};
-ghost use Rattle.walk.specs.Driver.{visited_block, marked, starting_at, plan_ends, walked_by, blocked_by, Reported};
+ghost use Rattle.walk.specs.Driver.{visited_block, marked, starting_at, is_halt, walked_by, words_report, Reported};
+ghost use Rattle.walk.specs.declared.answer.WalkError.TheVariants.{Schedule};
 
+use crate::answer::{WalkError, Walked};
 use crate::around::aim_around;
 use crate::index::put_line;
 use control::rule::Rule;
 use control::{Blocked, Context, ControlFlowTarget, block_id, count_loop, insert};
-use statements::plan::{Change, NONE, Plan, Position, Stage, no_frame};
-use statements::refusal::Refused;
+use statements::plan::{Change, Plan, Position, Stage, no_frame};
 use statements::search::{jump_at, meets, resolve, search_from};
+use statements::sets::{Blocks, Sets};
 use statements::turn::plan_turn;
-use table::words::entry;
+use table::Table;
+use table_check::check;
 
-// Paper 01, "Result and refusals": code (0 accepted), at, rows, visits; and M-101's number of lines. The walk gives it before
-// anyone tests whether the rows and the lines fit in the buffers.
-#[derive(Clone, Copy)]
-pub struct Outcome {
-    pub code: u32,
-    pub at: u32,
-    pub rows: u32,
-    pub visits: u32,
-    pub lines: u32,
-}
-
-impl Outcome {
-    // For callers in C or Rust: the code, and the other four words by reference.
-    pub fn tell(self, at: &mut u32, rows: &mut u32, visits: &mut u32, lines: &mut u32) -> u32
-        ensures { record { code = result; at = at.new; rows = rows.new; visits = visits.new; lines = lines.new } ≡ self }
-    {
-        *at = self.at;
-        *rows = self.rows;
-        *visits = self.visits;
-        *lines = self.lines;
-        self.code
-    }
-}
-
-fn start(words: &[u32]) -> Position
-    requires { Promise words.now }
-    ensures { result ≡ starting_at (entry_word words.now) }
+fn start(table: Table<'_>) -> Position
+    ensures { result ≡ starting_at (entry_word table.entry.words.now) }
 {
     Position {
-        block: entry(words),
+        block: table.entry(),
         depth: 0,
         count: 0,
         rows: 0,
@@ -63,68 +42,51 @@ fn start(words: &[u32]) -> Position
     }
 }
 
-fn visited_block(p: Position) -> u32
+fn visited_block(p: Position) -> Option<u32>
     ensures { result ≡ visited_block p.stage p.block }
 {
     match p.stage {
-        Stage::Visit => p.block,
-        _ => NONE,
+        Stage::Visit => Some(p.block),
+        _ => None,
     }
 }
 
-#[tactic(auto, using(crate::proofs::ApplyLaws::marked_none, crate::proofs::ApplyLaws::marked_some, crate::proofs::ApplyLaws::below_block))]
-fn mark(set: &mut [bool; 1024], block: u32)
-    requires { Below 1024 (unless_none block) }
-    ensures { set.new ≡ marked (unless_none block) set.old }
+fn mark(set: &mut [bool; 1024], block: Option<u32>)
+    requires { Below 1024 (maybe_of block) }
+    ensures { set.new ≡ marked (maybe_of block) set.old }
 {
-    if block != NONE {
+    if let Some(block) = block {
         insert(set, block_id(block));
     }
 }
 
 // Whether the table is accepted here.
 fn ends(plan: Plan) -> bool
-    ensures { result ≡ plan_ends (Ok plan) }
+    ensures { result ≡ is_halt plan.position.stage }
 {
     matches!(plan.position.stage, Stage::Halt)
 }
 
-fn answer(plan: Plan, lines: u32) -> Outcome
-    ensures { result ≡ walked_by (Ok plan) lines }
+// What the walk put out where the table is accepted.
+fn walked(plan: Plan, lines: u32) -> Walked
+    ensures { result ≡ walked_by plan lines }
 {
     let position = plan.position;
-    Outcome {
-        code: 0,
-        at: 0,
+    Walked {
         rows: position.rows,
         visits: position.visits,
         lines,
     }
 }
 
-// The refusal of a turn.
-fn refuse(refused: Refused, lines: u32) -> Outcome
-    ensures { result ≡ walked_by (Err refused) lines }
-{
-    Outcome {
-        code: refused.refusal.code(),
-        at: refused.refusal.place(),
-        rows: 0,
-        visits: refused.visits,
-        lines,
-    }
-}
-
 // The refusal of `schedule`, at the block that it tested.
-fn blocked(reason: Blocked, target: ControlFlowTarget, p: Position) -> Outcome
-    ensures { result ≡ blocked_by (blocked_number reason) (block_asked (target_of target)) p }
+fn blocked(reason: Blocked, target: ControlFlowTarget, visits: u32) -> WalkError
+    ensures { result ≡ Schedule reason (block_asked (target_of target)) visits }
 {
-    Outcome {
-        code: reason.code(),
-        at: target.block_asked() as u32,
-        rows: p.rows,
-        visits: p.visits,
-        lines: 0,
+    WalkError::Schedule {
+        reason,
+        block: target.block_asked() as u32,
+        visits,
     }
 }
 
@@ -137,17 +99,26 @@ fn innermost(depth: u32) -> usize
 
 // Plans each turn and applies its plan. The search of the stack (the Rust's `get_break_target` and `get_continue_target`) and the store of an entry stand
 // here, since a function that is handed the Context by value and indexes its entries copies it, 18 KB a turn (docs/PERFORMANCE.md).
-pub fn walk(rule: Rule, words: &[u32], tree: &mut [u32], index: &mut [u32]) -> Outcome
-    requires { Promise words.now }
-    ensures { Reported (report (rule_of rule) (table_of words.now)) result tree.new index.new }
+fn walk_table(
+    rule: Rule,
+    table: Table<'_>,
+    tree: &mut [u32],
+    index: &mut [u32],
+) -> Result<Walked, WalkError>
+    ensures { Reported (report (rule_of rule) (table_of table.entry.words.now)) result tree.new index.new }
 {
     let mut cx = Context::new();
     let mut frames = [no_frame(); 129]; // fixed memory: 128 frames, and one that is read where there is none
-    let mut p = start(words);
+    let mut p = start(table);
     let mut lines: u32 = 0;
     loop {
         let frame = frames[innermost(p.depth)];
-        let jump = jump_at(words, &cx.scheduled, &cx.catch_handlers, p);
+        let asked = Blocks {
+            scheduled: &cx.scheduled,
+            catch_handlers: &cx.catch_handlers,
+        };
+        let jump = jump_at(table, asked, p);
+        // No `for`: the search ends with a value, and the place where it ends is asked for after it.
         let mut at = search_from(jump, cx.len);
         let mut loops: u32 = 0;
         let found = loop {
@@ -162,40 +133,35 @@ pub fn walk(rule: Rule, words: &[u32], tree: &mut [u32], index: &mut [u32]) -> O
             }
             loops = count_loop(loops, entry.target);
         };
-        let aim = aim_around(rule, words, &frames, p.depth, at, jump, found);
-        let planned = plan_turn(
-            words,
-            tree,
-            &cx.emitted,
-            &cx.scheduled,
-            &cx.catch_handlers,
-            &cx.scope_fallthroughs,
-            p,
-            frame,
-            aim,
-        );
-        let plan = match planned {
-            Err(refused) => return refuse(refused, lines),
-            Ok(plan) => plan,
+        let aim = aim_around(rule, table, &frames, p.depth, at, jump, found);
+        let blocks = Blocks {
+            scheduled: &cx.scheduled,
+            catch_handlers: &cx.catch_handlers,
         };
+        let sets = Sets {
+            emitted: &cx.emitted,
+            blocks,
+            scopes: &cx.scope_fallthroughs,
+        };
+        let plan = plan_turn(table, tree, sets, p, frame, aim)?;
         let next = plan.position;
         lines = put_line(index, lines, plan.line, next.rows);
         if ends(plan) {
-            return answer(plan, lines);
+            return Ok(walked(plan, lines));
         }
         mark(&mut cx.emitted, visited_block(p));
         mark(&mut cx.catch_handlers, plan.handler);
         mark(&mut cx.scope_fallthroughs, plan.scope);
         p = next;
-        if plan.keep {
-            frames[innermost(p.depth)] = plan.frame;
+        if let Some(kept) = plan.frame {
+            frames[innermost(p.depth)] = kept;
         }
         match plan.change {
             None => {}
             Some(Change::Schedule(target)) => {
                 cx = cx.schedule(target);
                 if let Some(reason) = cx.refused {
-                    return blocked(reason, target, p);
+                    return Err(blocked(reason, target, p.visits));
                 }
                 cx.stack[cx.len - 1] = cx.pushed; // the stack's last, in its place
             }
@@ -205,4 +171,17 @@ pub fn walk(rule: Rule, words: &[u32], tree: &mut [u32], index: &mut [u32]) -> O
             }
         }
     }
+}
+
+// The walk of the table in the words, which may be any words. It fills the buffers as far as they have room, and goes on counting: nobody has tested yet whether
+// the rows and the lines fit.
+pub fn walk(
+    rule: Rule,
+    words: &[u32],
+    tree: &mut [u32],
+    index: &mut [u32],
+) -> Result<Walked, WalkError>
+    ensures { Reported (words_report (rule_of rule) words.now) result tree.new index.new }
+{
+    walk_table(rule, check(words)?, tree, index)
 }

@@ -1,13 +1,13 @@
-use mathlib.Core.Path.{sym}
-use Rattle.table.proofs.PromiseLaws.{promised}
-use Rattle.build.proofs.EntryLaws.{unchecked_built, checked_built}
+use native.Mathlib.Omega.{arith}
+use mathlib.Core.Path.{refl, ◌∙◌}
+use Rattle.build.proofs.EntryLaws.{accepted_within, refused_cleared}
 use Rattle.build.proofs.build.Goals as goal
 
-pub walk-walked-requires : goal.walk-walked-requires
-walk-walked-requires c = promised _ (sym c.in-Ok.ensures)
+pub clear-requires : goal.clear-requires
+clear-requires c = omega (arith, (accepted_within _ _ _ _ _ c.in-Ok.ensures refl).0, c.try_build.auto.tree)
 
-pub returns-in-Ok : goal.returns-in-Ok
-returns-in-Ok c = checked_built _ _ _ _ c.in-Ok.ensures c.walk-walked.auto.tree c.walk-walked.auto.index (c.finish.ensures _ c.walk-walked.ensures)
+pub clear-requires-in-Ok : goal.clear-requires-in-Ok
+clear-requires-in-Ok c = omega (arith, (accepted_within _ _ _ _ _ c.in-Ok.ensures refl).1, c.try_build.auto.index)
 
 pub returns-in-Err : goal.returns-in-Err
-returns-in-Err c = unchecked_built _ _ _ _ c.in-Err.ensures (rw (c.place.ensures, c.code.ensures) at c.refuse.ensures)
+returns-in-Err c = refused_cleared _ _ _ _ _ c.clear-in-Err.ensures c.clear-in-Err-2.ensures ∙ c.in-Err.ensures

@@ -1,13 +1,9 @@
-use mathlib.Core.Path.{refl, sym}
-use Rattle.table.proofs.PromiseLaws.{promised}
+use mathlib.Core.Path.{refl}
 use Rattle.convert.proofs.ConvertLaws.{wide_bound, wide_accepted, wide_refused}
 use Rattle.convert.proofs.write_wide.Goals as goal
 
-pub write_tables-requires : goal.write_tables-requires
-write_tables-requires c = (promised _ (sym c.in-Ok.ensures)).sized
-
 pub returns-in-Ok : goal.returns-in-Ok
-returns-in-Ok c = wide_accepted _ _ _ c.write_tables.auto.text c.in-Ok.ensures c.write_tables.ensures
+returns-in-Ok c = wide_accepted _ _ _ c.write_tables.auto.text c.in-Ok.ensures.verdict (rw c.in-Ok.ensures.same at c.write_tables.ensures)
 
 pub in_old_form-requires : goal.in_old_form-requires
 in_old_form-requires c =
@@ -15,4 +11,4 @@ in_old_form-requires c =
     record { in_bounds = bound.0; wide_bound = bound.1 }
 
 pub returns-in-Err : goal.returns-in-Err
-returns-in-Err c = wide_refused _ _ _ refl _ _ c.in-Err.ensures c.in_old_form.ensures.code c.in_old_form.ensures.place
+returns-in-Err c = wide_refused _ _ _ refl _ _ c.in-Err.ensures.verdict c.in_old_form.ensures.code c.in_old_form.ensures.place

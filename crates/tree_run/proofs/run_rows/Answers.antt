@@ -25,11 +25,11 @@ returns-in-Some-clause-run c =
     let read = accepted a.words.now c.in_ok-read_tree.ensures in
     given_is _ _ _ (run_other a.words.now read a.answers.now (length a.performed.now) (sym c.in-Some.is ∙ c.first_not_run.ensures) (kept_none _ _ a.performed.now))
 
-pub link_rows-links-requires-clause-rows_bound : goal.link_rows-links-requires-clause-rows_bound
-link_rows-links-requires-clause-rows_bound c = rows_most c.args.words.now (accepted c.args.words.now c.in_ok-read_tree.ensures)
+pub link_rows-requires-clause-rows_bound : goal.link_rows-requires-clause-rows_bound
+link_rows-requires-clause-rows_bound c = rows_most c.args.words.now (accepted c.args.words.now c.in_ok-read_tree.ensures)
 
-pub link_rows-links-requires-clause-by_index : goal.link_rows-links-requires-clause-by_index
-link_rows-links-requires-clause-by_index c = (begun c.args.words.now c.in_ok-read_tree.ensures).low
+pub link_rows-requires-clause-by_index : goal.link_rows-requires-clause-by_index
+link_rows-requires-clause-by_index c = (begun c.args.words.now c.in_ok-read_tree.ensures).low
 
 pub walk-requires-clause-le_rows : goal.walk-requires-clause-le_rows
 walk-requires-clause-le_rows c = rows_least c.args.words.now (accepted c.args.words.now c.in_ok-read_tree.ensures)
@@ -38,18 +38,18 @@ pub walk-requires-clause-walks : goal.walk-requires-clause-walks
 walk-requires-clause-walks c =
     let words = c.args.words.now in
     let found = c.in_ok-read_tree.ensures in
-    walks words (accepted words found) (links_of c.read_tree.new.begin c.link_rows-links.result) refl (c.link_rows-links.ensures words (begun words found)) c.args.answers.now
+    walks words (accepted words found) (links_of c.read_tree.new.begin c.link_rows.new.links) refl (c.link_rows.ensures words (begun words found)) c.args.answers.now
 
 pub returns-clause-number : goal.returns-clause-number
 returns-clause-number c =
     let words = c.args.words.now in
     let found = c.in_ok-read_tree.ensures in
-    run_fits words (accepted words found) (links_of c.read_tree.new.begin c.link_rows-links.result) refl (c.link_rows-links.ensures words (begun words found))
+    run_fits words (accepted words found) (links_of c.read_tree.new.begin c.link_rows.new.links) refl (c.link_rows.ensures words (begun words found))
     c.args.answers.now (sym c.in_default.is ∙ c.first_not_run.ensures) c.walk.ensures
 
 pub returns-clause-run : goal.returns-clause-run
 returns-clause-run c =
     let words = c.args.words.now in
     let found = c.in_ok-read_tree.ensures in
-    given_is _ _ _ (run_given words (accepted words found) (links_of c.read_tree.new.begin c.link_rows-links.result) refl (c.link_rows-links.ensures words (begun words found))
+    given_is _ _ _ (run_given words (accepted words found) (links_of c.read_tree.new.begin c.link_rows.new.links) refl (c.link_rows.ensures words (begun words found))
     c.args.answers.now (sym c.in_default.is ∙ c.first_not_run.ensures) c.walk.ensures (length c.args.performed.now) (omega (arith, c.walk.auto.performed)))

@@ -1,36 +1,28 @@
 -- `build::file::build_words` meets its contract. Two cases: of a refused build the result alone is printed, of an accepted one its rows too.
--- OutcomeLaws says that the rows are within the buffer and what they print; PrintsLaws that this is the text due.
+-- EntryLaws says that the rows are within the buffer, OutcomeLaws what they print; PrintsLaws that this is the text due.
 use native.Mathlib.Omega.{arith}
-use mathlib.Core.Path.{sym, ◌∙◌}
+use mathlib.Core.Path.{refl, sym}
 use Prim.Native.Nat.{◌*◌, ◌≤◌}
 use lib.ListN.{length}
 use lib.Seq.{length-take-le}
-use Rattle.text.proofs.PrintsLaws.{refusal_lines, written_as}
-use Rattle.control.specs.AroundAbstraction.{rule_of}
-use Rattle.build.specs.Prints.{lent_words, lent_index}
-use Rattle.build.proofs.OutcomeLaws.{built_within, built_printed}
+use Rattle.text.proofs.PrintsLaws.{written_as}
+use Rattle.build.proofs.EntryLaws.{accepted_within}
+use Rattle.build.proofs.OutcomeLaws.{accepted_printed, refused_printed}
 use Rattle.build.proofs.file.build_words.Goals as goal
 
-pub returns-then-built-ne0 : goal.returns-then-built-ne0
-returns-then-built-ne0 c =
-    let b = c.build-built in
-    let e = refusal_lines _ _ _ _ _ _ c.if-built-ne0.true ∙ built_printed (rule_of c.args.rule) c.args.words.now lent_words lent_index b.result b.new.tree b.new.index (sym c.zeros-tree.ensures) (sym c.zeros-index.ensures) b.ensures in
-    written_as e (omega arith) c.write_result.ensures
-
 pub slice_bounds-tree-end : goal.slice_bounds-tree-end
-slice_bounds-tree-end c =
-    let b = c.build-built in
-    omega (arith, built_within _ _ _ _ _ _ _ b.ensures c.if-built-ne0.false, b.auto.tree)
+slice_bounds-tree-end c = omega (arith, (accepted_within _ _ _ _ _ c.in-Ok.ensures refl).0, c.build.auto.tree)
 
-pub slice_bounds-write_result-end-2 : goal.slice_bounds-write_result-end-2
-slice_bounds-write_result-end-2 c =
-    let b = c.build-built in
-    sym (length-take-le _ _ (omega (arith, built_within _ _ _ _ _ _ _ b.ensures c.if-built-ne0.false, b.auto.tree)))
+pub slice_bounds-write_result-end : goal.slice_bounds-write_result-end
+slice_bounds-write_result-end c = sym (length-take-le _ _ (omega (arith, (accepted_within _ _ _ _ _ c.in-Ok.ensures refl).0, c.build.auto.tree)))
 
-pub returns : goal.returns
-returns c =
-    let b = c.build-built in
-    let h = b.ensures in
-    let fits : b.result.rows * 6 ≤ length b.new.tree = omega (arith, built_within _ _ _ _ _ _ _ h c.if-built-ne0.false, b.auto.tree) in
-    let e = built_printed (rule_of c.args.rule) c.args.words.now lent_words lent_index b.result b.new.tree b.new.index (sym c.zeros-tree.ensures) (sym c.zeros-index.ensures) h in
-    written_as e (omega (arith, length-take-le (b.result.rows * 6) b.new.tree fits, fits)) c.write_result-2.ensures
+pub returns-in-Ok : goal.returns-in-Ok
+returns-in-Ok c =
+    let fits : c.in-Ok.built.rows * 6 ≤ length c.build.new.tree = omega (arith, (accepted_within _ _ _ _ _ c.in-Ok.ensures refl).0, c.build.auto.tree) in
+    let e = accepted_printed _ _ _ _ (sym c.zeros-tree.ensures) (sym c.zeros-index.ensures) _ c.in-Ok.ensures in
+    written_as e (omega (arith, length-take-le (c.in-Ok.built.rows * 6) c.build.new.tree fits, fits)) c.write_result.ensures
+
+pub returns-in-Err : goal.returns-in-Err
+returns-in-Err c =
+    let result = rw (c.code.ensures, c.place.ensures, c.rows.ensures, c.visits.ensures) at c.write_result-in-Err.ensures in
+    written_as (refused_printed _ _ _ _ (sym c.zeros-tree.ensures) (sym c.zeros-index.ensures) _ c.in-Err.ensures) (omega arith) result

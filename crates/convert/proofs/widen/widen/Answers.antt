@@ -14,4 +14,4 @@ returns c =
     let cases = first + get_or old 2 0 * 6 in
     let blocks = doubled_between 10 (get_or old 1 0) 6 first old (omega arith) (omega arith) (omega (arith, within)) in
     let instructions = doubled_between 6 (get_or old 2 0) first cases old (omega arith) (omega arith) (omega (arith, within)) in
-    widened_wrote old c.copy_words-head.ensures (rw blocks at c.widen_rows-blocks.ensures.wrote) (rw instructions at c.widen_rows-instructions.ensures.wrote) c.copy_words.ensures
+    widened_wrote old c.put_all-head.ensures (rw blocks at c.widen_rows-blocks.ensures.wrote) (rw instructions at c.widen_rows-instructions.ensures.wrote) c.put_all.ensures

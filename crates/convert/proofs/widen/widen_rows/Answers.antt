@@ -34,7 +34,7 @@ loop-row-preserved c =
     let size = c.loop-row.invariant.0 in
     let step = c.in-Some.ensures.steps in
     let q = c.requires in
-    rw c.put.ensures (step.0 ∙ size, run_more _ _ q.some_words q.width_bound c.loop-row.invariant.1 step.1.0 (step.1.1 ∙ size) c.copy_words-end.ensures)
+    rw c.put.ensures (step.0 ∙ size, run_more _ _ q.some_words q.width_bound c.loop-row.invariant.1 step.1.0 (step.1.1 ∙ size) c.put_all-end.ensures)
 
 pub returns-clause-wrote : goal.returns-clause-wrote
 returns-clause-wrote c =

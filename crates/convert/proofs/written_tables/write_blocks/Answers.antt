@@ -18,8 +18,8 @@ write_part-requires-clause-columns_le_stride c =
 
 pub returns-clause-wrote : goal.returns-clause-wrote
 returns-clause-wrote c =
-    let words = c.args.words.now in
-    let within = sized_within words c.requires.sized in
+    let words = c.args.words.words.now in
+    let within = sized_within words c.args.words.sized in
     let end = c.instructions_begin-end.ensures in
     let names = ap (λ (columns : Columns). columns.names) c.block_columns.ensures in
     let width = ap (λ (columns : Columns). columns.width) c.block_columns.ensures in

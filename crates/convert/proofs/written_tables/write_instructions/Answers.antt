@@ -18,8 +18,8 @@ write_part-requires-clause-columns_le_stride c =
 
 pub returns-clause-wrote : goal.returns-clause-wrote
 returns-clause-wrote c =
-    let words = c.args.words.now in
-    let within = sized_within words c.requires.sized in
+    let words = c.args.words.words.now in
+    let within = sized_within words c.args.words.sized in
     let first = c.instructions_begin-first.ensures in
     let end = c.cases_begin-end.ensures in
     let names = ap (λ (columns : Columns). columns.names) c.instruction_columns.ensures in

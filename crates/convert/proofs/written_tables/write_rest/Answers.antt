@@ -10,8 +10,8 @@ use Rattle.convert.proofs.written_tables.write_rest.Goals as goal
 
 pub returns : goal.returns
 returns c =
-    let words = c.args.words.now in
-    let within = sized_within words c.requires.sized in
+    let words = c.args.words.words.now in
+    let within = sized_within words c.args.words.sized in
     let cases = c.cases_begin-cases.ensures in
     let places = c.places_begin-places.ensures in
     let identifiers = c.identifiers_begin-identifiers.ensures in

@@ -15,7 +15,7 @@ loop-row-init c = record { room = omega arith; written = []; rest = all_rows _; 
 pub loop-row-preserved : goal.loop-row-preserved
 loop-row-preserved c =
     let I = c.loop-row.invariant in
-    let t = table_of c.args.words.now in
+    let t = table_of c.args.table.words.now in
     let below = rw c.block_count-row-end.ensures at c.loop-row-test.true in
     record {
       room = omega (arith, I.room, c.write_row-at.ensures.upper_bound);
@@ -27,6 +27,6 @@ loop-row-preserved c =
 pub returns-clause-wrote : goal.returns-clause-wrote
 returns-clause-wrote c =
     let I = c.loop-row.invariant in
-    let words = c.args.words.now in
+    let words = c.args.table.words.now in
     let none = rows_done (table_of words) (block_count words) c.loop-row.row (rw c.block_count-row-end.ensures at c.loop-row-test.false) in
     rw (sym (append-nil I.written) ∙ rw none at I.rest) at I.wrote

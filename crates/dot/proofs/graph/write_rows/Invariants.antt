@@ -18,4 +18,4 @@ pub record Run (t : Table) (text₀ : List ℕ) (start rows : ℕ) (text : List 
   pub wrote : Wrote text₀ start written text at
 
 abbrev pub invariant-loop-row : goal.invariant-loop-row
-invariant-loop-row l = Run (table_of l.words) l.initial.text l.start (block_count l.words) l.text l.at l.row
+invariant-loop-row l = Run (table_of l.table.words.now) l.initial.text l.start (block_count l.table.words.now) l.text l.at l.row

@@ -3,13 +3,13 @@ use Rattle.order.proofs.WalkLaws.{walked_first, walked_few, walked_block, walked
 use Rattle.order.proofs.block_walk.walk.Goals as goal
 
 pub loop-row-init : goal.loop-row-init
-loop-row-init c = walked_first c.args.words.now c.requires c.new-queue.ensures c.entry.ensures c.name.ensures
+loop-row-init c = walked_first c.args.table.words.now c.args.table.promise c.requires c.entry.ensures c.name.ensures
 
-pub name_row-requires-clause-row_bound : goal.name_row-requires-clause-row_bound
-name_row-requires-clause-row_bound c = let here = c.in-Some.ensures in walked_block _ _ _ c.loop-row.invariant here.0 here.1
+pub name_row-requires : goal.name_row-requires
+name_row-requires c = let here = c.in-Some.ensures in walked_block _ _ _ c.loop-row.invariant here.0 here.1
 
 pub overflow_add-place : goal.overflow_add-place
-overflow_add-place c = omega (arith, c.in-Some.ensures.0, walked_few _ _ _ c.loop-row.invariant, c.requires.sized.limited.blocks)
+overflow_add-place c = omega (arith, c.in-Some.ensures.0, walked_few _ _ _ c.loop-row.invariant, c.args.table.promise.sized.limited.blocks)
 
 pub loop-row-smaller : goal.loop-row-smaller
 loop-row-smaller c = omega (arith, c.in-Some.ensures.0, walked_few _ _ _ c.loop-row.invariant)
@@ -17,7 +17,7 @@ loop-row-smaller c = omega (arith, c.in-Some.ensures.0, walked_few _ _ _ c.loop-
 pub loop-row-preserved : goal.loop-row-preserved
 loop-row-preserved c =
     let here = c.in-Some.ensures in
-    walked_next _ _ _ c.loop-row.invariant here.0 here.1 c.name_row.ensures (names_below _ c.requires _)
+    walked_next _ _ _ c.loop-row.invariant here.0 here.1 c.name_row.ensures (names_below _ c.args.table.promise _)
 
 pub returns : goal.returns
 returns c = walked_all _ _ _ c.loop-row.invariant c.in_default.ensures

@@ -6,7 +6,7 @@ use Rattle.order.proofs.WalkLaws.{Walked}
 use Rattle.order.proofs.block_walk.walk.Given as goal
 
 abbrev pub invariant-loop-row : goal.invariant-loop-row
-invariant-loop-row l = Walked (table_of l.words) (block_count l.words) ((table_of l.words).entry ∷ []) l.queue l.place
+invariant-loop-row l = Walked (table_of l.table.words.now) (block_count l.table.words.now) ((table_of l.table.words.now).entry ∷ []) l.queue l.place
 
 abbrev pub decreases-loop-row : goal.decreases-loop-row
-decreases-loop-row l = block_count l.words - l.place
+decreases-loop-row l = block_count l.table.words.now - l.place

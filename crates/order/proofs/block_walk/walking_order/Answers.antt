@@ -14,10 +14,10 @@ loop-block-preserved c = row_named _ c.loop-block.block c.loop-block.invariant c
 pub copy_to-requires : goal.copy_to-requires
 copy_to-requires c =
     let all : c.loop-block.block ≡ c.block_count-block-end.result = omega (arith, c.loop-block.auto.block-end, c.loop-block-test.false) in
-    let whole = in_order c.args.words.now c.walk-queue.ensures (rw (all, c.block_count-block-end.ensures) at c.loop-block.invariant) in
-    c.requires.list_len ∙ sym (ap length whole ∙ order_long _ c.requires.promise)
+    let whole = in_order c.args.table.words.now c.walk.ensures (rw (all, c.block_count-block-end.ensures) at c.loop-block.invariant) in
+    c.requires ∙ sym (ap length whole ∙ order_long _ c.args.table.promise)
 
 pub returns : goal.returns
 returns c =
     let all : c.loop-block.block ≡ c.block_count-block-end.result = omega (arith, c.loop-block.auto.block-end, c.loop-block-test.false) in
-    c.copy_to.ensures ∙ in_order c.args.words.now c.walk-queue.ensures (rw (all, c.block_count-block-end.ensures) at c.loop-block.invariant)
+    c.copy_to.ensures ∙ in_order c.args.table.words.now c.walk.ensures (rw (all, c.block_count-block-end.ensures) at c.loop-block.invariant)

@@ -2,7 +2,7 @@ use Rattle.order.proofs.ListLaws.{block_small, numbered_none, numbered_next, num
 use Rattle.order.proofs.list.new_numbers.Goals as goal
 
 pub loop-place-init : goal.loop-place-init
-loop-place-init c = numbered_none _
+loop-place-init c = numbered_none _ search
 
 pub bounds-new-block : goal.bounds-new-block
 bounds-new-block c = block_small _ c.requires.few c.requires.permutation _ c.loop-place-test.true

@@ -5,4 +5,4 @@ use Rattle.order.specs.Write.{Writing}
 use Rattle.order.proofs.write.write_blocks.Given as goal
 
 abbrev pub invariant-loop-row : goal.invariant-loop-row
-invariant-loop-row l = (l.row ≤ block_count l.words) × Writing l.words l.names l.rows l.new_words (6 + l.row * 11)
+invariant-loop-row l = (l.row ≤ block_count l.table.words.now) × Writing l.table.words.now l.names l.rows l.new_words (6 + l.row * 11)

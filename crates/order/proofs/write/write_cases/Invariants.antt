@@ -5,4 +5,4 @@ use Rattle.order.specs.Write.{Writing}
 use Rattle.order.proofs.write.write_cases.Given as goal
 
 abbrev pub invariant-loop-case : goal.invariant-loop-case
-invariant-loop-case l = (l.case ≤ case_count l.words) × Writing l.words l.names l.rows l.new_words (cases_begin l.words + l.case * 2)
+invariant-loop-case l = (l.case ≤ case_count l.table.words.now) × Writing l.table.words.now l.names l.rows l.new_words (cases_begin l.table.words.now + l.case * 2)

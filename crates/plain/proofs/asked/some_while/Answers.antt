@@ -9,5 +9,5 @@ use Rattle.plain.proofs.asked.some_while.Goals as goal
 pub returns : goal.returns
 returns c =
     let test = λ (_ : ℕ) (m : Terminal). is_while c.args.test c.args.body c.args.fallthrough (shape_of m) in
-    any_from_yields_List (asked c.args.words.now test) _ _ _ c.any.ensures.ran (YieldsList-from_range 0 _ c.block_count.result refl (omega arith)) (λ x b q k. search rules)
-    ∙ some_block c.args.words.now test c.block_count.ensures
+    any_from_yields_List (asked c.args.table.words.now test) _ _ _ c.any.ensures.ran (YieldsList-from_range 0 _ c.block_count.result refl (omega arith)) (λ x b q k. search rules)
+    ∙ some_block c.args.table.words.now test c.block_count.ensures

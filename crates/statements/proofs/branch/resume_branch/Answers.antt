@@ -3,21 +3,21 @@ use Rattle.statements.proofs.ResumeLaws.{closing_of, resumed_closed, resumed_see
 use Rattle.statements.proofs.branch.resume_branch.Goals as goal
 
 pub close_statement-requires : goal.close_statement-requires
-close_statement-requires c = closing_of c.args.words.now c.args.p c.args.frame c.requires.resuming
+close_statement-requires c = closing_of c.args.at.table.words.now c.args.at.p c.args.at.frame c.args.at.resuming
 
-pub returns-then-frame : goal.returns-then-frame
-returns-then-frame c =
-    resumed_seen c.args.words.now c.args.p c.args.frame
-    (resumed_closed c.args.words.now c.args.p c.args.frame
-    (branch_second c.args.words.now c.args.p c.args.frame c.requires.resuming c.branch_at-terminal.ensures c.if-frame.true)
+pub returns-then-at : goal.returns-then-at
+returns-then-at c =
+    resumed_seen c.args.at.table.words.now c.args.at.p c.args.at.frame
+    (resumed_closed c.args.at.table.words.now c.args.at.p c.args.at.frame
+    (branch_second c.args.at.table.words.now c.args.at.p c.args.at.frame c.args.at.resuming c.requires.ends c.if-at.true)
     c.close_statement.ensures)
 
 pub alternate-requires : goal.alternate-requires
-alternate-requires c = branch_alternate_below c.args.words.now c.args.p c.args.frame c.requires.resuming c.branch_at-terminal.ensures
+alternate-requires c = branch_alternate_below c.args.at.table.words.now c.args.at.p c.args.at.frame c.args.at.resuming c.requires.ends
 
 pub returns : goal.returns
 returns c =
-    resumed_alternate c.args.words.now c.args.p c.args.frame c.args.scheduled.now c.args.catch_handlers.now _ (BranchAlternateScheduled c.args.frame.block) _
-    c.args.tree.now (branch_alternate c.args.words.now c.args.p c.args.frame c.requires.resuming c.branch_at-terminal.ensures
-    c.if-frame.false) c.requires.resuming.depth
+    resumed_alternate c.args.at.table.words.now c.args.at.p c.args.at.frame _ _ _ (BranchAlternateScheduled c.args.at.frame.block) _
+    c.args.tree.now (branch_alternate c.args.at.table.words.now c.args.at.p c.args.at.frame c.args.at.resuming c.requires.ends
+    c.if-at.false) c.args.at.resuming.depth
     c.alternate.ensures

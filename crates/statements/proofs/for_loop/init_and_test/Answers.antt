@@ -11,4 +11,4 @@ pub returns : goal.returns
 returns c =
     let first = c.in_ok-first.ensures in
     let more = c.plain_value.ensures in
-    record { made = tested_made_lem _ _ c.args.init c.args.test c.tally_of.ensures first more; spent = second_spent c.args.p _ c.tally_of.ensures first.spent more.spent }
+    record { made = tested_made_lem _ _ c.args.init c.args.test c.tally_of.ensures first more; spent = second_spent c.args.at.p _ c.tally_of.ensures first.spent more.spent }

@@ -3,31 +3,31 @@ use Rattle.statements.proofs.ResumeLaws.{closing_of, resumed_closed, resumed_see
 use Rattle.statements.proofs.if_else.resume_if.Goals as goal
 
 pub close_statement-requires : goal.close_statement-requires
-close_statement-requires c = closing_of c.args.words.now c.args.p c.args.frame c.requires.resuming
+close_statement-requires c = closing_of c.args.at.table.words.now c.args.at.p c.args.at.frame c.args.at.resuming
 
-pub returns-then-frame : goal.returns-then-frame
-returns-then-frame c =
-    resumed_seen c.args.words.now c.args.p c.args.frame
-    (resumed_closed c.args.words.now c.args.p c.args.frame
-    (if_second c.args.words.now c.args.p c.args.frame c.requires.resuming c.if_at-terminal.ensures c.if-frame.true)
+pub returns-then-at : goal.returns-then-at
+returns-then-at c =
+    resumed_seen c.args.at.table.words.now c.args.at.p c.args.at.frame
+    (resumed_closed c.args.at.table.words.now c.args.at.p c.args.at.frame
+    (if_second c.args.at.table.words.now c.args.at.p c.args.at.frame c.args.at.resuming c.requires.ends c.if-at.true)
     c.close_statement.ensures)
 
-pub close_statement-requires-then-block-terminal : goal.close_statement-requires-then-block-terminal
-close_statement-requires-then-block-terminal c = closing_of c.args.words.now c.args.p c.args.frame c.requires.resuming
+pub close_statement-requires-then-block-end : goal.close_statement-requires-then-block-end
+close_statement-requires-then-block-end c = closing_of c.args.at.table.words.now c.args.at.p c.args.at.frame c.args.at.resuming
 
-pub returns-then-block-terminal : goal.returns-then-block-terminal
-returns-then-block-terminal c =
-    resumed_seen c.args.words.now c.args.p c.args.frame
-    (resumed_closed c.args.words.now c.args.p c.args.frame
-    (if_without c.args.words.now c.args.p c.args.frame c.requires.resuming c.if_at-terminal.ensures c.if-frame.false c.if-block-terminal.true)
-    c.close_statement-then-block-terminal.ensures)
+pub returns-then-block-end : goal.returns-then-block-end
+returns-then-block-end c =
+    resumed_seen c.args.at.table.words.now c.args.at.p c.args.at.frame
+    (resumed_closed c.args.at.table.words.now c.args.at.p c.args.at.frame
+    (if_without c.args.at.table.words.now c.args.at.p c.args.at.frame c.args.at.resuming c.requires.ends c.if-at.false c.if-block-end.true)
+    c.close_statement-then-block-end.ensures)
 
 pub alternate-requires : goal.alternate-requires
-alternate-requires c = if_alternate_below c.args.words.now c.args.p c.args.frame c.requires.resuming c.if_at-terminal.ensures
+alternate-requires c = if_alternate_below c.args.at.table.words.now c.args.at.p c.args.at.frame c.args.at.resuming c.requires.ends
 
 pub returns : goal.returns
 returns c =
-    resumed_alternate c.args.words.now c.args.p c.args.frame c.args.scheduled.now c.args.catch_handlers.now _ (AlternateScheduled c.if_at-terminal.result.alternate) _
-    c.args.tree.now (if_alternate c.args.words.now c.args.p c.args.frame c.requires.resuming c.if_at-terminal.ensures
-    c.if-frame.false c.if-block-terminal.false) c.requires.resuming.depth
+    resumed_alternate c.args.at.table.words.now c.args.at.p c.args.at.frame _ _ _ (AlternateScheduled c.args.end.alternate) _
+    c.args.tree.now (if_alternate c.args.at.table.words.now c.args.at.p c.args.at.frame c.args.at.resuming c.requires.ends
+    c.if-at.false c.if-block-end.false) c.args.at.resuming.depth
     c.alternate.ensures

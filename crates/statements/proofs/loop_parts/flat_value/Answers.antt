@@ -9,13 +9,13 @@ use Rattle.statements.proofs.loop_parts.flat_value.Goals as goal
 
 pub returns-in_err-value : goal.returns-in_err-value
 returns-in_err-value c =
-    rw (← c.span_at-span.ensures) (more_refused c.args.before (visit_value_block (table_of c.args.words.now) (127 - c.args.p.depth))
-    (flat_form (table_of c.args.words.now) c.span_at-span.result) c.args.block c.span_at-span.result (handed_on c.from_residual.ensures) c.in_err-value.ensures)
+    rw (← c.span-span.ensures) (more_refused c.args.before (visit_value_block (table_of c.args.at.table.words.now) (127 - c.args.at.p.depth))
+    (flat_form (table_of c.args.at.table.words.now) c.span-span.result) c.args.block c.span-span.result (handed_on c.from_residual.ensures) c.in_err-value.ensures)
 
 pub returns : goal.returns
 returns c =
     let value = c.in_ok-value.ensures in
     let flat = c.value_block_result_to_sequence-rows.ensures in
-    rw (← c.span_at-span.ensures) (more_found c.args.before (visit_value_block (table_of c.args.words.now) (127 - c.args.p.depth))
-    (flat_form (table_of c.args.words.now) c.span_at-span.result) c.args.block c.span_at-span.result value _ _ refl flat.most
+    rw (← c.span-span.ensures) (more_found c.args.before (visit_value_block (table_of c.args.at.table.words.now) (127 - c.args.at.p.depth))
+    (flat_form (table_of c.args.at.table.words.now) c.span-span.result) c.args.block c.span-span.result value _ _ refl flat.most
     (λ below h. flat.held value.value value.found.ends below h))

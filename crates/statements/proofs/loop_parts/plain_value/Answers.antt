@@ -10,10 +10,10 @@ use Rattle.statements.proofs.loop_parts.plain_value.Goals as goal
 
 pub returns-in_err-value : goal.returns-in_err-value
 returns-in_err-value c =
-    rw (← c.span_at-span.ensures) (more_refused c.args.before (visit_value_block (table_of c.args.words.now) (127 - c.args.p.depth))
-    plain_form c.args.block c.span_at-span.result (handed_on c.from_residual.ensures) c.in_err-value.ensures)
+    rw (← c.span-span.ensures) (more_refused c.args.before (visit_value_block (table_of c.args.at.table.words.now) (127 - c.args.at.p.depth))
+    plain_form c.args.block c.span-span.result (handed_on c.from_residual.ensures) c.in_err-value.ensures)
 
 pub returns : goal.returns
 returns c =
-    rw (← c.span_at-span.ensures) (more_found c.args.before (visit_value_block (table_of c.args.words.now) (127 - c.args.p.depth))
-    plain_form c.args.block c.span_at-span.result c.in_ok-value.ensures _ _ refl (omega arith) (λ below h. h))
+    rw (← c.span-span.ensures) (more_found c.args.before (visit_value_block (table_of c.args.at.table.words.now) (127 - c.args.at.p.depth))
+    plain_form c.args.block c.span-span.result c.in_ok-value.ensures _ _ refl (omega arith) (λ below h. h))

@@ -6,63 +6,57 @@ use Rattle.statements.proofs.ResumeLaws.{choosing_fits, chosen_turn, choice_clos
 use Rattle.statements.proofs.switch.choose_case.Goals as goal
 
 pub close_statement-requires : goal.close_statement-requires
-close_statement-requires c = (choosing_fits c.args.words.now c.args.p c.args.frame c.requires.ready c.requires.stage_value).closing
+close_statement-requires c = (choosing_fits c.args.table.words.now c.args.p c.args.frame c.requires.ready c.requires.stage_value).closing
 
 pub returns-then-frame-eq0 : goal.returns-then-frame-eq0
 returns-then-frame-eq0 c around =
-    chosen_turn c.args.words.now c.args.p c.args.frame c.requires.ready c.requires.stage_value
-    (choice_closes c.args.words.now c.args.p c.args.frame
-    (choosing_fits c.args.words.now c.args.p c.args.frame c.requires.ready c.requires.stage_value) c.if-frame-eq0.true
+    chosen_turn c.args.table.words.now c.args.p c.args.frame c.requires.ready c.requires.stage_value
+    (choice_closes c.args.table.words.now c.args.p c.args.frame
+    (choosing_fits c.args.table.words.now c.args.p c.args.frame c.requires.ready c.requires.stage_value) c.if-frame-eq0.true
     c.close_statement.ensures)
 
-pub switch_at-terminal-requires : goal.switch_at-terminal-requires
-switch_at-terminal-requires c =
-    let fits = (choosing_fits c.args.words.now c.args.p c.args.frame c.requires.ready c.requires.stage_value) in
-    record { promise = c.requires.ready.promise; block_bound = fits.closing.block; block_value = fits.code }
+pub terminal-requires : goal.terminal-requires
+terminal-requires c = (choosing_fits c.args.table.words.now c.args.p c.args.frame c.requires.ready c.requires.stage_value).closing.block
 
-pub overflow_add-terminal : goal.overflow_add-terminal
-overflow_add-terminal c =
+pub overflow_add-end : goal.overflow_add-end
+overflow_add-end c =
     omega (
       arith,
-      last_below c.args.words.now c.args.p c.args.frame (choosing_fits c.args.words.now c.args.p
-          c.args.frame c.requires.ready c.requires.stage_value) c.switch_at-terminal.ensures c.if-frame-eq0.false,
-      c.requires.ready.promise.sized.limited.cases,
+      last_below c.args.table.words.now c.args.p c.args.frame (choosing_fits c.args.table.words.now c.args.p
+          c.args.frame c.requires.ready c.requires.stage_value) c.in-Switch.ensures c.if-frame-eq0.false,
+      c.args.table.promise.sized.limited.cases,
     )
 
-pub case_at-case-requires : goal.case_at-case-requires
-case_at-case-requires c =
-    record {
-      promise = c.requires.ready.promise;
-      case_bound = last_below c.args.words.now c.args.p c.args.frame (choosing_fits c.args.words.now
-          c.args.p c.args.frame c.requires.ready c.requires.stage_value) c.switch_at-terminal.ensures c.if-frame-eq0.false;
-    }
+pub case-case-requires : goal.case-case-requires
+case-case-requires c =
+    last_below c.args.table.words.now c.args.p c.args.frame (choosing_fits c.args.table.words.now c.args.p c.args.frame c.requires.ready c.requires.stage_value) c.in-Switch.ensures c.if-frame-eq0.false
 
-pub scheduled_at-requires : goal.scheduled_at-requires
-scheduled_at-requires c = omega (arith, c.case_at-case.ensures.there, c.case_at-case.ensures.few)
+pub is_scheduled-requires : goal.is_scheduled-requires
+is_scheduled-requires c = omega (arith, c.case-case.ensures.there, c.case-case.ensures.few)
 
-pub returns-then-block-terminal : goal.returns-then-block-terminal
-returns-then-block-terminal c around =
-    chosen_turn c.args.words.now c.args.p c.args.frame c.requires.ready c.requires.stage_value
-    (choice_refused c.args.words.now c.args.p c.args.frame
-    (choosing_fits c.args.words.now c.args.p c.args.frame c.requires.ready c.requires.stage_value) c.switch_at-terminal.ensures
-    c.case_at-case.ensures
-    c.args.scheduled.now c.args.catch_handlers.now c.if-frame-eq0.false _ c.args.tree.now
-    (sym c.scheduled_at.ensures ∙ c.if-scheduled_at.true) c.if-block-terminal.true c.refuse.ensures)
+pub returns-then-block-end : goal.returns-then-block-end
+returns-then-block-end c around =
+    chosen_turn c.args.table.words.now c.args.p c.args.frame c.requires.ready c.requires.stage_value
+    (choice_refused c.args.table.words.now c.args.p c.args.frame
+    (choosing_fits c.args.table.words.now c.args.p c.args.frame c.requires.ready c.requires.stage_value) c.in-Switch.ensures
+    c.case-case.ensures
+    c.args.blocks.scheduled.now c.args.blocks.catch_handlers.now c.if-frame-eq0.false _ c.args.tree.now
+    (sym c.is_scheduled.ensures ∙ c.if-is_scheduled.true) c.if-block-end.true c.refuse.ensures)
 
-pub returns-then-scheduled_at : goal.returns-then-scheduled_at
-returns-then-scheduled_at c around =
-    chosen_turn c.args.words.now c.args.p c.args.frame c.requires.ready c.requires.stage_value
-    (choice_skips c.args.words.now c.args.p c.args.frame
-    (choosing_fits c.args.words.now c.args.p c.args.frame c.requires.ready c.requires.stage_value) c.switch_at-terminal.ensures
-    c.case_at-case.ensures
-    c.args.scheduled.now c.args.catch_handlers.now c.if-frame-eq0.false _ c.args.tree.now
-    (sym c.scheduled_at.ensures ∙ c.if-scheduled_at.true) c.if-block-terminal.false (rw c.with_counts-rest.ensures at c.choose.ensures))
+pub returns-then-is_scheduled : goal.returns-then-is_scheduled
+returns-then-is_scheduled c around =
+    chosen_turn c.args.table.words.now c.args.p c.args.frame c.requires.ready c.requires.stage_value
+    (choice_skips c.args.table.words.now c.args.p c.args.frame
+    (choosing_fits c.args.table.words.now c.args.p c.args.frame c.requires.ready c.requires.stage_value) c.in-Switch.ensures
+    c.case-case.ensures
+    c.args.blocks.scheduled.now c.args.blocks.catch_handlers.now c.if-frame-eq0.false _ c.args.tree.now
+    (sym c.is_scheduled.ensures ∙ c.if-is_scheduled.true) c.if-block-end.false (rw c.with_counts-rest.ensures at c.choose.ensures))
 
 pub returns : goal.returns
 returns c around =
-    chosen_turn c.args.words.now c.args.p c.args.frame c.requires.ready c.requires.stage_value
-    (choice_visits c.args.words.now c.args.p c.args.frame
-    (choosing_fits c.args.words.now c.args.p c.args.frame c.requires.ready c.requires.stage_value) c.switch_at-terminal.ensures
-    c.case_at-case.ensures
-    c.args.scheduled.now c.args.catch_handlers.now c.if-frame-eq0.false _ c.args.tree.now
-    (sym c.scheduled_at.ensures ∙ c.if-scheduled_at.false) (rw c.with_counts-rest.ensures at c.traverse_block.ensures))
+    chosen_turn c.args.table.words.now c.args.p c.args.frame c.requires.ready c.requires.stage_value
+    (choice_visits c.args.table.words.now c.args.p c.args.frame
+    (choosing_fits c.args.table.words.now c.args.p c.args.frame c.requires.ready c.requires.stage_value) c.in-Switch.ensures
+    c.case-case.ensures
+    c.args.blocks.scheduled.now c.args.blocks.catch_handlers.now c.if-frame-eq0.false _ c.args.tree.now
+    (sym c.is_scheduled.ensures ∙ c.if-is_scheduled.false) (rw c.with_counts-rest.ensures at c.traverse_block.ensures))

@@ -2,15 +2,15 @@ use Rattle.statements.proofs.ResumeLaws.{closing_of, resumed_closed, try_second,
 use Rattle.statements.proofs.try_catch.resume_try.Goals as goal
 
 pub close_statement-requires : goal.close_statement-requires
-close_statement-requires c = closing_of c.args.words.now c.args.p c.args.frame c.requires.resuming
+close_statement-requires c = closing_of c.args.at.table.words.now c.args.at.p c.args.at.frame c.args.at.resuming
 
-pub returns-then-frame : goal.returns-then-frame
-returns-then-frame c =
-    resumed_closed c.args.words.now c.args.p c.args.frame
-    (try_second c.args.words.now c.args.p c.args.frame c.requires.resuming c.try_at-terminal.ensures c.if-frame.true)
+pub returns-then-at : goal.returns-then-at
+returns-then-at c =
+    resumed_closed c.args.at.table.words.now c.args.at.p c.args.at.frame
+    (try_second c.args.at.table.words.now c.args.at.p c.args.at.frame c.args.at.resuming c.requires.ends c.if-at.true)
     c.close_statement.ensures
 
 pub returns : goal.returns
 returns c =
-    try_handler c.args.words.now c.args.p c.args.frame c.requires.resuming c.try_at-terminal.ensures _ c.args.tree.now c.if-frame.false
+    try_handler c.args.at.table.words.now c.args.at.p c.args.at.frame c.args.at.resuming c.requires.ends _ c.args.tree.now c.if-at.false
     (rw (← c.second_part.ensures) c.traverse_block.ensures)

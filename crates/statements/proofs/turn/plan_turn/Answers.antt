@@ -6,13 +6,13 @@ use Rattle.statements.proofs.ValuesLaws.{making, valued}
 use Rattle.statements.proofs.turn.plan_turn.Goals as goal
 
 pub visit_block-requires : goal.visit_block-requires
-visit_block-requires c = record { visits = visits_ready _ _ _ c.requires.ready c.in-Visit.is; aim_below = c.requires.aim_below }
+visit_block-requires c = visits_ready _ _ _ c.requires c.in-Visit.is
 
 pub close_statement-requires : goal.close_statement-requires
-close_statement-requires c = closing_at_pop _ _ _ c.requires.ready c.in-Pop.is
+close_statement-requires c = closing_at_pop _ _ _ c.requires c.in-Pop.is
 
 pub visit_values-requires : goal.visit_values-requires
-visit_values-requires c = making _ _ _ c.requires.ready c.in-Values.is
+visit_values-requires c = making _ _ _ c.requires c.in-Values.is
 
 pub returns-in-Visit : goal.returns-in-Visit
 returns-in-Visit c around = c.visit_block.ensures _ around
@@ -24,7 +24,7 @@ pub returns-in-Choose : goal.returns-in-Choose
 returns-in-Choose c around = turn_on _ _ _ (λ C o. shown_seen o) (c.choose_case.ensures around)
 
 pub returns-in-Pop : goal.returns-in-Pop
-returns-in-Pop c around = turn_on _ _ _ (λ C o. o.visits) (popped _ _ _ c.requires.ready c.in-Pop.is c.close_statement.ensures)
+returns-in-Pop c around = turn_on _ _ _ (λ C o. o.visits) (popped _ _ _ c.requires c.in-Pop.is c.close_statement.ensures)
 
 pub returns-in-Values : goal.returns-in-Values
-returns-in-Values c around = turn_on _ _ _ (λ C o. o.visits) (valued _ _ _ c.requires.ready c.in-Values.is c.visit_values.ensures)
+returns-in-Values c around = turn_on _ _ _ (λ C o. o.visits) (valued _ _ _ c.requires c.in-Values.is c.visit_values.ensures)

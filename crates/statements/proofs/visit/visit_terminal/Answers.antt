@@ -1,87 +1,95 @@
--- `statements::visit::visit_terminal` meets its contract, by the code of the block. Each arm's contract is the machine's turn; only Goto and Branch look at what is
--- around (TerminalLaws: `goto_seen`, `branch_seen`; `elsewhere` for the others). Codes 0 and above 21 do not occur.
-use Prim.Native.Nat.{◌<◌}
-use mathlib.Core.Logic.{◌⊎◌, inl, inr}
-use mathlib.Core.Path.{◌≡◌, refl, sym, ap, ◌∙◌}
-use native.Mathlib.Omega.{arith}
-use Rattle.statements.specs.Loops.{value_code}
+-- `statements::visit::visit_terminal` meets its contract, by the terminal of the block. Each arm's contract is the machine's turn; only Goto and Branch look at what is
+-- around (TerminalLaws: `goto_seen`, `branch_seen`; `elsewhere` for the others). Absent does not occur.
+use mathlib.Core.Bool.{true, false}
+use mathlib.Core.Path.{refl, sym, ap, ◌∙◌}
+use Rattle.table.specs.Table.{is_absent}
+use Rattle.definition.proofs.Steps.{true_false}
+use Rattle.statements.specs.Loops.{value_fallthrough}
 use Rattle.statements.proofs.VisitLaws.{unreachable_left}
 use Rattle.statements.proofs.PlannedLaws.{planned_as}
-use Rattle.statements.proofs.TerminalLaws.{goto_seen, branch_seen, elsewhere, Rest, scope_past, no_jump, value_came}
-use Rattle.table.proofs.RangeLaws.{code_known}
+use Rattle.statements.proofs.TerminalLaws.{goto_seen, branch_seen, elsewhere}
 use Rattle.statements.proofs.visit.visit_terminal.Goals as goal
-use Rattle.statements.proofs.visit.visit_terminal.Goals.{In-13-1, in-17-1, in_default+then-this-lt16}
 
-pub visit_scope-requires : goal.visit_scope-requires
-visit_scope-requires c = record { entered = c.requires.entered; bound = omega (arith, c.code_at.ensures, scope_past _ c.in-20.in_default-own.rest c.in-20.if-this-lt16-own.false) }
+pub returns-in-Absent : goal.returns-in-Absent
+returns-in-Absent c around = absurd (true_false (sym (ap is_absent c.in-Absent.ensures.is) ∙ c.requires))
 
--- the two ways into the arm of the values' codes
-came : (c : In-13-1) → (c.code_at.result ≡ 17) ⊎ (Rest c.code_at.result × (c.code_at.result < 16))
-came c = elim c.in-13-1.branch [
-  | in-17-1 w ↦ inl w.in-17-1.keys14
-  | in_default+then-this-lt16 w ↦ inr (w.in_default-1.rest, w.if-this-lt16-1.true)
-]
+pub returns-in-Unreachable : goal.returns-in-Unreachable
+returns-in-Unreachable c around = elsewhere around c.args.at.entered c.in-Unreachable.ensures refl (λ C o. o.seen) (unreachable_left c.args.at.entered c.in-Unreachable.ensures c.leave.ensures _)
+
+pub returns-in-Throw : goal.returns-in-Throw
+returns-in-Throw c around = elsewhere around c.args.at.entered c.in-Throw.ensures refl (λ C o. o.seen.visits) c.visit_throw.ensures
+
+pub returns-in-Return : goal.returns-in-Return
+returns-in-Return c around = elsewhere around c.args.at.entered c.in-Return.ensures refl (λ C o. o.seen.visits) c.visit_return.ensures
+
+pub returns-in-Goto : goal.returns-in-Goto
+returns-in-Goto c around = planned_as (λ F R C. refl) (λ C o. goto_seen o) (c.visit_goto.ensures around)
+
+pub returns-in-If : goal.returns-in-If
+returns-in-If c around = elsewhere around c.args.at.entered c.in-If.ensures refl (λ C o. o.seen) (c.visit_if.ensures _)
+
+pub returns-in-Branch : goal.returns-in-Branch
+returns-in-Branch c around = planned_as (λ F R C. refl) (λ C o. branch_seen o) (c.visit_branch.ensures around)
+
+pub returns-in-Switch : goal.returns-in-Switch
+returns-in-Switch c around = elsewhere around c.args.at.entered c.in-Switch.ensures refl (λ C o. o.seen) (c.visit_switch.ensures _)
+
+pub returns-in-DoWhile : goal.returns-in-DoWhile
+returns-in-DoWhile c around = elsewhere around c.args.at.entered c.in-DoWhile.ensures refl (λ C o. o.seen) (c.visit_do_while.ensures _)
+
+pub returns-in-While : goal.returns-in-While
+returns-in-While c around = elsewhere around c.args.at.entered c.in-While.ensures refl (λ C o. o.seen) (c.visit_while.ensures _)
+
+pub returns-in-For : goal.returns-in-For
+returns-in-For c around = elsewhere around c.args.at.entered c.in-For.ensures refl (λ C o. o.seen) (c.visit_for.ensures _)
+
+pub returns-in-ForOf : goal.returns-in-ForOf
+returns-in-ForOf c around = elsewhere around c.args.at.entered c.in-ForOf.ensures refl (λ C o. o.seen) (c.visit_for_of.ensures _)
+
+pub returns-in-ForIn : goal.returns-in-ForIn
+returns-in-ForIn c around = elsewhere around c.args.at.entered c.in-ForIn.ensures refl (λ C o. o.seen) (c.visit_for_in.ensures _)
+
+pub returns-in-Logical : goal.returns-in-Logical
+returns-in-Logical c around = elsewhere around c.args.at.entered c.in-Logical.ensures refl (λ C o. o.seen) (c.visit_value.ensures _)
+
+pub returns-in-Ternary : goal.returns-in-Ternary
+returns-in-Ternary c around = elsewhere around c.args.at.entered c.in-Ternary.ensures refl (λ C o. o.seen) (c.visit_value-in-Ternary.ensures _)
+
+pub returns-in-Optional : goal.returns-in-Optional
+returns-in-Optional c around = elsewhere around c.args.at.entered c.in-Optional.ensures refl (λ C o. o.seen) (c.visit_value-in-Optional.ensures _)
+
+pub returns-in-Label : goal.returns-in-Label
+returns-in-Label c around = elsewhere around c.args.at.entered c.in-Label.ensures refl (λ C o. o.seen) (c.visit_label.ensures _)
+
+pub returns-in-Sequence : goal.returns-in-Sequence
+returns-in-Sequence c around = elsewhere around c.args.at.entered c.in-Sequence.ensures refl (λ C o. o.seen) (c.visit_value-in-Sequence.ensures _)
+
+pub returns-in-MaybeThrow : goal.returns-in-MaybeThrow
+returns-in-MaybeThrow c around = elsewhere around c.args.at.entered c.in-MaybeThrow.ensures refl (λ C o. o.seen) (c.visit_maybe_throw.ensures _)
+
+pub returns-in-Try : goal.returns-in-Try
+returns-in-Try c around = elsewhere around c.args.at.entered c.in-Try.ensures refl (λ C o. o.seen) (c.visit_try.ensures _)
+
+pub returns-in-Scope : goal.returns-in-Scope
+returns-in-Scope c around = elsewhere around c.args.at.entered c.in-Scope.ensures refl (λ C o. o.seen) (c.visit_scope.ensures _)
+
+pub returns-in-PrunedScope : goal.returns-in-PrunedScope
+returns-in-PrunedScope c around = elsewhere around c.args.at.entered c.in-PrunedScope.ensures refl (λ C o. o.seen) (c.visit_scope-in-PrunedScope.ensures _)
 
 pub visit_value-requires : goal.visit_value-requires
-visit_value-requires c = record { entered = c.requires.entered; block_value = ap value_code (sym c.code_at.ensures) ∙ (value_came _ (came c)).0 }
+visit_value-requires c = record { named = ap value_fallthrough c.in-Logical.ensures.is }
 
-pub returns-in-0 : goal.returns-in-0
-returns-in-0 c around = absurd (c.requires.fact (sym c.code_at.ensures ∙ c.in-0.is))
+pub visit_value-requires-in-Ternary : goal.visit_value-requires-in-Ternary
+visit_value-requires-in-Ternary c = record { named = ap value_fallthrough c.in-Ternary.ensures.is }
 
-pub returns-in-1 : goal.returns-in-1
-returns-in-1 c around =
-    elsewhere around c.requires.entered c.code_at.ensures c.in-1.is refl (λ C o. o.seen)
-    (unreachable_left c.requires.entered (sym c.code_at.ensures ∙ c.in-1.is) c.leave.ensures _)
+pub visit_value-requires-in-Optional : goal.visit_value-requires-in-Optional
+visit_value-requires-in-Optional c = record { named = ap value_fallthrough c.in-Optional.ensures.is }
 
-pub returns-in-2 : goal.returns-in-2
-returns-in-2 c around = elsewhere around c.requires.entered c.code_at.ensures c.in-2.is refl (λ C o. o.seen.visits) c.visit_throw.ensures
+pub visit_value-requires-in-Sequence : goal.visit_value-requires-in-Sequence
+visit_value-requires-in-Sequence c = record { named = ap value_fallthrough c.in-Sequence.ensures.is }
 
-pub returns-in-3 : goal.returns-in-3
-returns-in-3 c around = elsewhere around c.requires.entered c.code_at.ensures c.in-3.is refl (λ C o. o.seen.visits) c.visit_return.ensures
+pub visit_scope-requires : goal.visit_scope-requires
+visit_scope-requires c = record { ends = (false, c.in-Scope.ensures) }
 
-pub returns-in-4 : goal.returns-in-4
-returns-in-4 c around = planned_as (λ F R C. refl) (λ C o. goto_seen o) (c.visit_goto.ensures around)
-
-pub returns-in-5 : goal.returns-in-5
-returns-in-5 c around = elsewhere around c.requires.entered c.code_at.ensures c.in-5.is refl (λ C o. o.seen) (c.visit_if.ensures _)
-
-pub returns-in-6 : goal.returns-in-6
-returns-in-6 c around = planned_as (λ F R C. refl) (λ C o. branch_seen o) (c.visit_branch.ensures around)
-
-pub returns-in-7 : goal.returns-in-7
-returns-in-7 c around = elsewhere around c.requires.entered c.code_at.ensures c.in-7.is refl (λ C o. o.seen) (c.visit_switch.ensures _)
-
-pub returns-in-8 : goal.returns-in-8
-returns-in-8 c around = elsewhere around c.requires.entered c.code_at.ensures c.in-8.is refl (λ C o. o.seen) (c.visit_do_while.ensures _)
-
-pub returns-in-9 : goal.returns-in-9
-returns-in-9 c around = elsewhere around c.requires.entered c.code_at.ensures c.in-9.is refl (λ C o. o.seen) (c.visit_while.ensures _)
-
-pub returns-in-10 : goal.returns-in-10
-returns-in-10 c around = elsewhere around c.requires.entered c.code_at.ensures c.in-10.is refl (λ C o. o.seen) (c.visit_for.ensures _)
-
-pub returns-in-11 : goal.returns-in-11
-returns-in-11 c around = elsewhere around c.requires.entered c.code_at.ensures c.in-11.is refl (λ C o. o.seen) (c.visit_for_of.ensures _)
-
-pub returns-in-12 : goal.returns-in-12
-returns-in-12 c around = elsewhere around c.requires.entered c.code_at.ensures c.in-12.is refl (λ C o. o.seen) (c.visit_for_in.ensures _)
-
-pub returns-in-16 : goal.returns-in-16
-returns-in-16 c around = elsewhere around c.requires.entered c.code_at.ensures c.in-16.is refl (λ C o. o.seen) (c.visit_label.ensures _)
-
-pub returns-in-18 : goal.returns-in-18
-returns-in-18 c around = elsewhere around c.requires.entered c.code_at.ensures c.in-18.is refl (λ C o. o.seen) (c.visit_maybe_throw.ensures _)
-
-pub returns-in-19 : goal.returns-in-19
-returns-in-19 c around = elsewhere around c.requires.entered c.code_at.ensures c.in-19.is refl (λ C o. o.seen) (c.visit_try.ensures _)
-
-pub returns-in-20 : goal.returns-in-20
-returns-in-20 c around = elsewhere around c.requires.entered c.code_at.ensures refl (no_jump c.code_at.result (omega (arith, c.in-20.if-this-lt16-own.false))) (λ C o. o.seen) (c.visit_scope.ensures _)
-
-pub returns-in_default : goal.returns-in_default
-returns-in_default c around = absurd (omega (arith, c.in_default.if-this-lt22-own.false, c.code_at.ensures, code_known _ c.requires.entered.promise _ c.requires.entered.block))
-
-pub returns-in-13 : goal.returns-in-13
-returns-in-13 c around =
-    elsewhere around c.requires.entered c.code_at.ensures refl
-    (no_jump _ (value_came _ (came ((goal.at.returns-in-13 c).In-13-1))).1) (λ C o. o.seen) (c.visit_value.ensures _)
+pub visit_scope-requires-in-PrunedScope : goal.visit_scope-requires-in-PrunedScope
+visit_scope-requires-in-PrunedScope c = record { ends = (true, c.in-PrunedScope.ensures) }

@@ -8,10 +8,10 @@ use Rattle.table_check.proofs.blocks.check_blocks.Goals as goal
 
 pub check_rows-requires-clause-within : goal.check_rows-requires-clause-within
 check_rows-requires-clause-within c row column inside found =
-    omega (arith, bad_less (block_word c.args.words.now row) 0 (block_rules c.args.words.now row) {bad = column} (search rules), block_width c.args.words.now row)
+    omega (arith, bad_less (block_word c.args.words.words.now row) 0 (block_rules c.args.words.words.now row) {bad = column} (search rules), block_width c.args.words.words.now row)
 
 pub returns : goal.returns
 unfolding block_word blocks_begin
 returns c =
     rw (← c.block_count.ensures)
-    (c.check_rows.ensures c.args.words.now (block_rules c.args.words.now) (record { wide = block_width c.args.words.now; is = λ row bad inside found. search rules }))
+    (c.check_rows.ensures c.args.words.words.now (block_rules c.args.words.words.now) (record { wide = block_width c.args.words.words.now; is = λ row bad inside found. search rules }))

@@ -10,16 +10,16 @@ use Rattle.table_check.proofs.other_tables.check_identifiers.Goals as goal
 
 pub check_rows-requires-clause-within : goal.check_rows-requires-clause-within
 check_rows-requires-clause-within c row column inside found =
-    omega (arith, bad_less (λ _. identifier_word c.args.words.now row) 0 (identifier_rules c.args.words.now row) {bad = column} (search rules), identifier_width c.args.words.now row)
+    omega (arith, bad_less (λ _. identifier_word c.args.words.words.now row) 0 (identifier_rules c.args.words.words.now row) {bad = column} (search rules), identifier_width c.args.words.words.now row)
 
 pub returns : goal.returns
 unfolding identifier_word identifier_rules
 returns c =
     rw (← c.identifiers_begin-begin.ensures.0, ← c.identifier_count.ensures)
-    (c.check_rows.ensures c.args.words.now (identifier_rules c.args.words.now) (record {
-      wide = identifier_width c.args.words.now;
+    (c.check_rows.ensures c.args.words.words.now (identifier_rules c.args.words.words.now) (record {
+      wide = identifier_width c.args.words.words.now;
       is = λ row bad inside found. (
-          let e : bad ≡ first_bad (λ _. identifier_word c.args.words.now row) 0 (identifier_rules c.args.words.now row) = search rules in
-          rw c.identifiers_begin-begin.ensures.0 (e ∙ one_word c.args.words.now (identifiers_begin c.args.words.now) row _)
+          let e : bad ≡ first_bad (λ _. identifier_word c.args.words.words.now row) 0 (identifier_rules c.args.words.words.now row) = search rules in
+          rw c.identifiers_begin-begin.ensures.0 (e ∙ one_word c.args.words.words.now (identifiers_begin c.args.words.words.now) row _)
           );
     }))

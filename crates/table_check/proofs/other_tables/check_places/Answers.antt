@@ -10,16 +10,16 @@ use Rattle.table_check.proofs.other_tables.check_places.Goals as goal
 
 pub check_rows-requires-clause-within : goal.check_rows-requires-clause-within
 check_rows-requires-clause-within c row column inside found =
-    omega (arith, bad_less (λ _. place_word c.args.words.now row) 0 (place_rules c.args.words.now row) {bad = column} (search rules), place_width c.args.words.now row)
+    omega (arith, bad_less (λ _. place_word c.args.words.words.now row) 0 (place_rules c.args.words.words.now row) {bad = column} (search rules), place_width c.args.words.words.now row)
 
 pub returns : goal.returns
 unfolding place_word place_rules
 returns c =
     rw (← c.places_begin-begin.ensures.0, ← c.place_count.ensures)
-    (c.check_rows.ensures c.args.words.now (place_rules c.args.words.now) (record {
-      wide = place_width c.args.words.now;
+    (c.check_rows.ensures c.args.words.words.now (place_rules c.args.words.words.now) (record {
+      wide = place_width c.args.words.words.now;
       is = λ row bad inside found. (
-          let e : bad ≡ first_bad (λ _. place_word c.args.words.now row) 0 (place_rules c.args.words.now row) = search rules in
-          rw c.places_begin-begin.ensures.0 (e ∙ one_word c.args.words.now (places_begin c.args.words.now) row _)
+          let e : bad ≡ first_bad (λ _. place_word c.args.words.words.now row) 0 (place_rules c.args.words.words.now row) = search rules in
+          rw c.places_begin-begin.ensures.0 (e ∙ one_word c.args.words.words.now (places_begin c.args.words.words.now) row _)
           );
     }))

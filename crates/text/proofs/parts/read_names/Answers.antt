@@ -1,36 +1,12 @@
-use Rattle.std.proofs.Common.{◌≡◌, sym, length, arith}
-use native.Mathlib.Nat.{add-zero, add_assoc}
-use Rattle.text.proofs.PartLaws.{names_done, name_taken, name_other, name_missing}
+use Rattle.std.proofs.Common.{rules}
+use Rattle.text.proofs.NameLaws.{names_within, names_stand, names_stop}
 use Rattle.text.proofs.parts.read_names.Goals as goal
-use Rattle.text.proofs.parts.read_names.Goals.{then-at-file-via-then-at-file, then-at-file-via-else-at-file+then-file-at}
 
-pub loop-i-init : goal.loop-i-init
-loop-i-init c = record { near = omega arith; here = λ root words next h. rw (add-zero c.args.start) h }
+pub overflow_add-end : goal.overflow_add-end
+overflow_add-end c = let n = names_within c.args.file.now c.args.names.now c.args.start c.requires c.names_end-count.ensures in search rules
 
-pub returns-then-at-file : goal.returns-then-at-file
-returns-then-at-file c root words next h =
-    let here = c.loop-i.invariant.here root words next h in
-    elim c.then-at-file.branch [
-      | then-at-file-via-then-at-file w ↦ name_missing _ _ words _ _ next c.loop-i-test.true here w.if-at-file.true
-      | then-at-file-via-else-at-file+then-file-at w ↦
-          name_other _ _ words _ _ next c.loop-i-test.true here (omega (arith, w.if-at-file.false, c.loop-i.invariant.near)) w.if-file-at.true
-    ]
+pub returns-then-count-names : goal.returns-then-count-names
+returns-then-count-names c = names_stand _ _ _ c.requires c.names_end-count.ensures c.if-count-names.true
 
-pub loop-i-preserved : goal.loop-i-preserved
-loop-i-preserved c =
-    let I = c.loop-i.invariant in
-    record {
-      near = omega (arith, I.near, c.if-at-file.false);
-      here = λ root words next h. rw (sym (add_assoc c.args.start c.loop-i.i 1))
-          (name_taken _ _ words _ _ next c.loop-i-test.true (I.here root words next h) (omega (arith, I.near, c.if-at-file.false)) c.if-file-at.false);
-    }
-
-pub returns : goal.returns
-returns c =
-    let I = c.loop-i.invariant in
-    let all : c.loop-i.i ≡ length c.args.names.now = omega (arith, c.loop-i-test.false, c.loop-i.auto.i-end) in
-    record {
-      within = omega (arith, I.near);
-      onward = omega arith;
-      reached = λ root words next h. rw all at (rw (names_done _ c.loop-i.i next c.loop-i-test.false) at (I.here root words next h));
-    }
+pub returns-else-count-names : goal.returns-else-count-names
+returns-else-count-names c = names_stop _ _ _ c.requires c.names_end-count.ensures c.if-count-names.false

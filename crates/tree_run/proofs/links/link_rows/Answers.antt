@@ -1,11 +1,9 @@
 use Rattle.std.proofs.Common.{rules}
-use lib.ListN.{length-replicate}
-use Rattle.tree_run.specs.declared.links.Link.{Link}
 use Rattle.tree_run.proofs.LinkLaws.{cursor_falls, rows_start, parts_start, parts_more, row_done, rows_linked}
 use Rattle.tree_run.proofs.links.link_rows.Goals as goal
 
 pub loop-row-init : goal.loop-row-init
-loop-row-init c = rows_start _ _ (length-replicate {A = Link} 2048 c.default-links.result) c.requires.by_index
+loop-row-init c = rows_start _ _ (search rules) c.requires.by_index
 
 pub loop-cursor-init : goal.loop-cursor-init
 loop-cursor-init c = parts_start _ _ c.loop-row.invariant c.loop-row-test.true

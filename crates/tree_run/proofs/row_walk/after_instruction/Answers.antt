@@ -1,16 +1,18 @@
-use Rattle.std.proofs.Common.{refl, sym, ◌∙◌, rules}
-use Rattle.tree_run.specs.Abstraction.{links_in}
+use Rattle.std.proofs.Common.{refl, sym, ap, ◌∙◌}
+use Rattle.std.specs.Prelude as code
+use Rattle.std.specs.Prelude.{ℕ}
+use Rattle.tree_run.specs.Abstraction.{if_any, links_in}
 use Rattle.tree_run.proofs.TurnLaws.{block_ends, block_goes_on}
 use Rattle.tree_run.proofs.row_walk.after_instruction.Goals as goal
 
-pub returns-in-0 : goal.returns-in-0
-returns-in-0 c =
+pub returns-in-None : goal.returns-in-None
+returns-in-None c =
     let a = c.args in
     block_ends a.tree.now.words.now (links_in a.tree.now) a.tree.now.rows a.row c.requires (sym c.is_last.ensures ∙ c.if-is_last.false)
-    c.parent-block.ensures c.word.ensures c.if-word-ne-BLOCK.false c.next.ensures c.in-0.is refl
+    c.parent-block.ensures c.word.ensures c.if-word-ne-BLOCK.false (ap (λ (o : code.Option ℕ). if_any o) (sym c.in-None.is ∙ c.next.ensures)) refl
 
-pub returns-in_default : goal.returns-in_default
-returns-in_default c =
+pub returns-in-Some : goal.returns-in-Some
+returns-in-Some c =
     let a = c.args in
     block_goes_on a.tree.now.words.now (links_in a.tree.now) a.tree.now.rows a.row c.requires (sym c.is_last.ensures ∙ c.if-is_last.false)
-    c.parent-block.ensures c.word.ensures c.if-word-ne-BLOCK.false c.next.ensures (search rules) refl
+    c.parent-block.ensures c.word.ensures c.if-word-ne-BLOCK.false (ap (λ (o : code.Option ℕ). if_any o) (sym c.in-Some.is ∙ c.next.ensures)) refl

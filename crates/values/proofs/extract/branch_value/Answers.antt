@@ -8,9 +8,9 @@ use Rattle.values.proofs.extract.branch_value.Goals as goal
 pub returns-then-head-eq0 : goal.returns-then-head-eq0
 unfolding push_value
 returns-then-head-eq0 c =
-    let head = c.block_at-head.ensures in
+    let head = c.block-head.ensures in
     rw (branch_none head _ _ _ _ c.if-head-eq0.true, head.is_id)
     (one_row (LOAD _) (λ stack. refl) c.requires.fit c.requires.test_bound (load_ends c.requires.test_bound) c.put_row-load.ensures c.loading.ensures)
 
 pub returns : goal.returns
-returns c = rw (branch_some c.block_at-head.ensures _ _ _ _ c.if-head-eq0.false) c.extract_value_block_result.ensures
+returns c = rw (branch_some c.block-head.ensures _ _ _ _ c.if-head-eq0.false) c.extract_value_block_result.ensures

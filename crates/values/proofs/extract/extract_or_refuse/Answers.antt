@@ -6,7 +6,7 @@ use Rattle.values.proofs.extract.extract_or_refuse.Goals as goal
 
 pub returns-then-head-eq0 : goal.returns-then-head-eq0
 returns-then-head-eq0 c =
-    rw (extract_none c.block_at-head.ensures _ _ _ _ c.if-head-eq0.true) (stops c.args.refusal _ refl (omega (arith, c.requires.fit.visits)))
+    rw (extract_none c.block-head.ensures _ _ _ _ c.if-head-eq0.true) (stops c.args.refusal _ refl (omega (arith, c.requires.fit.visits)))
 
 pub returns : goal.returns
-returns c = rw (extract_some c.block_at-head.ensures _ _ _ _ c.if-head-eq0.false) c.extract_value_block_result.ensures
+returns c = rw (extract_some c.block-head.ensures _ _ _ _ c.if-head-eq0.false) c.extract_value_block_result.ensures

@@ -9,6 +9,6 @@ unfolding ◌>>=◌
 returns c =
     let value = c.final_value-value.ensures in
     let w = c.wrap_with_sequence.ensures in
-    rw (extract_many c.args.words.now c.args.block c.args.first c.args.more c.args.tally.visits)
+    rw (extract_many c.args.table.words.now c.args.block c.args.first c.args.more c.args.tally.visits)
     (met_wrap c.args.first c.args.more c.put_instructions-rows.ensures value w
-    (omega (arith, value.numbers, w.visits, w.most, c.put_instructions-rows.ensures.more, c.requires.more_bound, c.requires.fit.promise.sized.limited.instructions)))
+    (omega (arith, value.numbers, w.visits, w.most, c.put_instructions-rows.ensures.more, c.requires.more_bound, c.args.table.promise.sized.limited.instructions)))

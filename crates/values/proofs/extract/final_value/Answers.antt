@@ -1,24 +1,24 @@
 use Rattle.values.proofs.MetLaws.{one_row}
-use Rattle.values.proofs.ExtractLaws.{store_code, extract_load, extract_plain, load_ends}
+use Rattle.values.proofs.ExtractLaws.{extract_load, extract_plain, load_ends}
 use Rattle.values.specs.Stack.{push_value}
 use Rattle.definition.specs.Tree.{PLAIN, LOAD}
-use mathlib.Core.Path.{refl, sym, ◌∙◌}
+use Rattle.definition.specs.Value.{loaded_by}
+use mathlib.Core.Path.{refl, sym, ap, ◌∙◌}
 use Rattle.values.proofs.extract.final_value.Goals as goal
 
-pub store_local_at-store-requires-clause-instruction_value : goal.store_local_at-store-requires-clause-instruction_value
-store_local_at-store-requires-clause-instruction_value c = store_code c.requires.fit.promise c.requires.i_bound (sym c.stores_to_unnamed.ensures ∙ c.if-stores_to_unnamed.true)
-
-pub returns-then-stores_to_unnamed : goal.returns-then-stores_to_unnamed
+pub returns-in-Some : goal.returns-in-Some
 unfolding push_value
-returns-then-stores_to_unnamed c =
-    let o = c.store_local_at-store.ensures in
-    rw (extract_load c.instruction_at-head.ensures _ _ o (sym c.stores_to_unnamed.ensures ∙ c.if-stores_to_unnamed.true))
-    (one_row (LOAD _) (λ stack. refl) c.requires.fit o.named.0 (load_ends o.named.1) c.put_row-load.ensures c.loading.ensures)
+returns-in-Some c =
+    let o = c.operation-operation.ensures in
+    let store = c.in-Some.ensures in
+    let named = rw store.0 at o.named in
+    rw (extract_load c.instruction-head.ensures _ _ o.is store.0 store.1)
+    (one_row (LOAD _) (λ stack. refl) c.requires.fit named.0 (load_ends named.1) c.put_row-load.ensures c.loading.ensures)
 
-pub returns : goal.returns
+pub returns-in-None : goal.returns-in-None
 unfolding push_value
-returns c =
-    let l = c.loaded_by-loaded.ensures in
-    rw (extract_plain c.instruction_at-head.ensures _ _ (sym c.stores_to_unnamed.ensures ∙ c.if-stores_to_unnamed.false))
-    (one_row (PLAIN _) (λ stack. refl) c.requires.fit c.instruction_at-head.ensures.there
-    (record { sequences = refl; instructions = refl; loaded = l.same; there = l.there }) c.put_row-plain.ensures c.loading-2.ensures)
+returns-in-None c =
+    let o = c.operation-operation.ensures in
+    rw (extract_plain c.instruction-head.ensures _ _ o.is c.in-None.ensures)
+    (one_row (PLAIN _) (λ stack. refl) c.requires.fit c.instruction-head.ensures.there
+    (record { sequences = refl; instructions = refl; loaded = c.loaded_by.ensures.loaded ∙ sym (ap loaded_by o.is); there = c.loaded_by.ensures.there _ o.named }) c.put_row-plain.ensures c.loading-in-None.ensures)

@@ -18,11 +18,11 @@ loop-i-preserved c =
     let k : ℕ = l.i - first in
     let next : l.i + 1 - first ≡ suc k = omega (arith, l.auto.i) in
     let here : first + k ≡ l.i = omega (arith, l.auto.i) in
-    let head = c.instruction_at-head.ensures in
+    let head = c.instruction-head.ensures in
     let plain = c.put-out.ensures in
     let instr = c.put-out-in-loop-i.ensures in
     rw next (record {
       more = omega (arith, instr.count, plain.count, l.invariant.more);
-      kept = λ stack h. rw (push_next_row (table_of c.args.words.now) first k stack, here, head.is_id, head.is_lvalue, head.is_span)
+      kept = λ stack h. rw (push_next_row (table_of c.args.table.words.now) first k stack, here, head.is_id, head.is_lvalue, head.is_span)
           (written_held instr _ (written_held plain _ (l.invariant.kept stack h)));
     })

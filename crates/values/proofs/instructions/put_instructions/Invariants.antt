@@ -14,4 +14,4 @@ pub record Run (words buffer₀ : List ℕ) (rows first : ℕ) (buffer : List �
   pub kept : (stack : List Row) → Holds buffer₀ rows stack → Holds buffer out (push_instruction_rows (table_of words) (rows_from first k) stack)
 
 abbrev pub invariant-loop-i : goal.invariant-loop-i
-invariant-loop-i l = Run l.words l.initial.buffer l.rows l.first l.buffer l.out (l.i - l.first)
+invariant-loop-i l = Run l.table.words.now l.initial.buffer l.rows l.first l.buffer l.out (l.i - l.first)

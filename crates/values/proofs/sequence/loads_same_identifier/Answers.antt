@@ -10,4 +10,4 @@ pub returns-in-Some : goal.returns-in-Some
 unfolding same_identifier
 returns-in-Some c =
     let there = rw c.in-Some.is at c.requires.loaded_bound in
-    rw (c.in-Some.is, place_at _ c.in-Some.loaded 0 there, place_at _ c.args.place 0 c.requires.place_bound, c.place_word.ensures, c.place_word-in-Some.ensures)
+    rw (c.in-Some.is, place_at _ c.in-Some.loaded 0 there, place_at _ c.args.place 0 c.requires.place_bound, c.identifier.ensures, c.identifier-in-Some.ensures)

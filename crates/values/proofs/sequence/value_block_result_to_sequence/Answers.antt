@@ -9,7 +9,7 @@ use Rattle.values.proofs.sequence.value_block_result_to_sequence.Goals as goal
 
 pub returns-then-loads_same_identifier : goal.returns-then-loads_same_identifier
 returns-then-loads_same_identifier c =
-    let t = table_of c.args.words.now in
+    let t = table_of c.args.table.words.now in
     let r = c.args.res in
     let same = sym c.loads_same_identifier.ensures ∙ c.if-loads_same_identifier.true in
     record {
@@ -23,7 +23,7 @@ returns-then-loads_same_identifier c =
 
 pub returns : goal.returns
 returns c =
-    let t = table_of c.args.words.now in
+    let t = table_of c.args.table.words.now in
     let r = c.args.res in
     let other = sym c.loads_same_identifier.ensures ∙ c.if-loads_same_identifier.false in
     record {

@@ -3,13 +3,13 @@ use Rattle.definition.specs.Result.{ok}
 use Rattle.definition.specs.Tree.{LOGICAL, SEQ, OPTIONAL, COND}
 use Rattle.definition.specs.Value.{visit_value_block_terminal, single_instruction, then_fallthrough, instructions_of, visit_test_block}
 use Rattle.table.proofs.ColumnLaws.{head_rows}
-use Rattle.table.proofs.RangeLaws.{code_known}
 use Rattle.table.specs.Table.{table_of, rows_from}
+use Rattle.values.proofs.EndingLaws.{OtherEnd, NoValue}
 use Rattle.values.proofs.MetLaws.{row_kept, handed_on, pass, goes, defined, stops, moved, met_wrap, count_rows, found_seq}
 use Rattle.values.proofs.StackLaws.{push_instructions_of}
-use Rattle.values.proofs.WalkLaws.{terminal_by, maybe_throw_missing, maybe_throw_own, maybe_throw_visits, ended_branch, ended_other, visit_30, visit_10, visit_23, visit_begun, OtherEnd, at_goto, at_branch, at_other, terminal_label, terminal_maybe_throw, terminal_other}
+use Rattle.values.proofs.WalkLaws.{terminal_by, maybe_throw_missing, maybe_throw_own, maybe_throw_visits, ended_branch, ended_other, visit_30, visit_10, visit_23, visit_begun, at_goto, at_branch, at_other, terminal_label, terminal_maybe_throw, terminal_other}
+use borrow.Author.Rules.{rules}
 use Rattle.values.proofs.value_walk.+walk.Goals as goal
-use Rattle.values.proofs.value_walk.+walk.Goals.{visit_value_block-in-5-1, visit_value_block-in_default+then-this-lt22}
 use Rattle.values.specs.Stack.{push_value}
 use Rattle.values.specs.declared.refusal.Refusal.TheVariants.{MissingBlock, FallthroughReached, TestNotEndedByBranch, LabelInValueBlock, OtherKindInValueBlock, TooDeep, MaybeThrowInValueTerminal}
 use mathlib.Core.Path.{refl, ap, sym, ◌∙◌}
@@ -18,7 +18,7 @@ use native.Mathlib.Omega.{arith}
 pub logical_value-returns-in_err-tested : goal.logical_value-returns-in_err-tested
 unfolding visit_value_block_terminal
 logical_value-returns-in_err-tested t c =
-    defined (terminal_by _ _ _ _ c.logical_at-terminal.ensures c.block_at-head.ensures)
+    defined (terminal_by _ _ _ _ c.requires.ends c.block-head.ensures)
     (pass _ (handed_on c.from_residual.ensures) c.in_err-tested.ensures (omega arith))
 
 pub logical_value-returns-in_err-left : goal.logical_value-returns-in_err-left
@@ -27,7 +27,7 @@ logical_value-returns-in_err-left t c =
     let put = c.put_instr-instr.ensures in
     let test = c.in_ok-tested.ensures.met in
     let left = rw put.visits at c.in_err-left.ensures in
-    defined (terminal_by _ _ _ _ c.logical_at-terminal.ensures c.block_at-head.ensures)
+    defined (terminal_by _ _ _ _ c.requires.ends c.block-head.ensures)
     (goes _ test (pass _ (handed_on c.from_residual-in_err-left.ensures) left (omega (arith, test.numbers, put.visits))))
 
 pub logical_value-returns-in_err-right : goal.logical_value-returns-in_err-right
@@ -38,7 +38,7 @@ logical_value-returns-in_err-right t c =
     let test = c.in_ok-tested.ensures.met in
     let left = rw put.visits at c.in_ok-left.ensures in
     let right = rw sequence.visits at c.in_err-right.ensures in
-    defined (terminal_by _ _ _ _ c.logical_at-terminal.ensures c.block_at-head.ensures)
+    defined (terminal_by _ _ _ _ c.requires.ends c.block-head.ensures)
     (goes _ test (goes _ left (pass _ (handed_on c.from_residual-in_err-right.ensures) right (omega (arith, test.numbers, left.numbers, put.visits, sequence.visits)))))
 
 pub logical_value-returns : goal.logical_value-returns
@@ -51,14 +51,14 @@ logical_value-returns t c =
     let left = rw put.visits at c.in_ok-left.ensures in
     let right = rw sequence.visits at c.in_ok-right.ensures in
     let tested = c.in_ok-tested.tested.test in
-    defined (terminal_by _ _ _ _ c.logical_at-terminal.ensures c.block_at-head.ensures)
+    defined (terminal_by _ _ _ _ c.requires.ends c.block-head.ensures)
     (goes _ test (goes _ left (goes _ right
     (rw (← row.visits, c.loading.ensures) (record {
       value = LOGICAL _ (SEQ (single_instruction tested.id tested.place _ test.value) _ left.value) right.value;
       same = refl;
       found = record {
         held = λ stack h. row_kept row _ (right.found.held _ (row_kept sequence _ (left.found.held _ (row_kept put _ (test.found.held stack h)))));
-        block = c.logical_at-terminal.ensures.named.2;
+        block = c.requires.ends.named.2;
         place = left.found.place;
         ends = record { sequences = refl; instructions = refl; loaded = refl; there = tt };
         more = omega (arith, test.found.more, left.found.more, right.found.more, put.rows, sequence.rows, row.rows);
@@ -66,35 +66,35 @@ logical_value-returns t c =
       numbers = omega (arith, test.numbers, left.numbers, right.numbers, put.rows, put.visits, sequence.rows, sequence.visits, row.rows, row.visits);
     })))))
 
-pub maybe_throw_value-returns-then-code_at-eq0 : goal.maybe_throw_value-returns-then-code_at-eq0
-maybe_throw_value-returns-then-code_at-eq0 t c =
-    defined (maybe_throw_missing _ _ _ _ _ _ c.maybe_throw_at-continuation.ensures c.requires.fit.promise c.code_at.ensures c.if-code_at-eq0.true)
+pub maybe_throw_value-returns-then-is_absent : goal.maybe_throw_value-returns-then-is_absent
+maybe_throw_value-returns-then-is_absent t c =
+    defined (maybe_throw_missing _ _ _ _ _ _ c.requires.ends c.is_absent.ensures c.if-is_absent.true)
     (stops (MissingBlock _) _ c.after.ensures (omega (arith, c.requires.fit.visits)))
 
 pub maybe_throw_value-returns-then-is_empty_goto : goal.maybe_throw_value-returns-then-is_empty_goto
 maybe_throw_value-returns-then-is_empty_goto t c =
-    defined (maybe_throw_own _ _ _ _ _ _ c.maybe_throw_at-continuation.ensures c.requires.fit.promise c.code_at.ensures c.if-code_at-eq0.false c.is_empty_goto.ensures c.if-is_empty_goto.true)
+    defined (maybe_throw_own _ _ _ _ _ _ c.requires.ends c.is_absent.ensures c.if-is_absent.false c.is_empty_goto.ensures c.if-is_empty_goto.true)
     (moved c.extract_or_refuse.ensures refl (omega arith) (omega arith))
 
 pub maybe_throw_value-returns-in_err-value : goal.maybe_throw_value-returns-in_err-value
 maybe_throw_value-returns-in_err-value t c =
-    defined (maybe_throw_visits _ _ _ _ _ _ c.maybe_throw_at-continuation.ensures c.requires.fit.promise c.code_at.ensures c.if-code_at-eq0.false
-    c.is_empty_goto.ensures c.block_at-head.ensures c.if-is_empty_goto.false)
+    defined (maybe_throw_visits _ _ _ _ _ _ c.requires.ends c.is_absent.ensures c.if-is_absent.false
+    c.is_empty_goto.ensures c.block-head.ensures c.if-is_empty_goto.false)
     (pass _ (handed_on c.from_residual.ensures) c.in_err-value.ensures (omega arith))
 
 pub maybe_throw_value-returns : goal.maybe_throw_value-returns
 maybe_throw_value-returns t c =
     let v = c.in_ok-value.ensures in
-    let own = c.block_at-head.ensures in
+    let own = c.block-head.ensures in
     let w = c.wrap_with_sequence.ensures in
-    defined (maybe_throw_visits _ _ _ _ _ _ c.maybe_throw_at-continuation.ensures c.requires.fit.promise c.code_at.ensures c.if-code_at-eq0.false
+    defined (maybe_throw_visits _ _ _ _ _ _ c.requires.ends c.is_absent.ensures c.if-is_absent.false
     c.is_empty_goto.ensures own c.if-is_empty_goto.false)
     (met_wrap _ _ c.put_instructions-rows.ensures v w (omega (arith, w.most, w.visits, v.numbers, c.put_instructions-rows.ensures.more, own.there, own.few)))
 
 pub optional_value-returns-in_err-tested : goal.optional_value-returns-in_err-tested
 unfolding visit_value_block_terminal
 optional_value-returns-in_err-tested t c =
-    defined (terminal_by _ _ _ _ c.optional_at-terminal.ensures c.block_at-head.ensures)
+    defined (terminal_by _ _ _ _ c.requires.ends c.block-head.ensures)
     (pass _ (handed_on c.from_residual.ensures) c.in_err-tested.ensures (omega arith))
 
 pub optional_value-returns-in_err-inner : goal.optional_value-returns-in_err-inner
@@ -103,7 +103,7 @@ optional_value-returns-in_err-inner t c =
     let put = c.put_instr-instr.ensures in
     let test = c.in_ok-tested.ensures.met in
     let inner = rw put.visits at c.in_err-inner.ensures in
-    defined (terminal_by _ _ _ _ c.optional_at-terminal.ensures c.block_at-head.ensures)
+    defined (terminal_by _ _ _ _ c.requires.ends c.block-head.ensures)
     (goes _ test (pass _ (handed_on c.from_residual-in_err-inner.ensures) inner (omega (arith, test.numbers, put.visits))))
 
 pub optional_value-returns : goal.optional_value-returns
@@ -115,14 +115,14 @@ optional_value-returns t c =
     let test = c.in_ok-tested.ensures.met in
     let inner = rw put.visits at c.in_ok-inner.ensures in
     let tested = c.in_ok-tested.tested.test in
-    defined (terminal_by _ _ _ _ c.optional_at-terminal.ensures c.block_at-head.ensures)
+    defined (terminal_by _ _ _ _ c.requires.ends c.block-head.ensures)
     (goes _ test (goes _ inner
     (rw (← sequence.visits, ← row.visits, c.in_ok-tested.ensures.span, c.loading.ensures) (record {
       value = OPTIONAL _ (SEQ (single_instruction tested.id tested.place _ test.value) _ inner.value);
       same = refl;
       found = record {
         held = λ stack h. row_kept row _ (row_kept sequence _ (inner.found.held _ (row_kept put _ (test.found.held stack h))));
-        block = c.optional_at-terminal.ensures.named.2;
+        block = c.requires.ends.named.2;
         place = inner.found.place;
         ends = record { sequences = refl; instructions = refl; loaded = refl; there = tt };
         more = omega (arith, test.found.more, inner.found.more, put.rows, sequence.rows, row.rows);
@@ -133,7 +133,7 @@ optional_value-returns t c =
 pub sequence_value-returns-in_err-inner : goal.sequence_value-returns-in_err-inner
 unfolding visit_value_block_terminal
 sequence_value-returns-in_err-inner t c =
-    defined (terminal_by _ _ _ _ c.sequence_at-terminal.ensures c.block_at-head.ensures)
+    defined (terminal_by _ _ _ _ c.requires.ends c.block-head.ensures)
     (pass _ (handed_on c.from_residual.ensures) c.in_err-inner.ensures (omega arith))
 
 pub sequence_value-returns : goal.sequence_value-returns
@@ -141,25 +141,25 @@ unfolding visit_value_block_terminal
 sequence_value-returns t c =
     let inner = c.in_ok-inner.ensures in
     let found = inner.found in
-    defined (terminal_by _ _ _ _ c.sequence_at-terminal.ensures c.block_at-head.ensures)
+    defined (terminal_by _ _ _ _ c.requires.ends c.block-head.ensures)
     (goes _ inner (record {
       value = inner.value;
       same = refl;
-      found = record { held = found.held; block = c.sequence_at-terminal.ensures.named.1; place = found.place; ends = found.ends; more = found.more };
+      found = record { held = found.held; block = c.requires.ends.named.1; place = found.place; ends = found.ends; more = found.more };
       numbers = omega (arith, inner.numbers);
     }))
 
 pub ternary_value-returns-in_err-tested : goal.ternary_value-returns-in_err-tested
 unfolding visit_value_block_terminal
 ternary_value-returns-in_err-tested t c =
-    defined (terminal_by _ _ _ _ c.ternary_at-terminal.ensures c.block_at-head.ensures)
+    defined (terminal_by _ _ _ _ c.requires.ends c.block-head.ensures)
     (pass _ (handed_on c.from_residual.ensures) c.in_err-tested.ensures (omega arith))
 
 pub ternary_value-returns-in_err-consequent : goal.ternary_value-returns-in_err-consequent
 unfolding visit_value_block_terminal
 ternary_value-returns-in_err-consequent t c =
     let test = c.in_ok-tested.ensures.met in
-    defined (terminal_by _ _ _ _ c.ternary_at-terminal.ensures c.block_at-head.ensures)
+    defined (terminal_by _ _ _ _ c.requires.ends c.block-head.ensures)
     (goes _ test (pass _ (handed_on c.from_residual-in_err-consequent.ensures) c.in_err-consequent.ensures (omega (arith, test.numbers))))
 
 pub ternary_value-returns-in_err-alternate : goal.ternary_value-returns-in_err-alternate
@@ -167,7 +167,7 @@ unfolding visit_value_block_terminal
 ternary_value-returns-in_err-alternate t c =
     let test = c.in_ok-tested.ensures.met in
     let one = c.in_ok-consequent.ensures in
-    defined (terminal_by _ _ _ _ c.ternary_at-terminal.ensures c.block_at-head.ensures)
+    defined (terminal_by _ _ _ _ c.requires.ends c.block-head.ensures)
     (goes _ test (goes _ one (pass _ (handed_on c.from_residual-in_err-alternate.ensures) c.in_err-alternate.ensures (omega (arith, test.numbers, one.numbers)))))
 
 pub ternary_value-returns : goal.ternary_value-returns
@@ -177,14 +177,14 @@ ternary_value-returns t c =
     let test = c.in_ok-tested.ensures.met in
     let one = c.in_ok-consequent.ensures in
     let other = c.in_ok-alternate.ensures in
-    defined (terminal_by _ _ _ _ c.ternary_at-terminal.ensures c.block_at-head.ensures)
+    defined (terminal_by _ _ _ _ c.requires.ends c.block-head.ensures)
     (goes _ test (goes _ one (goes _ other
     (rw (← row.visits, c.loading.ensures) (record {
       value = COND test.value one.value other.value;
       same = refl;
       found = record {
         held = λ stack h. row_kept row _ (other.found.held _ (one.found.held _ (test.found.held stack h)));
-        block = c.ternary_at-terminal.ensures.named.1;
+        block = c.requires.ends.named.1;
         place = one.found.place;
         ends = record { sequences = refl; instructions = refl; loaded = refl; there = tt };
         more = omega (arith, test.found.more, one.found.more, other.found.more, row.rows);
@@ -213,10 +213,10 @@ then_fallthrough-returns t c =
     let w = c.wrap_with_sequence.ensures in
     let init_by = c.in_ok-init.init in
     let rows = c.put_instructions-rows.ensures in
-    let own = c.block_at-head.ensures in
-    let table = table_of c.args.words.now in
-    let first = c.block_at-head.result.first in
-    let count = c.block_at-head.result.count in
+    let own = c.block-head.ensures in
+    let table = table_of c.args.table.words.now in
+    let first = c.block-head.result.first in
+    let count = c.block-head.result.count in
     let single = single_instruction init_by.id init_by.place c.args.span init.value in
     rw (head_rows own)
     (goes _ init (goes _ v (record {
@@ -233,23 +233,23 @@ pub visit_test_block-returns-in_err-test : goal.visit_test_block-returns-in_err-
 unfolding visit_test_block
 visit_test_block-returns-in_err-test t c = rw (handed_on c.from_residual.ensures) (pass _ refl c.in_err-test.ensures (omega arith))
 
-pub visit_test_block-returns-then-code_at-ne6 : goal.visit_test_block-returns-then-code_at-ne6
+pub visit_test_block-returns-in_default : goal.visit_test_block-returns-in_default
 unfolding visit_test_block
-visit_test_block-returns-then-code_at-ne6 t c =
+visit_test_block-returns-in_default t c =
     let v = c.in_ok-test.ensures in
-    let ended = ended_other _ _ _ c.requires.promise v.found.block (λ e. c.if-code_at-ne6.true (c.code_at.ensures ∙ e)) in
+    let ended = ended_other _ _ _ c.terminal.result c.terminal.ensures c.in_default.not-Branch in
     goes _ v (defined ended (stops (TestNotEndedByBranch _) _ c.after.ensures (omega (arith, v.numbers))))
 
 pub visit_test_block-returns : goal.visit_test_block-returns
 unfolding visit_test_block
 visit_test_block-returns t c =
     let v = c.in_ok-test.ensures in
-    let branch = c.branch_at-branch.ensures in
+    let branch = c.in-Branch.ensures in
     record {
       met = goes _ v (defined (ended_branch _ _ _ branch) (record { value = v.value; same = refl; found = v.found; numbers = v.numbers }));
       consequent = branch.named.1;
       alternate = branch.named.2;
-      span = sym c.span_at.ensures;
+      span = sym c.span.ensures;
     }
 
 pub visit_value_block-returns-then-levels-eq0 : goal.visit_value_block-returns-then-levels-eq0
@@ -257,62 +257,55 @@ visit_value_block-returns-then-levels-eq0 t c =
     let fit = c.requires in
     defined (visit_30 fit _ _ _ c.if-levels-eq0.true) (stops (TooDeep _) _ c.after.ensures (omega (arith, fit.visits)))
 
-pub visit_value_block-returns-in-0 : goal.visit_value_block-returns-in-0
-visit_value_block-returns-in-0 t c =
+pub visit_value_block-returns-then-is_absent : goal.visit_value_block-returns-then-is_absent
+visit_value_block-returns-then-is_absent t c =
     let fit = c.requires in
-    defined (visit_10 fit _ _ _ c.if-levels-eq0.false (omega arith) c.code_at.ensures (grind arith)) (stops (MissingBlock _) _ c.after-in-0.ensures (omega (arith, fit.visits)))
+    defined (visit_10 fit _ _ _ c.if-levels-eq0.false (omega arith) c.is_absent.ensures c.if-is_absent.true)
+    (stops (MissingBlock _) _ c.after-then-is_absent.ensures (omega (arith, fit.visits)))
 
-pub visit_value_block-returns-in_default : goal.visit_value_block-returns-in_default
-visit_value_block-returns-in_default t c =
+pub visit_value_block-returns-then-eq : goal.visit_value_block-returns-then-eq
+visit_value_block-returns-then-eq t c =
     let fit = c.requires in
-    defined (visit_23 fit _ _ _ c.if-levels-eq0.false (omega arith) c.code_at.ensures (λ e. omega (arith, e)) (sym c.eq.ensures ∙ c.if-eq.true))
-    (stops (FallthroughReached _) _ c.after-in_default.ensures (omega (arith, fit.visits)))
+    defined (visit_23 fit _ _ _ c.if-levels-eq0.false (omega arith) c.is_absent.ensures c.if-is_absent.false (sym c.eq.ensures ∙ c.if-eq.true))
+    (stops (FallthroughReached _) _ c.after-then-eq.ensures (omega (arith, fit.visits)))
 
-pub visit_value_block-returns-in-4 : goal.visit_value_block-returns-in-4
-visit_value_block-returns-in-4 t c =
-    let fit = c.requires in
-    visit_begun fit _ _ _ c.if-levels-eq0.false (omega arith) c.code_at.ensures (λ e. omega (arith, e, c.in-4.is)) (sym c.eq.ensures ∙ c.if-eq.false)
-    (defined (at_goto _ _ _ _ _ _ fit.at (sym c.code_at.ensures ∙ c.in-4.is)) c.extract_or_refuse.ensures) (omega arith)
+pub visit_value_block-returns-in-Goto : goal.visit_value_block-returns-in-Goto
+visit_value_block-returns-in-Goto t c =
+    visit_begun c.requires _ _ _ c.if-levels-eq0.false (omega arith) c.is_absent.ensures c.if-is_absent.false (sym c.eq.ensures ∙ c.if-eq.false)
+    (defined (at_goto _ _ _ _ _ _ c.in-Goto.ensures) c.extract_or_refuse.ensures) (omega arith)
 
-pub visit_value_block-returns-in-6 : goal.visit_value_block-returns-in-6
-visit_value_block-returns-in-6 t c =
-    let fit = c.requires in
-    visit_begun fit _ _ _ c.if-levels-eq0.false (omega arith) c.code_at.ensures (λ e. omega (arith, e, c.in-6.is)) (sym c.eq.ensures ∙ c.if-eq.false)
-    (defined (at_branch _ _ _ _ _ _ c.branch_at.ensures) c.branch_value.ensures) (omega arith)
+pub visit_value_block-returns-in-Branch : goal.visit_value_block-returns-in-Branch
+visit_value_block-returns-in-Branch t c =
+    visit_begun c.requires _ _ _ c.if-levels-eq0.false (omega arith) c.is_absent.ensures c.if-is_absent.false (sym c.eq.ensures ∙ c.if-eq.false)
+    (defined (at_branch _ _ _ _ _ _ c.in-Branch.ensures) c.branch_value.ensures) (omega arith)
 
-pub visit_value_block-returns-in-18 : goal.visit_value_block-returns-in-18
-visit_value_block-returns-in-18 t c =
-    visit_begun c.requires _ _ _ c.if-levels-eq0.false (omega arith) c.code_at.ensures (λ e. omega (arith, e, c.in-18.is)) (sym c.eq.ensures ∙ c.if-eq.false)
+pub visit_value_block-returns-in-MaybeThrow : goal.visit_value_block-returns-in-MaybeThrow
+visit_value_block-returns-in-MaybeThrow t c =
+    visit_begun c.requires _ _ _ c.if-levels-eq0.false (omega arith) c.is_absent.ensures c.if-is_absent.false (sym c.eq.ensures ∙ c.if-eq.false)
     c.maybe_throw_value.ensures (omega arith)
 
-pub visit_value_block-returns-in_default-2 : goal.visit_value_block-returns-in_default-2
-visit_value_block-returns-in_default-2 t c = absurd (omega (arith, c.code_at.ensures, code_known _ c.requires.promise _ c.requires.at))
+pub visit_value_block_terminal-returns-in-Label : goal.visit_value_block_terminal-returns-in-Label
+visit_value_block_terminal-returns-in-Label t c =
+    defined (terminal_label _ _ _ _ c.in-Label.ensures) (stops (LabelInValueBlock _) _ c.after.ensures (omega (arith, c.requires.visits)))
 
-pub visit_value_block-returns-in-1 : goal.visit_value_block-returns-in-1
-visit_value_block-returns-in-1 t c =
-    let fit = c.requires in
-    let other : OtherEnd c.code_at.result = elim c.in-1-1.branch [
-      | visit_value_block-in-5-1 w ↦ record { not_0 = λ e. omega (arith, e); not_4 = λ e. omega (arith, e); not_6 = λ e. omega (arith, e); not_18 = λ e. omega (arith, e) }
-      | visit_value_block-in_default+then-this-lt22 w ↦ record { not_0 = λ e. omega (arith, e); not_4 = λ e. omega (arith, e); not_6 = λ e. omega (arith, e); not_18 = λ e. omega (arith, e) }
-    ] in
-    visit_begun fit _ _ _ c.if-levels-eq0.false (omega arith) c.code_at.ensures other.not_0 (sym c.eq.ensures ∙ c.if-eq.false)
-    (defined (at_other _ _ _ _ _ _ fit.promise fit.at c.code_at.ensures other) c.then_fallthrough.ensures) (omega arith)
+pub visit_value_block_terminal-returns-in-MaybeThrow : goal.visit_value_block_terminal-returns-in-MaybeThrow
+visit_value_block_terminal-returns-in-MaybeThrow t c =
+    defined (terminal_maybe_throw _ _ _ _ c.in-MaybeThrow.ensures) (stops (MaybeThrowInValueTerminal _) _ c.after-in-MaybeThrow.ensures (omega (arith, c.requires.visits)))
 
-pub visit_value_block_terminal-returns-in-16 : goal.visit_value_block_terminal-returns-in-16
-visit_value_block_terminal-returns-in-16 t c =
-    defined (terminal_label _ _ _ _ c.requires.at (sym c.code_at.ensures ∙ c.in-16.is)) (stops (LabelInValueBlock _) _ c.after.ensures (omega (arith, c.requires.visits)))
+pub visit_value_block-returns-in-Absent : goal.visit_value_block-returns-in-Absent
+visit_value_block-returns-in-Absent t c =
+    let other : OtherEnd c.terminal.result = record { not_goto = search rules; not_branch = search rules; not_maybe_throw = search rules } in
+    visit_begun c.requires _ _ _ c.if-levels-eq0.false (omega arith) c.is_absent.ensures c.if-is_absent.false (sym c.eq.ensures ∙ c.if-eq.false)
+    (defined (at_other _ _ _ _ _ _ c.terminal.result c.terminal.ensures other) c.then_fallthrough.ensures) (omega arith)
 
-pub visit_value_block_terminal-returns-in-18 : goal.visit_value_block_terminal-returns-in-18
-visit_value_block_terminal-returns-in-18 t c =
-    defined (terminal_maybe_throw _ _ _ _ c.requires.at (sym c.code_at.ensures ∙ c.in-18.is))
-    (stops (MaybeThrowInValueTerminal _) _ c.after-in-18.ensures (omega (arith, c.requires.visits)))
-
-pub visit_value_block_terminal-returns-in-0 : goal.visit_value_block_terminal-returns-in-0
-visit_value_block_terminal-returns-in-0 t c =
-    defined (terminal_other _ _ _ _ c.requires.at c.requires.promise (λ a b. omega (arith, a, b, c.code_at.ensures)))
-    (stops (OtherKindInValueBlock _) _ c.after-in-0.ensures (omega (arith, c.requires.visits)))
-
-pub visit_value_block_terminal-returns-in_default : goal.visit_value_block_terminal-returns-in_default
-visit_value_block_terminal-returns-in_default t c =
-    defined (terminal_other _ _ _ _ c.requires.at c.requires.promise (λ a b. omega (arith, b, c.code_at.ensures)))
-    (stops (OtherKindInValueBlock _) _ c.after-in_default.ensures (omega (arith, c.requires.visits)))
+pub visit_value_block_terminal-returns-in-Absent : goal.visit_value_block_terminal-returns-in-Absent
+visit_value_block_terminal-returns-in-Absent t c =
+    let none : NoValue c.terminal.result = record {
+      not_logical = search rules;
+      not_ternary = search rules;
+      not_optional = search rules;
+      not_label = search rules;
+      not_sequence = search rules;
+      not_maybe_throw = search rules;
+    } in
+    defined (terminal_other _ _ _ _ c.terminal.result c.terminal.ensures none) (stops (OtherKindInValueBlock _) _ c.after-in-Absent.ensures (omega (arith, c.requires.visits)))

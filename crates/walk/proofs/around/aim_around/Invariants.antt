@@ -5,4 +5,4 @@ use Rattle.statements.proofs.AroundLaws.{Surveying}
 use Rattle.walk.proofs.around.aim_around.Given as goal
 
 abbrev pub invariant-loop-from_outside : goal.invariant-loop-from_outside
-invariant-loop-from_outside l = Surveying l.jump (rule_of l.rule) l.words l.frames l.depth (resolved_of l.found) l.from_outside (survey_of l.seen)
+invariant-loop-from_outside l = Surveying l.jump (rule_of l.rule) l.table.words.now l.frames l.depth (resolved_of l.found) l.from_outside (survey_of l.seen)

@@ -1,0 +1,15 @@
+use mathlib.Core.Path.{◌∙◌}
+use Rattle.order.proofs.EntryLaws.{own_blocks, few_blocks, order_is, order_permutes, writing_new, is_rearranged}
+use Rattle.order.proofs.write_rearranged.Goals as goal
+
+pub new_numbers-requires-clause-few : goal.new_numbers-requires-clause-few
+new_numbers-requires-clause-few c = few_blocks _ _ c.args.table.promise.sized.limited.blocks (order_is _ _ c.args.table.promise c.requires.walked)
+
+pub new_numbers-requires-clause-permutation : goal.new_numbers-requires-clause-permutation
+new_numbers-requires-clause-permutation c = own_blocks _ _ (order_is _ _ c.args.table.promise c.requires.walked)
+
+pub write_table-requires : goal.write_table-requires
+write_table-requires c = writing_new _ _ _ c.args.table.promise (order_permutes _ _ c.args.table.promise c.requires.walked) c.new_numbers.ensures c.requires.new_words_len
+
+pub returns : goal.returns
+returns c = c.write_table.ensures ∙ is_rearranged _ _ _ c.args.table.promise c.requires.walked c.new_numbers.ensures

@@ -1,6 +1,0 @@
-use Rattle.tree_check.specs.Takes.{sort_of}
-use Rattle.tree_check.proofs.PartLaws.{Seeking}
-use Rattle.tree_check.proofs.parts.parts_begin.Given as goal
-
-abbrev pub invariant-loop : goal.invariant-loop
-invariant-loop l = Seeking l.tree l.begin (sort_of l.wanted) l.count l.fn.at l.counter l.at

@@ -1,0 +1,47 @@
+// The ops of rows as words. A lent row may have any word there, so the walk matches over these numbers: an `Option<Op>` of the word is no plainer, since
+// it takes one more match with an arm for each op, and the last arm of the walk's matches would be the same.
+use values::op::Op;
+
+pub const PLAIN: u32 = Op::Plain as u32;
+
+pub const INSTR: u32 = Op::Instr as u32;
+
+pub const LOGICAL: u32 = Op::Logical as u32;
+
+pub const COND: u32 = Op::Cond as u32;
+
+pub const OPTIONAL: u32 = Op::Optional as u32;
+
+pub const BLOCK: u32 = Op::Block as u32;
+
+pub const IF: u32 = Op::If as u32;
+
+pub const CASE: u32 = Op::Case as u32;
+
+pub const SWITCH: u32 = Op::Switch as u32;
+
+pub const DOWHILE: u32 = Op::DoWhile as u32;
+
+pub const WHILE: u32 = Op::While as u32;
+
+pub const FOR: u32 = Op::For as u32;
+
+pub const FOROF: u32 = Op::ForOf as u32;
+
+pub const FORIN: u32 = Op::ForIn as u32;
+
+pub const LABEL: u32 = Op::Label as u32;
+
+pub const TRY: u32 = Op::Try as u32;
+
+pub const SCOPE: u32 = Op::Scope as u32;
+
+pub const PRUNED: u32 = Op::Pruned as u32;
+
+pub const RETURN: u32 = Op::Return as u32;
+
+pub const THROW: u32 = Op::Throw as u32;
+
+pub const BREAK: u32 = Op::Break as u32;
+
+pub const CONTINUE: u32 = Op::Continue as u32;
