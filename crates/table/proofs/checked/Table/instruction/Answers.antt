@@ -1,5 +1,5 @@
 use Rattle.table.proofs.ColumnLaws.{instructs}
-use Rattle.table.proofs.table.Table.instruction.Goals as goal
+use Rattle.table.proofs.checked.Table.instruction.Goals as goal
 
 pub returns : goal.returns
 returns c =

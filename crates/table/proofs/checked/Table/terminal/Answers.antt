@@ -1,5 +1,5 @@
 use Rattle.table.proofs.TerminalLaws.{ends_by}
-use Rattle.table.proofs.table.Table.terminal.Goals as goal
+use Rattle.table.proofs.checked.Table.terminal.Goals as goal
 
 pub returns : goal.returns
 returns c =
