@@ -1,6 +1,6 @@
 use Rattle.std.proofs.Common.{rules}
 use Rattle.text.proofs.NameLaws.{names_within, names_stand, names_stop}
-use Rattle.text.proofs.parts.read_names.Goals as goal
+use Rattle.text.proofs.names.read_names.Goals as goal
 
 pub overflow_add-end : goal.overflow_add-end
 overflow_add-end c = let n = names_within c.args.file.now c.args.names.now c.args.start c.requires c.names_end-count.ensures in search rules
