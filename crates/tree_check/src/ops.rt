@@ -1,10 +1,16 @@
-// The ops of rows as words. A lent row may have any word there, so the walk matches over these numbers: an `Option<Op>` of the word is no plainer, since
-// it takes one more match with an arm for each op, and the last arm of the walk's matches would be the same.
+// The ops of rows as words, for the checker and the runner. A lent row may have any word there, and keeps it, so both match over these numbers:
+// an enum would be made of the word anew at each match, with an answer each time for a word that is no op.
 use values::op::Op;
 
 pub const PLAIN: u32 = Op::Plain as u32;
 
+pub const LOAD: u32 = Op::Load as u32;
+
+pub const UNDEF: u32 = Op::Undef as u32;
+
 pub const INSTR: u32 = Op::Instr as u32;
+
+pub const SEQ: u32 = Op::Seq as u32;
 
 pub const LOGICAL: u32 = Op::Logical as u32;
 
