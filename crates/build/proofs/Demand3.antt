@@ -17,7 +17,8 @@ use Rattle.build.specs.declared.answer.BuildError.{BuildError}
 use Rattle.build.specs.Entry.{numbers, outcome}
 
 -- `ensured` is what build_reactive_function ensures by the Rust's rule, and build_language by the language's
-module _ (rule : Rule) (words buffer index buffer' index' : List ℕ) (r : Result Walked BuildError) (ensured : outcome r buffer' index' ≡ built rule words (length buffer) (length index)) (accepted : (numbers r).code ≡ 0) where
+module _ (rule : Rule) (words buffer index buffer' index' : List ℕ) (r : Result Walked BuildError)
+    (ensured : outcome r buffer' index' ≡ built rule words (length buffer) (length index)) (accepted : (numbers r).code ≡ 0) where
   accepts : (built rule words (length buffer) (length index)).code ≡ 0
   accepts = sym (ap (λ (o : definition.Outcome). o.code) ensured) ∙ accepted
 
@@ -29,7 +30,8 @@ module _ (rule : Rule) (words buffer index buffer' index' : List ℕ) (r : Resul
   entry_law plain = subst (λ (o : definition.Outcome). RunLaw words o) (sym ensured) (run_law rule words (length buffer) (length index) accepts plain)
 
 -- M-113: plain tables with switches, for build_language
-module _ (words buffer index buffer' index' : List ℕ) (r : Result Walked BuildError) (ensured : outcome r buffer' index' ≡ built language words (length buffer) (length index)) (accepted : (numbers r).code ≡ 0) where
+module _ (words buffer index buffer' index' : List ℕ) (r : Result Walked BuildError)
+    (ensured : outcome r buffer' index' ≡ built language words (length buffer) (length index)) (accepted : (numbers r).code ≡ 0) where
   pub language_law : Plain with_switch (table_of words) → SwitchLaw words (outcome r buffer' index')
   language_law plain =
       subst (λ (o : definition.Outcome). SwitchLaw words o) (sym ensured)

@@ -58,8 +58,8 @@ impl Numbered for BuildError {
     fn visits(self) -> u32 {
         match self {
             BuildError::Walk(error) => error.visits(),
-            BuildError::NoRoomForRows { visits, .. } => visits,
-            BuildError::NoRoomForLines { visits } => visits,
+            BuildError::NoRoomForRows { visits, .. } | BuildError::NoRoomForLines { visits } =>
+                visits,
         }
     }
 }

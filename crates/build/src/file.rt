@@ -1,6 +1,5 @@
 // The programs treebuild and treebuild_language as a function: a file's bytes in, the bytes that are printed of it out.
-ghost use Rattle.std.specs.Prelude.{◌≡◌, ◌+◌, ◌*◌, ◌/◌, ◌≤◌, length, Ok};
-ghost use Rattle.text.specs.Printed.{printed};
+ghost use Rattle.std.specs.Prelude.{◌≡◌, ◌≤◌, length, Ok};
 ghost use Rattle.text.specs.Prints.{printing, WrittenText};
 ghost use Rattle.control.specs.AroundAbstraction.{rule_of};
 ghost use Rattle.build.specs.Prints.{tree_text, built_text};
@@ -8,9 +7,9 @@ ghost use Rattle.build.specs.Prints.{tree_text, built_text};
 use crate::build;
 use control::rule::Rule;
 use text::lent::{FILE_WORDS, zeros};
-use text::placed::Coded;
+use text::placed::write_refusal;
 use text::read::read;
-use text::write::{NoRoom, write};
+use text::write::{NoRoom, Numbers, write};
 use walk::answer::Numbered;
 
 // "It lends 2,048 rows."
@@ -18,20 +17,6 @@ const TREE_WORDS: usize = 12288;
 
 // M-101: it "lends 2,048 lines".
 const INDEX_WORDS: usize = 6144;
-
-// Writes a result: 77 bytes, and 66 for each row, are always enough.
-fn write_result(
-    out: &mut [u8],
-    code: u32,
-    at: u32,
-    rows: u32,
-    visits: u32,
-    tree: &[u32],
-) -> Result<usize, NoRoom>
-    ensures { WrittenText (77 + length tree.now / 6 * 66) (printed code at rows visits tree.now) (length out.old) result out.new }
-{
-    write(out, code, at, rows, visits, tree)
-}
 
 // Builds the table's tree, with 2,048 rows and lines lent, and writes the result.
 fn build_words(rule: Rule, words: &[u32], out: &mut [u8]) -> Result<usize, NoRoom>
@@ -42,20 +27,29 @@ fn build_words(rule: Rule, words: &[u32], out: &mut [u8]) -> Result<usize, NoRoo
     match build(rule, words, &mut tree, &mut index) {
         Ok(built) => {
             let end = (built.rows as usize) * 6;
-            write_result(out, 0, 0, built.rows, built.visits, &tree[..end])
+            let numbers = Numbers {
+                code: 0,
+                at: 0,
+                rows: built.rows,
+                visits: built.visits,
+            };
+            write(out, numbers, &tree[..end])
         }
-        Err(error) => write_result(
-            out,
-            error.code(),
-            error.place(),
-            error.rows(),
-            error.visits(),
-            &[],
-        ),
+        Err(error) => {
+            let numbers = Numbers {
+                code: error.code(),
+                at: error.place(),
+                rows: error.rows(),
+                visits: error.visits(),
+            };
+            write(out, numbers, &[])
+        }
     }
 }
 
 // Reads a file, builds its table's tree and writes the result; or writes why the file is refused. 135,245 bytes are enough.
+// (dot, order and preview have a function like it. One for all would take two closures, as preview's refusal has five numbers, and of each its
+// text and its bound, where dot's text goes by the room and order asks for few words: each caller would prove more than it does here.)
 pub fn build_file(rule: Rule, file: &[u8], out: &mut [u8]) -> Result<usize, NoRoom>
     ensures out_after { record { answer = result; bytes = out.new } ≡ printing (length out.old) (built_text (rule_of rule) file.now) }
     ensures value { 135245 ≤ length out.old → result ≡ Ok (length (built_text (rule_of rule) file.now)) }
@@ -63,6 +57,6 @@ pub fn build_file(rule: Rule, file: &[u8], out: &mut [u8]) -> Result<usize, NoRo
     let mut words = zeros::<u32, FILE_WORDS>();
     match read(file, &mut words) {
         Ok(count) => build_words(rule, &words[..count], out),
-        Err(error) => write_result(out, error.code(), error.place(), 0, 0, &[]),
+        Err(error) => write_refusal(out, error),
     }
 }

@@ -40,7 +40,8 @@ fn try_build(
     Ok(walked)
 }
 
-// The build by the rule of either entry. If the table is accepted, the buffers hold the rows and the lines, then zeros. "A refused build leaves zeros in both buffers."
+// The build by the rule of either entry. If the table is accepted, the buffers hold the rows and the lines, then zeros.
+// "A refused build leaves zeros in both buffers."
 pub fn build(
     rule: Rule,
     words: &[u32],
@@ -84,7 +85,8 @@ pub fn build_language(
     build(Rule::Language, words, tree, index)
 }
 
-// The same for callers in C or Rust: the code, and the other four words by reference, as C takes them. (Two entries, one for each rule: C and the theorems name them.)
+// The same for callers in C or Rust: the code, and the other four words by reference, as C takes them.
+// (Two entries, one for each rule: C and the theorems name them.)
 pub fn reactive_build(
     words: &[u32],
     tree: &mut [u32],

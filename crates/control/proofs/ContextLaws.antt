@@ -15,8 +15,8 @@ use Rattle.std.specs.Bool.{then_some}
 use Rattle.std.specs.Prelude as std
 use Rattle.definition.specs.Result.{ok, ◌>>=◌, refuse_if}
 use Rattle.definition.specs.Context as definition
-use Rattle.definition.specs.Context.{Flags, has, add, remove, no_flags, start, is_scheduled, emit, mark_scope_fallthrough, schedule_catch_handler, target_block, target_if}
-use Rattle.definition.specs.Context.{target_switch, target_case, target_loop, is_blocked, block_asked, blocked_code, pushed, popped, schedule, scheduled_by, owns, unscheduled_by}
+use Rattle.definition.specs.Context.{Flags, has, add, remove, no_flags, start, is_scheduled}
+use Rattle.definition.specs.Context.{is_blocked, block_asked, blocked_code, pushed, popped, schedule, scheduled_by, owns, unscheduled_by}
 use Rattle.definition.specs.Context.{unschedule, unschedule_top}
 use Rattle.machine.specs.Machine as machine
 use Rattle.control.specs.declared.ControlFlowTarget.{ControlFlowTarget}
@@ -29,12 +29,6 @@ use Rattle.control.specs.Abstraction.{target_of, entry_of, no_entry, stack_of, c
 use Rattle.control.specs.Contract.{reason, Named, Bounded, Room, Last, with_entry, without_last, Created, Scheduled, Unscheduled}
 
 -- ---- targets
-
-pub named_block : (target : ControlFlowTarget) → Named target → target_block (target_of target) < 1024
-named_block (If block) h = h
-named_block (Switch block) h = h
-named_block (Case block) h = h
-named_block (Loop block continue_block loop_block) h = h.0
 
 -- a target that is no loop, where the code takes the three kinds together
 pub record Unlooped (target : ControlFlowTarget) (block : ℕ) : Type 0 where
@@ -75,55 +69,9 @@ unfolding stack_of
 stack_length entries zero = refl
 stack_length entries (suc n) = ap suc (stack_length entries n)
 
--- ---- what the sets' own functions do to a Context
+-- ---- what the sets say of a Context
 
 module _ (visits block : ℕ) (cx : Context) where
-  pub emits : context_of visits (record {
-    emitted = add cx.emitted block;
-    catch_handlers = cx.catch_handlers;
-    scope_fallthroughs = cx.scope_fallthroughs;
-    len = cx.len;
-    scheduled = cx.scheduled;
-    pushed = cx.pushed;
-    refused = cx.refused;
-    next_schedule_id = cx.next_schedule_id;
-    stack = cx.stack;
-  }) ≡ emit block (context_of visits cx)
-  unfolding context_of emit
-  emits = refl
-
-  pub marks_scope_fallthrough : context_of visits
-      (record {
-        emitted = cx.emitted;
-        catch_handlers = cx.catch_handlers;
-        scope_fallthroughs = add cx.scope_fallthroughs block;
-        len = cx.len;
-        scheduled = cx.scheduled;
-        pushed = cx.pushed;
-        refused = cx.refused;
-        next_schedule_id = cx.next_schedule_id;
-        stack =
-            cx.stack;
-      }) ≡ mark_scope_fallthrough block (context_of visits cx)
-  unfolding context_of mark_scope_fallthrough
-  marks_scope_fallthrough = refl
-
-  pub schedules_catch_handler : context_of visits
-      (record {
-        emitted = cx.emitted;
-        catch_handlers = add cx.catch_handlers block;
-        scope_fallthroughs = cx.scope_fallthroughs;
-        len = cx.len;
-        scheduled = cx.scheduled;
-        pushed = cx.pushed;
-        refused = cx.refused;
-        next_schedule_id = cx.next_schedule_id;
-        stack =
-            cx.stack;
-      }) ≡ schedule_catch_handler block (context_of visits cx)
-  unfolding context_of schedule_catch_handler
-  schedules_catch_handler = refl
-
   pub is_scheduled_lem : is_scheduled (context_of visits cx) block ≡ has cx.scheduled block || has cx.catch_handlers block
   unfolding context_of is_scheduled
   is_scheduled_lem = refl

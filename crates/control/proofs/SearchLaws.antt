@@ -55,7 +55,8 @@ module _ (entries : List Entry) (block : ℕ) (top : Bool) (above n : ℕ) where
   unfolding continue_target_from stack_of
   continue_none e = rw e
 
-  pub continue_found : (n ≡ 0 → ⊥) → continues_at (last_target entries n) block ≡ true → continue_target_from (stack_of entries n) block top above ≡ some (continue_to (last_target entries n) top above)
+  pub continue_found : (n ≡ 0 → ⊥) → continues_at (last_target entries n) block ≡ true
+      → continue_target_from (stack_of entries n) block top above ≡ some (continue_to (last_target entries n) top above)
   continue_found f found = ap (λ (stack : List definition.Entry). continue_target_from stack block top above) (top_first entries n f) ∙ continue_at_lem _ _ block top above found
 
   pub continue_missed : (n ≡ 0 → ⊥) → continues_at (last_target entries n) block ≡ false

@@ -40,6 +40,7 @@ pub struct Survey {
 }
 
 // Where a jump goes: its kind by the rule, and whether it is Labeled but names no label around it.
+// (`unnamed` is a flag: field by field the definition's Goal, machine/specs/Goal.antt. A break into a scope's end is 22 before it is 29.)
 #[derive(Clone, Copy, Drop)]
 pub struct Goal {
     pub target: u32,
@@ -54,33 +55,27 @@ pub struct Goal {
 pub fn asks(rule: Rule, found: Option<Resolution>) -> bool
     ensures { result ≡ asks_around (rule_of rule) (resolved_of found) }
 {
-    matches!(rule, Rule::Language) && found.is_some()
+    rule == Rule::Language && found.is_some()
 }
 
 // The number of statements to pass over.
-pub fn pass_from(asked: bool, depth: u32) -> usize
+pub fn pass_from(asked: bool, depth: usize) -> usize
     ensures { result ≡ passed_from asked depth }
 {
-    if asked { depth as usize } else { 0 }
+    if asked { depth } else { 0 }
 }
 
 // 0 where nothing was found: then no statement is asked, and nobody reads it. So `unseen`.
 pub fn target_of(found: Option<Resolution>) -> u32
     ensures { result ≡ target_sought (resolved_of found) }
 {
-    match found {
-        None => 0,
-        Some(resolution) => resolution.block() as u32,
-    }
+    found.map_or(0, |resolution| resolution.block() as u32)
 }
 
 pub fn unseen(found: Option<Resolution>) -> Survey
     ensures { survey_of result ≡ unseen_by (resolved_of found) }
 {
-    let loops = match found {
-        None => 0,
-        Some(resolution) => resolution.loops,
-    };
+    let loops = found.map_or(0, |resolution| resolution.loops);
     Survey {
         between: true,
         switch_inside: false,
@@ -193,7 +188,7 @@ fn kind_by(
 fn is_unnamed(rule: Rule, kind: ReactiveTerminalTargetKind, named: bool) -> bool
     ensures { result ≡ unnamed (rule_of rule) (kind_of kind) named }
 {
-    matches!(rule, Rule::Language) && matches!(kind, ReactiveTerminalTargetKind::Labeled) && !named
+    rule == Rule::Language && kind == ReactiveTerminalTargetKind::Labeled && !named
 }
 
 pub fn break_goal(rule: Rule, found: Resolution, seen: Survey) -> Goal

@@ -1,10 +1,10 @@
 // The Rust's ControlFlowTarget and Context: which blocks are emitted, scheduled, catch handlers or scope fallthroughs, and the stack of the
 // statements that a jump can leave. Each step takes the Context and hands the next one back.
 //
-// A step never indexes an array of the Context that it is handed: a store into it or a read from it would copy the whole. So it copies the scheduled set into a
-// local and back, and of the stack's array it leaves two things to its caller, one line each: `schedule` gives the entry that went on in `pushed`, to be stored at
-// `len - 1`, and `unschedule` is handed the entry that its caller reads there. For the same reason each step writes `len`, and the scalars stand between the
-// arrays. (docs/PERFORMANCE.md has the times.)
+// A step never indexes an array of the Context that it is handed: a store into it or a read from it would copy the whole. So it copies the
+// scheduled set into a local and back, and of the stack's array it leaves two things to its caller, one line each: `schedule` gives the entry
+// that went on in `pushed`, to be stored at `len - 1`, and `unschedule` is handed the entry that its caller reads there. For the same reason each
+// step writes `len`, and the scalars stand between the arrays. (docs/PERFORMANCE.md has the times.)
 #![tactic(auto)]
 
 pub mod around;
@@ -44,6 +44,7 @@ pub enum ControlFlowTarget {
 }
 
 // `owns_loop`: the target is a loop, and its loop block was free before.
+// (A flag beside the target: field by field the definition's Entry. The caller names the target, and `schedule` finds out the flag.)
 #[derive(Clone, Copy, Drop)]
 pub struct Entry {
     pub id: u16,
@@ -53,9 +54,9 @@ pub struct Entry {
 
 #[derive(Clone, Copy, PartialEq, Eq, Drop)]
 pub enum ReactiveTerminalTargetKind {
-    Implicit,
-    Labeled,
-    Unlabeled,
+    Implicit = 0,
+    Labeled = 1,
+    Unlabeled = 2,
 }
 
 // What a jump resolves to: the entry that was found, the jump's kind, and how many loops lie above that entry.
@@ -69,8 +70,8 @@ pub struct Resolution {
 // Why `schedule` refuses a target: a loop's continue block is scheduled (15), or another target's block is (90, which never occurs).
 #[derive(Clone, Copy, PartialEq, Eq, Drop)]
 pub enum Blocked {
-    ContinueBlock,
-    Block,
+    ContinueBlock = 15,
+    Block = 90,
 }
 
 // `pushed` is the entry that went on last. `refused` says why `schedule` refused it, if it did. The walk ends with such a Context. The first `len`
@@ -94,10 +95,7 @@ impl Blocked {
     pub fn code(self) -> u32
         ensures { result ≡ blocked_number self }
     {
-        match self {
-            Blocked::ContinueBlock => 15,
-            Blocked::Block => 90,
-        }
+        self as u32
     }
 }
 
@@ -145,11 +143,7 @@ impl ReactiveTerminalTargetKind {
     pub fn number(self) -> u32
         ensures { result ≡ kind_number (kind_of self) }
     {
-        match self {
-            ReactiveTerminalTargetKind::Implicit => 0,
-            ReactiveTerminalTargetKind::Labeled => 1,
-            ReactiveTerminalTargetKind::Unlabeled => 2,
-        }
+        self as u32
     }
 }
 
@@ -268,8 +262,8 @@ impl Context {
         }
     }
 
-    // The one way to schedule any target; a loop has three blocks. A loop's fallthrough goes in without a test, and its continue block is tested after that.
-    // The new entry is in `pushed`.
+    // The one way to schedule any target; a loop has three blocks. A loop's fallthrough goes in without a test, and its continue block is tested
+    // after that. The new entry is in `pushed`.
     pub fn schedule(mut self, target: ControlFlowTarget) -> Context
         requires named { Named target }
         requires room { Room self }
@@ -312,8 +306,8 @@ impl Context {
         self
     }
 
-    // Takes off the stack's last entry, which its caller read at `len - 1`, and takes its blocks out of the scheduled set. A loop's fallthrough and continue
-    // block go out whoever put them there; its loop block goes out only if the loop owns it.
+    // Takes off the stack's last entry, which its caller read at `len - 1`, and takes its blocks out of the scheduled set. A loop's fallthrough
+    // and continue block go out whoever put them there; its loop block goes out only if the loop owns it.
     pub fn unschedule(mut self, last: Entry) -> Context
         requires { Last self last }
         ensures { Unscheduled last self result }

@@ -159,7 +159,8 @@ refused_some accepted lent text o e = (refl, by (leb (length text) lent) refl e)
     by true e z = leb-true (length text) lent e
     by false e z = absurd (omega (arith, z))
 
-pub new_zero : (words : List ℕ) (lent : ℕ) → Shaped (layout Old) words → (new_of_old words lent).code ≡ 0 → (old_checked words ≡ accepted) × (length (table_text (widened words)) ≤ lent)
+pub new_zero : (words : List ℕ) (lent : ℕ) → Shaped (layout Old) words → (new_of_old words lent).code ≡ 0
+    → (old_checked words ≡ accepted) × (length (table_text (widened words)) ≤ lent)
 unfolding new_of_old
 new_zero words lent shaped e = refused_some (old_checked words) lent (table_text (widened words)) (old_other words shaped) e
 

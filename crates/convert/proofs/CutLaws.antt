@@ -1,15 +1,18 @@
 -- Laws of words cut into rows.
 use Prim.Native.Nat.{ℕ, zero, suc, ◌+◌, ◌*◌, ◌-◌, ◌/◌, ◌≤◌, ◌<◌}
-use mathlib.Core.Path.{◌≡◌, refl, ap, ◌∙◌}
+use mathlib.Core.Path.{◌≡◌, refl, ap}
 use mathlib.Core.List.{List, [], ◌∷◌, ◌++◌, append_assoc}
 use native.Mathlib.Omega.{arith}
-use native.Mathlib.Nat.{add-div_left, div-eq_of_lt, div-le_of_le-mul, mul-div_cancel, zero-div}
-use lib.ListN.{length, take, drop, length-append, length-take, length-drop}
+use native.Mathlib.Nat.{add-div_left, div-eq_of_lt, mul-div_cancel, zero-div}
+use lib.ListN.{length, take, drop, length-append, length-drop}
 use lib.Seq.{take-add, take_at, drop_at, length-take-le, take-append-le, take-take}
 use Rattle.std.proofs.lemmas.List.{drop-take}
 use Rattle.text.specs.File.{Rows}
 use Rattle.text.specs.Line.{line, lines, flat}
-use Rattle.text.proofs.WriteLaws.{Narrow, narrow_words, narrow_take, narrow_drop, line_most}
+use Rattle.text.specs.Writer.{written}
+use Rattle.text.specs.declared.write.Writer.{Writer}
+use Rattle.text.proofs.WriteLaws.{Narrow, narrow_words, narrow_take, narrow_drop}
+use Rattle.text.proofs.WriterLaws.{written_append}
 use Rattle.convert.specs.Cut.{cut, rows_in}
 
 -- ---- the whole rows of words
@@ -36,18 +39,31 @@ module _ (stride columns : ℕ) where
       let e : suc count * stride ≡ stride + count * stride = omega arith in
       rw (e, take-take columns (stride + count * stride) words (omega arith), drop-take stride (count * stride) words, cut_take count (drop stride words) p)
 
-  -- their lines
-  pub lines_open : (row rest written all : List ℕ) → 0 < stride → columns ≤ stride → length row ≡ stride → written ++ lines (rows_in stride columns (row ++ rest)) ≡ all
-      → (written ++ line (take columns row)) ++ lines (rows_in stride columns rest) ≡ all
+  -- a writer after the lines of a row and of those behind it
+  pub rows_more : (w : Writer) (row rest : List ℕ) → 0 < stride → columns ≤ stride → length row ≡ stride
+      → written w (lines (rows_in stride columns (row ++ rest))) ≡ written (written w (line (take columns row))) (lines (rows_in stride columns rest))
   unfolding lines
-  lines_open row rest written all some fits long h = append_assoc written _ _ ∙ rw (rows_open row rest some fits long) at h
+  rows_more w row rest some fits long = rw (rows_open row rest some fits long) (written_append w (line (take columns row)) (lines (rows_in stride columns rest)))
 
-  pub lines_none : (rest : List ℕ) → length rest < stride → lines (rows_in stride columns rest) ≡ []
-  unfolding lines
-  lines_none rest p = rw (rows_none rest p)
+  -- rows of no words have no lines, of whatever stride
+  pub no_lines : (words : List ℕ) → length words ≡ 0 → lines (rows_in stride columns words) ≡ []
+  unfolding cut lines
+  no_lines words e = rw (e, zero-div stride)
+
+  pub some_words : (words : List ℕ) → (stride ≡ 0 → length words ≡ 0) → (length words ≡ 0 → ⊥) → 0 < stride
+  some_words words f some = by stride refl
+    where
+      by : (n : ℕ) → stride ≡ n → 0 < stride
+      by zero e = absurd (some (f e))
+      by (suc n) e = omega (arith, e)
+
+  pub rows_end : (w : Writer) (rest : List ℕ) → length rest < stride → written w (lines (rows_in stride columns rest)) ≡ w
+  unfolding lines written
+  rows_end w rest p = rw (rows_none rest p)
 
   -- those of so many words are so many
-  pub rows_taken : (count : ℕ) (words : List ℕ) → 0 < stride → columns ≤ stride → count * stride ≤ length words → rows_in stride columns (take (count * stride) words) ≡ cut stride columns count words
+  pub rows_taken : (count : ℕ) (words : List ℕ) → 0 < stride → columns ≤ stride → count * stride ≤ length words
+      → rows_in stride columns (take (count * stride) words) ≡ cut stride columns count words
   rows_taken count words some fits within =
       rw (length-take-le (count * stride) words within, mul-div_cancel count some) (cut_take count words fits)
 
@@ -57,23 +73,6 @@ pub rows_between : (stride columns count begin end : ℕ) (words : List ℕ) →
 rows_between stride columns count begin end words some fits e within =
     let long : end - begin ≡ count * stride = omega (arith, e) in
     rw long (rows_taken stride columns count (drop begin words) some fits (rw (length-drop begin words) (omega (arith, e))))
-
-pub no_rows : (stride columns : ℕ) (words : List ℕ) → length words ≡ 0 → lines (rows_in stride columns words) ≡ []
-unfolding cut lines
-no_rows stride columns words e = rw (e, zero-div stride)
-
-pub few_rows : (most stride n : ℕ) → n ≤ most * stride → n / stride ≤ most
-few_rows most stride n p = div-le_of_le-mul stride (omega arith)
-
--- words of 32 bits, in a row and behind it
-pub narrow_parts : (row rest : List ℕ) → Narrow (row ++ rest) → Narrow row × Narrow rest
-narrow_parts row rest n =
-    (rw (take_at row rest (length row) refl) at (narrow_take (length row) (row ++ rest) n), rw (drop_at row rest (length row) refl) at (narrow_drop (length row) (row ++ rest) n))
-
--- a row's line has at most 11 bytes a number
-pub row_most : (columns : ℕ) (row : List ℕ) → Narrow row → length (line (take columns row)) ≤ columns * 11
-row_most columns row p =
-    omega (arith, line_most (take columns row) (narrow_words (take columns row) (narrow_take columns row p)), length-take columns row)
 
 -- ---- the words of the rows, and the rows of the words
 

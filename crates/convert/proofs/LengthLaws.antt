@@ -97,7 +97,8 @@ module _ (old : List ℕ) (shaped : Shaped (layout Old) old) where
       rw (wide_head old shaped 1 (omega arith), wide_blocks old shaped, doubled_cut 10 (omega arith) (get_or old 1 0) (drop 6 old) _ (blocks_fit old shaped))
       (lines_doubled 10 (get_or old 1 0) (drop 6 old) (omega arith) (blocks_fit old shaped))
 
-  instructions_most : length (lines (cut 7 7 (get_or wide 2 0) (drop (instructions_at (layout New) wide) wide))) ≤ 2 * length (lines (cut 6 6 (get_or old 2 0) (drop (instructions_at (layout Old) old) old)))
+  instructions_most : length (lines (cut 7 7 (get_or wide 2 0) (drop (instructions_at (layout New) wide) wide)))
+      ≤ 2 * length (lines (cut 6 6 (get_or old 2 0) (drop (instructions_at (layout Old) old) old)))
   instructions_most =
       rw (at_instructions old shaped, wide_head old shaped 2 (omega arith), doubled_cut 6 (omega arith) (get_or old 2 0) (drop (instructions_at (layout Old) old) old) _ (instructions_fit old shaped))
       (lines_doubled 6 (get_or old 2 0) (drop (instructions_at (layout Old) old) old) (omega arith) (instructions_fit old shaped))

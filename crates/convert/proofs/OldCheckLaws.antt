@@ -88,8 +88,10 @@ row_more ws at [] last h =
 row_more ws at (rule ∷ rules) last h = by (fits rule (word ws at)) refl (row_more ws (suc at) rules last)
   where
     by : (b : Bool) → fits rule (word ws at) ≡ b
-        → ((row_verdict ws (suc at) rules ≡ accepted → fits last (word ws (suc at + length rules)) ≡ true) → row_verdict ws (suc at) (rules ++ (last ∷ [])) ≡ row_verdict ws (suc at) rules)
-        → ◌≡◌ {A = Verdict} (elim b [ true ↦ row_verdict ws (suc at) (rules ++ (last ∷ [])) | false ↦ refused 4 at ]) (elim b [ true ↦ row_verdict ws (suc at) rules | false ↦ refused 4 at ])
+        → ((row_verdict ws (suc at) rules ≡ accepted → fits last (word ws (suc at + length rules)) ≡ true)
+        → row_verdict ws (suc at) (rules ++ (last ∷ [])) ≡ row_verdict ws (suc at) rules)
+        → ◌≡◌ {A = Verdict} (elim b [ true ↦ row_verdict ws (suc at) (rules ++ (last ∷ [])) | false ↦ refused 4 at ])
+        (elim b [ true ↦ row_verdict ws (suc at) rules | false ↦ refused 4 at ])
     by true e more =
         let z : at + suc (length rules) ≡ suc at + length rules = omega arith in
         more (λ a. rw z at (h (rw (e, row_verdict) a)))
@@ -167,7 +169,8 @@ old_rules_lem : (ws : List ℕ) (b : ℕ) → old_block_rules ws b ≡ old_rules
 unfolding old_block_rules
 old_rules_lem ws b = by (eqb (old_block_word ws b 2) 0)
   where
-    by : (t : Bool) → elim t [ true ↦ old_rules true 0 0 [] | false ↦ old_rules false (old_block_word ws b 0) (instruction_count ws) (terminal_rules ws (old_block_word ws b 2) (old_block_word ws b 4)) ]
+    by : (t : Bool)
+        → elim t [ true ↦ old_rules true 0 0 [] | false ↦ old_rules false (old_block_word ws b 0) (instruction_count ws) (terminal_rules ws (old_block_word ws b 2) (old_block_word ws b 4)) ]
         ≡ old_rules t (old_block_word ws b 0) (instruction_count ws) (terminal_rules ws (old_block_word ws b 2) (old_block_word ws b 4))
     by true = refl
     by false = refl
@@ -222,7 +225,8 @@ whole short counts exact enters words =
           ]
     ]
 
-old_whole : (ws : List ℕ) → old_checked ws ≡ whole (ltb (length ws) 6) (counts_verdict ws 1 limits) (eqb (length ws) (end_at (layout Old) ws)) (ltb (entry_word ws) (block_count ws)) (old_words_verdict ws)
+old_whole : (ws : List ℕ)
+    → old_checked ws ≡ whole (ltb (length ws) 6) (counts_verdict ws 1 limits) (eqb (length ws) (end_at (layout Old) ws)) (ltb (entry_word ws) (block_count ws)) (old_words_verdict ws)
 unfolding old_checked whole
 old_whole ws = refl
 
@@ -337,7 +341,8 @@ module _ (old : List ℕ) (shaped : Shaped (layout Old) old) where
         → fits (last_rule (eqb (old_block_word old b 2) 0) (old_block_word old b 9)) (word new (6 + b * 11 + length (old_block_rules old b))) ≡ true
     unfolding old_block_word
     block_fits h =
-        let first : fits (get_or (old_block_rules old b) 9 unused) (word new (6 + b * 11 + 9)) ≡ true = span_fits new (6 + b * 11) 9 (old_block_rules old b) h (rw (old_block_width old b) (omega arith)) in
+        let first : fits (get_or (old_block_rules old b) 9 unused) (word new (6 + b * 11 + 9)) ≡ true =
+        span_fits new (6 + b * 11) 9 (old_block_rules old b) h (rw (old_block_width old b) (omega arith)) in
         rw (old_block_width old b, block_last)
         (same_fits (eqb (old_block_word old b 2) 0) (old_block_word old b 9) (rw (old_rules_lem old b, old_span (eqb (old_block_word old b 2) 0) _ _ _, block_same 9 (omega arith)) at first))
 

@@ -115,7 +115,8 @@ module _ (old : List ℕ) (shaped : Shaped (layout Old) old) where
       let b : cut 11 10 (get_or wide 1 0) (drop 6 wide) ≡ cut 10 10 (get_or old 1 0) (drop 6 old) =
       rw (wide_head old shaped 1 (omega arith), wide_blocks old shaped) (cut_doubled 10 (omega arith) (get_or old 1 0) (drop 6 old) _ (blocks_fit old shaped)) in
       let i : cut 7 6 (get_or wide 2 0) (drop (instructions_at (layout New) wide) wide) ≡ cut 6 6 (get_or old 2 0) (drop (instructions_at (layout Old) old) old) =
-      rw (at_instructions old shaped, wide_head old shaped 2 (omega arith)) (cut_doubled 6 (omega arith) (get_or old 2 0) (drop (instructions_at (layout Old) old) old) _ (instructions_fit old shaped)) in
+      rw (at_instructions old shaped, wide_head old shaped 2 (omega arith))
+      (cut_doubled 6 (omega arith) (get_or old 2 0) (drop (instructions_at (layout Old) old) old) _ (instructions_fit old shaped)) in
       let c : cut 2 2 (get_or wide 3 0) (drop (cases_at (layout New) wide) wide) ≡ cut 2 2 (get_or old 3 0) (drop (cases_at (layout Old) old) old) = rw
       (at_cases old shaped, wide_head old shaped 3 (omega arith)) in
       let p : cut 1 1 (get_or wide 4 0) (drop (places_at (layout New) wide) wide) ≡ cut 1 1 (get_or old 4 0) (drop (places_at (layout Old) old) old) = rw
@@ -188,7 +189,8 @@ module _ (words : List ℕ) (sized : Sized words) (narrow : Narrow words) (agree
   unfolding end_at identifiers_at places_at cases_at instructions_at
   blocks_whole = agree_doubled words 10 6 (get_or words 1 0) (omega arith) (omega (arith, shaped.long)) agrees.0
 
-  instructions_whole : flat (map doubled (cut 7 6 (get_or words 2 0) (drop (instructions_at (layout New) words) words))) ≡ flat (cut 7 7 (get_or words 2 0) (drop (instructions_at (layout New) words) words))
+  instructions_whole : flat (map doubled (cut 7 6 (get_or words 2 0) (drop (instructions_at (layout New) words) words)))
+      ≡ flat (cut 7 7 (get_or words 2 0) (drop (instructions_at (layout New) words) words))
   unfolding end_at identifiers_at places_at cases_at
   instructions_whole = agree_doubled words 6 (instructions_at (layout New) words) (get_or words 2 0) (omega arith) (omega (arith, shaped.long)) agrees.1
 
@@ -241,7 +243,8 @@ new_given : (words : List ℕ) (lent : ℕ) → old_checked words ≡ accepted �
 unfolding new_of_old unless_refused
 new_given words lent e p = rw e (placed_fits 53 lent (table_text (widened words)) p)
 
-old_given : (words : List ℕ) (lent : ℕ) → checked words ≡ accepted → spans_verdict words ≡ accepted → length (old_text words) ≤ lent → old_of_new words lent ≡ wholly lent (old_text words)
+old_given : (words : List ℕ) (lent : ℕ) → checked words ≡ accepted → spans_verdict words ≡ accepted
+    → length (old_text words) ≤ lent → old_of_new words lent ≡ wholly lent (old_text words)
 unfolding old_of_new unless_refused and_then
 old_given words lent e f p = rw (e, f) (placed_fits 53 lent (old_text words) p)
 

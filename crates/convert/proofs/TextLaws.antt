@@ -1,29 +1,25 @@
 -- From the tables' texts to the text of the whole; and where the tables lie in the words.
-use Prim.Native.Nat.{ℕ, ◌+◌, ◌*◌, ◌≤◌}
-use Rattle.std.specs.Prelude.{Ok, Err}
-use mathlib.Core.Path.{◌≡◌, refl}
-use mathlib.Core.List.{List, [], ◌++◌, append_assoc, append-nil}
+use Prim.Native.Nat.{ℕ, ◌+◌, ◌-◌, ◌*◌, ◌≤◌}
+use mathlib.Core.Path.{◌≡◌}
+use mathlib.Core.List.{List, [], ◌∷◌, ◌++◌, append-nil}
 use native.Mathlib.Omega.{arith}
-use lib.ListN.{length, get_or, take}
-use Rattle.table.specs.Words.{word, block_count, instruction_count, case_count, place_count, identifier_count, blocks_begin, instructions_begin, cases_begin, places_begin, identifiers_begin, words_needed}
+use lib.ListN.{length, get_or, take, drop}
+use Rattle.table.specs.Words.{word, block_count, instruction_count, case_count, place_count, identifier_count}
+use Rattle.table.specs.Words.{blocks_begin, instructions_begin, cases_begin, places_begin, identifiers_begin, words_needed}
 use Rattle.table.specs.Check.{accepted, refused, checked}
-use Rattle.table.specs.Answer.{refusal_code, refusal_place}
-use Rattle.table.specs.declared.Refusal.{Refusal}
 use Rattle.table.specs.Promise.{Sized}
-use Rattle.text.specs.Layout.{layout, block_columns, instruction_columns}
-use Rattle.text.specs.Line.{line, lines}
-use Rattle.text.specs.Printed.{Wrote}
-use Rattle.text.specs.Placed.{finished as finished_by}
+use Rattle.text.specs.Layout.{Layout, Columns, layout, block_columns, instruction_columns}
+use Rattle.text.specs.File.{Tables, text_of}
+use Rattle.text.specs.Line.{lines}
+use Rattle.text.specs.Placed.{Placing, refusal, placed}
+use Rattle.text.specs.Writer.{written}
 use Rattle.text.specs.declared.version.Version.{Version}
 use Rattle.text.specs.declared.version.Version.TheVariants.{Old, New}
-use Rattle.text.proofs.LentLaws.{holds_none}
-use Rattle.text.proofs.PlacedLaws.{finished_text}
-use Rattle.text.proofs.WriteLaws.{wrote_then}
-use Rattle.convert.specs.Cut.{cut, instructions_at, cases_at, places_at, identifiers_at, end_at, Shaped, tables_in, text_in}
-use Rattle.convert.specs.WrittenParts.{part_text, head_text, rest_text}
+use Rattle.text.specs.declared.write.Writer.{Writer}
+use Rattle.text.proofs.WriterLaws.{written_append}
+use Rattle.convert.specs.Cut.{cut, rows_in, instructions_at, cases_at, places_at, identifiers_at, end_at, Shaped, tables_in, text_in}
+use Rattle.convert.proofs.CutLaws.{rows_taken, rows_between}
 use Rattle.convert.specs.Write.{unless_refused, table_written, table_text}
-use Rattle.convert.specs.WriteAnswer.{code_of, place_of, finished}
-use Rattle.convert.specs.declared.writing.WriteError.TheVariants.{Table, NoRoom}
 
 -- ---- where the tables lie
 
@@ -53,49 +49,61 @@ sized_shaped words s = record { head = s.limited.head; long = omega (arith, s.lo
 
 -- ---- the text
 
--- the lines of names are short, and a row has at least so many words
-pub blocks_short : (version : Version) → (length (block_columns version).names ≤ 64) × ((block_columns version).width ≤ 11)
-blocks_short Old = (omega arith, omega arith)
-blocks_short New = (omega arith, omega arith)
+-- a row has at least so many words
+blocks_narrow : (version : Version) → (block_columns version).width ≤ 11
+blocks_narrow Old = omega arith
+blocks_narrow New = omega arith
 
-pub instructions_short : (version : Version) → (length (instruction_columns version).names ≤ 64) × ((instruction_columns version).width ≤ 7)
-instructions_short Old = (omega arith, omega arith)
-instructions_short New = (omega arith, omega arith)
+instructions_narrow : (version : Version) → (instruction_columns version).width ≤ 7
+instructions_narrow Old = omega arith
+instructions_narrow New = omega arith
 
-regroup : (a b c d e f g h i j k l : List ℕ)
-    → (a ++ (b ++ [])) ++ ((c ++ d) ++ ((e ++ f) ++ ((g ++ h) ++ ((i ++ j) ++ (k ++ l))))) ≡ a ++ b ++ c ++ d ++ e ++ f ++ g ++ h ++ i ++ j ++ k ++ l
-regroup a b c d e f g h i j k l = simp (append_assoc, append-nil)
+-- the tables, one after the other
+abbrev part : Writer → (names : List ℕ) → (rows : List (List ℕ)) → Writer
+part w names rows = written w (names ++ lines rows)
 
-text_parts : (version : Version) (words : List ℕ)
-    → head_text words
-    ++ (part_text (block_columns New) (block_columns version) (block_count words) 6 words
-    ++ (part_text (instruction_columns New) (instruction_columns version) (instruction_count words) (instructions_begin words) words
-    ++ rest_text words))
-    ≡ text_in (layout New) (layout version) words
-unfolding text_in tables_in cut lines identifiers_begin places_begin cases_begin instructions_begin blocks_begin block_count instruction_count case_count place_count
+pub tables_written : (w : Writer) (f : Layout) (t : Tables)
+    → part (part (part (part (part (part w f.head.names (t.head ∷ [])) f.blocks.names t.blocks) f.instructions.names t.instructions)
+    f.cases.names t.cases) f.places.names t.places) f.identifiers.names t.identifiers
+    ≡ written w (text_of f t)
+unfolding lines
+tables_written w f t = simp (written_append, append-nil)
+
+-- the same of their rows as slices of the words have them
+pub text_written : (w : Writer) (version : Version) (words : List ℕ) (blocks instructions : Columns) {first case place identifier : ℕ} → Sized words
+    → blocks ≡ block_columns version → instructions ≡ instruction_columns version
+    → first ≡ instructions_begin words → case ≡ cases_begin words → place ≡ places_begin words → identifier ≡ identifiers_begin words
+    → part (part (part (part (part (part w (layout New).head.names (rows_in 6 6 (take 6 words)))
+    blocks.names (rows_in 11 blocks.width (take (first - 6) (drop 6 words))))
+    instructions.names (rows_in 7 instructions.width (take (case - first) (drop first words))))
+    (layout New).cases.names (rows_in 2 2 (take (place - case) (drop case words))))
+    (layout New).places.names (rows_in 1 1 (take (identifier - place) (drop place words))))
+    (layout New).identifiers.names (rows_in 1 1 (take (length words - identifier) (drop identifier words)))
+    ≡ written w (text_in (layout New) (layout version) words)
+unfolding text_in tables_in cut identifiers_begin places_begin cases_begin instructions_begin blocks_begin block_count instruction_count case_count place_count
     identifier_count word identifiers_at places_at cases_at instructions_at
-text_parts version words =
+text_written w version words blocks instructions {first} {case} {place} {identifier} sized b i at_instructions at_cases at_places at_identifiers =
+    let within = sized_within words sized in
     let one : get_or words 4 0 * 1 ≡ get_or words 4 0 = omega arith in
-    rw one
-    (regroup (layout New).head.names (line (take 6 words)) (block_columns version).names _ (instruction_columns version).names _ (layout New).cases.names _
-    (layout New).places.names _ (layout New).identifiers.names _)
-
--- its parts, one after the other
-pub tables_wrote : {b b₁ b₂ b₃ b₄ : List ℕ} {n₁ n₂ n₃ n₄ : ℕ} (version : Version) (words : List ℕ)
-    → Wrote b 0 (head_text words) b₁ n₁
-    → Wrote b₁ n₁ (part_text (block_columns New) (block_columns version) (block_count words) 6 words) b₂ n₂
-    → Wrote b₂ n₂ (part_text (instruction_columns New) (instruction_columns version) (instruction_count words) (instructions_begin words) words) b₃ n₃
-    → Wrote b₃ n₃ (rest_text words) b₄ n₄ → Wrote b 0 (text_in (layout New) (layout version) words) b₄ n₄
-tables_wrote version words head blocks instructions rest =
-    rw (text_parts version words) at (wrote_then head (wrote_then blocks (wrote_then instructions rest)))
+    let block_rows = rows_between 11 (block_columns version).width (block_count words) 6 first words (omega arith) (blocks_narrow version)
+    (omega (arith, at_instructions, within)) (omega (arith, at_instructions, within)) in
+    let instruction_rows = rows_between 7 (instruction_columns version).width (instruction_count words) first case words (omega arith) (instructions_narrow version)
+    (omega (arith, at_instructions, at_cases, within)) (omega (arith, at_cases, within)) in
+    let case_rows = rows_between 2 2 (case_count words) case place words (omega arith) (omega arith) (omega (arith, at_cases, at_places, within)) (omega (arith, at_places, within)) in
+    let place_rows = rows_between 1 1 (place_count words) place identifier words (omega arith) (omega arith)
+    (omega (arith, at_places, at_identifiers, within)) (omega (arith, at_identifiers, within)) in
+    let identifier_rows = rows_between 1 1 (identifier_count words) identifier (length words) words (omega arith) (omega arith) (omega (arith, at_identifiers, within)) (omega arith) in
+    let head_row = rows_taken 6 6 1 words (omega arith) (omega arith) within.head in
+    rw (b, i, head_row, block_rows, instruction_rows, case_rows, place_rows, identifier_rows, at_instructions, at_cases, at_places, at_identifiers, one)
+    (rw one at (tables_written w (layout version) (tables_in (layout New) (layout version) words)))
 
 -- ---- the answer
 
-module _ (words before text : List ℕ) (long : length text ≡ length before) where
-  pub written_accepted : {end : ℕ} → accepted ≡ checked words → Wrote before 0 (table_text words) text end → finished (Ok end) text ≡ table_written words (length before)
+module _ (words : List ℕ) (lent : ℕ) {answer : Placing} where
+  pub table_accepted : accepted ≡ checked words → answer ≡ placed 53 lent (table_text words) → answer ≡ table_written words lent
   unfolding table_written unless_refused
-  written_accepted v wrote = rw (← v) (rw long at (finished_text code_of place_of NoRoom _ _ _ refl (wrote.holds [] (holds_none _))))
+  table_accepted v e = rw (← v) e
 
-  pub written_refused : (refusal : Refusal) → refused (refusal_code refusal) (refusal_place refusal) ≡ checked words → finished (Err (Table refusal)) text ≡ table_written words (length before)
-  unfolding table_written unless_refused finished_by
-  written_refused refusal v = rw (← v, long) refl
+  pub table_refused : (code at : ℕ) → refused code at ≡ checked words → answer ≡ refusal code at lent → answer ≡ table_written words lent
+  unfolding table_written unless_refused
+  table_refused code at v e = rw (← v) e

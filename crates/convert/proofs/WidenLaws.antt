@@ -9,9 +9,7 @@ use lib.Seq.{take_all, drop-drop, drop_at, take_at, length-take-le, get_or-take,
 use Rattle.text.specs.Layout.{layout}
 use Rattle.text.specs.Line.{flat}
 use Rattle.text.specs.declared.version.Version.TheVariants.{Old, New}
-use Rattle.text.specs.Printed.{Wrote}
-use Rattle.text.proofs.LentLaws.{holds_none, holds_all}
-use Rattle.text.proofs.WriteLaws.{wrote_then}
+use borrow.Rule.Slice.PartMut.{put_mid, post_of}
 use Rattle.convert.specs.Cut.{cut, instructions_at, cases_at, places_at, identifiers_at, end_at, Shaped}
 use Rattle.convert.proofs.CutLaws.{rows_open, rows_between}
 use Rattle.convert.proofs.GoodLaws.{behind}
@@ -107,6 +105,11 @@ module _ (width : ℕ) (some : 1 ≤ width) where
       let behind_it : drop (suc width) (doubled (take width words) ++ more) ≡ more = drop_at (doubled (take width words)) more (suc width) (length_doubled (take width words) ∙ ap suc l) in
       rw (doubled_open width count words, append_assoc, first, behind_it, cut_doubled count (drop width words) rest (rw (length-drop width words) (omega arith)))
 
+-- words put behind those that stand first
+put_behind : (a k n : ℕ) (words part done : List ℕ) → take a words ≡ done → n ≡ length done + length part → take n (put_mid a k words part) ≡ done ++ part
+put_behind a k n words part done e long =
+    rw e (ap (take n) (sym (append_assoc done part (post_of a k words))) ∙ take_at (done ++ part) _ n (omega (arith, long, length-append done part)))
+
 -- ---- the whole
 
 module _ (old : List ℕ) (shaped : Shaped (layout Old) old) where
@@ -198,35 +201,35 @@ module _ (old : List ℕ) (shaped : Shaped (layout Old) old) where
   unfolding end_at identifiers_at places_at cases_at instructions_at
   wide_most p = omega (arith, length_wide, shaped.long)
 
+  -- the parts, put one behind the other
+  pub widened_put : (k₁ k₂ k₃ : ℕ) (head wide_blocks wide_instructions rest more : List ℕ)
+      → head ≡ take 6 old
+      → wide_blocks ≡ doubled_rows 10 blocks (drop 6 old)
+      → wide_instructions ≡ doubled_rows 6 instructions (drop (6 + blocks * 10) old)
+      → rest ≡ drop (6 + blocks * 10 + instructions * 6) old
+      → take (length old + blocks + instructions)
+      (put_mid (6 + blocks * 10 + instructions * 6 + blocks + instructions) k₃
+      (put_mid (6 + blocks * 10 + blocks) k₂ (put_mid 6 k₁ (head ++ more) wide_blocks) wide_instructions) rest)
+      ≡ widened old
+  unfolding widened cases_at instructions_at end_at identifiers_at places_at
+  widened_put k₁ k₂ k₃ head wide_blocks wide_instructions rest more h b i r =
+      let six : length head ≡ 6 = rw h head_long in
+      let blocks_long : length wide_blocks ≡ blocks * 11 = rw b (length_doubled_rows 10 (omega arith) blocks (drop 6 old) blocks_fit) in
+      let instructions_long : length wide_instructions ≡ instructions * 7 =
+      rw i (length_doubled_rows 6 (omega arith) instructions _ instructions_fit) in
+      let rest_long : length rest ≡ length old - (6 + blocks * 10 + instructions * 6) = rw r (length-drop _ old) in
+      let one = put_behind 6 k₁ (6 + blocks * 10 + blocks) (head ++ more) wide_blocks head (take_at head more 6 six) (omega (arith, six, blocks_long)) in
+      let long = length-append head wide_blocks in
+      let two = put_behind _ k₂ (6 + blocks * 10 + instructions * 6 + blocks + instructions) _ wide_instructions _ one
+      (omega (arith, six, blocks_long, instructions_long, long)) in
+      let three = put_behind _ k₃ (length old + blocks + instructions) _ rest _ two
+      (omega (arith, six, blocks_long, instructions_long, rest_long, long, length-append (head ++ wide_blocks) wide_instructions, shaped.long)) in
+      three ∙ rw (h, b, i, r) (simp append_assoc refl)
+
 pub old_within : (old : List ℕ) → Shaped (layout Old) old → (6 ≤ length old) × (6 + get_or old 1 0 * 10 + get_or old 2 0 * 6 ≤ length old)
 unfolding end_at identifiers_at places_at cases_at instructions_at
 old_within old shaped = (shaped.head, omega (arith, shaped.long))
 
 -- the words from a place on, as a slice has them
-abbrev rest_of : List ℕ → ℕ → List ℕ
-rest_of words at = take (length words - at) (drop at words)
-
-pub rest_whole : (words : List ℕ) (at : ℕ) → rest_of words at ≡ drop at words
+pub rest_whole : (words : List ℕ) (at : ℕ) → take (length words - at) (drop at words) ≡ drop at words
 rest_whole words at = take_all (length words - at) (drop at words) (omega (arith, length-drop at words))
-
--- the parts of widened words, one after the other
-pub widened_wrote : {b b₁ b₂ b₃ b₄ : List ℕ} {n₁ n₂ n₃ n₄ : ℕ} (old : List ℕ)
-    → Wrote b 0 (take 6 old) b₁ n₁
-    → Wrote b₁ n₁ (doubled_rows 10 (get_or old 1 0) (drop 6 old)) b₂ n₂
-    → Wrote b₂ n₂ (doubled_rows 6 (get_or old 2 0) (drop (6 + get_or old 1 0 * 10) old)) b₃ n₃
-    → Wrote b₃ n₃ (rest_of old (6 + get_or old 1 0 * 10 + get_or old 2 0 * 6)) b₄ n₄ → Wrote b 0 (widened old) b₄ n₄
-unfolding widened cases_at instructions_at
-widened_wrote old head blocks instructions rest =
-    wrote_then head (wrote_then blocks (wrote_then instructions (rw (rest_whole old (6 + get_or old 1 0 * 10 + get_or old 2 0 * 6)) at rest)))
-
--- the widened words stand first in the lent ones
-pub record Taken (wide : List ℕ) (count : ℕ) (words : List ℕ) : Type 0 where
-  pub within : count ≤ length words
-  pub is : take count words ≡ wide
-
-pub wide_taken : (old words lent : List ℕ) {count : ℕ} → Shaped (layout Old) old → length old ≤ 16384 → Wrote lent 0 (widened old) words count → length words ≡ 19456
-    → Taken (widened old) count words
-wide_taken old words lent {count} shaped few wrote long =
-    let held = wrote.holds [] (holds_none lent) in
-    let within : count ≤ length words = omega (arith, wrote.long, wide_most old shaped few) in
-    record { within = within; is = holds_all words count (widened old) held within }

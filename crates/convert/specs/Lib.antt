@@ -1,5 +1,4 @@
 pub mod Cut
-pub mod WrittenParts
 pub mod Write
 pub mod WriteAnswer
 pub mod OldCheck

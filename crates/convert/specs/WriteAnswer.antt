@@ -15,9 +15,9 @@ abbrev pub place_of : WriteError → ℕ
 place_of (Table refusal) = refusal_place refusal
 place_of NoRoom = 0
 
--- an answer and the lent buffer; and what is answered once a text was written up to an end, or refused
+-- an answer and the lent buffer; and the same where a refusal leaves zeros
 abbrev pub placing : Result ℕ WriteError → List ℕ → Placing
 placing = text.placing code_of place_of
 
-abbrev pub finished : Result ℕ WriteError → List ℕ → Placing
-finished = text.finished code_of place_of NoRoom
+abbrev pub cleared : Result ℕ WriteError → List ℕ → Placing
+cleared = text.cleared code_of place_of

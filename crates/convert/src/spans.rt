@@ -1,11 +1,11 @@
 // The two ends of spans, and the places of words in the old form, which has no second end.
-ghost use Rattle.std.specs.Prelude.{◌≡◌, ◌+◌, ◌*◌, ◌≤◌, length};
+ghost use Rattle.std.specs.Prelude.{◌≡◌, ◌+◌, ◌*◌, ◌/◌, ◌≤◌, length};
 ghost use Rattle.table.specs.Words.{block_count, instruction_count};
 ghost use Rattle.table.specs.Answer.{refusal_code, refusal_place};
 ghost use Rattle.convert.specs.Convert.{ends_agree, spans_verdict};
-ghost use Rattle.convert.specs.Parts.{old_place, apart_at};
+ghost use Rattle.convert.specs.Parts.{old_place, apart_at, moved};
 
-use table::words::{block_count, instruction_count, instructions_begin};
+use table::words::{block_count, cases_begin, instruction_count, instructions_begin};
 use table::{Refusal, Table};
 
 // The place in the old form of a word that has this place in the widened words.
@@ -45,18 +45,17 @@ pub fn in_old_form(wide: &[u32], refusal: Refusal) -> Refusal
     }
 }
 
-// The word of the first `to` that differs from its `from`, in `rows` rows of `width` words from the word `first` on.
-fn apart_in(words: &[u32], first: u32, rows: u32, width: u32) -> Option<u32>
-    requires width_in_bounds { first + rows * width ≤ length words.now }
-    requires words_len_bound { length words.now ≤ 65536 }
+// The place of the first `to` that differs from its `from`, in rows of `width` words. The first row begins at the place `begin`.
+fn apart_in(rows: &[u32], width: usize, begin: usize) -> Option<u32>
     requires le_width { 2 ≤ width }
-    ensures { apart_at result ≡ ends_agree words.now width first rows }
+    requires in_bounds { begin + length rows.now ≤ 65536 }
+    ensures { apart_at result ≡ moved (λ at. begin + at) (ends_agree rows.now width 0 (length rows.now / width)) }
 {
-    for row in 0..rows {
-        let from = first + row * width + (width - 2);
-        let to = from + 1;
-        if words[from as usize] != words[to as usize] {
-            return Some(to);
+    let mut end = begin;
+    for row in rows.chunks_exact(width) {
+        end += width;
+        if row[width - 2] != row[width - 1] {
+            return Some(end as u32 - 1);
         }
     }
     None
@@ -67,10 +66,11 @@ fn apart_in(words: &[u32], first: u32, rows: u32, width: u32) -> Option<u32>
 pub fn first_apart(table: Table<'_>) -> Option<u32>
     ensures { apart_at result ≡ spans_verdict table.entry.words.now }
 {
-    let in_blocks = apart_in(table.words, 6, block_count(table.words), 11);
-    if in_blocks.is_some() {
-        return in_blocks;
+    let words = table.words;
+    let instructions = instructions_begin(words) as usize;
+    let cases = cases_begin(words) as usize;
+    if let Some(at) = apart_in(&words[6..instructions], 11, 6) {
+        return Some(at);
     }
-    let first = instructions_begin(table.words);
-    apart_in(table.words, first, instruction_count(table.words), 7)
+    apart_in(&words[instructions..cases], 7, instructions)
 }

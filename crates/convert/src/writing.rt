@@ -1,15 +1,16 @@
 // M-112: the canonical text of a table's words.
 ghost use Rattle.std.specs.Prelude.{◌≡◌, length};
 ghost use Rattle.convert.specs.Write.{table_written};
-ghost use Rattle.convert.specs.WriteAnswer.{code_of, place_of, placing, finished};
-ghost use Rattle.convert.specs.declared.writing.WriteError.TheVariants.{Table};
+ghost use Rattle.convert.specs.WriteAnswer.{code_of, place_of, placing, cleared};
+ghost use Rattle.convert.specs.declared.writing.WriteError.TheVariants.{Table, NoRoom};
 
-use crate::written_tables::write_tables;
+use crate::write_words;
 use table::Refusal;
 use table::words::Words;
 use table_check::check;
 use text::placed::{Coded, finish, tell};
 use text::version::Version;
+use text::write::NoRoom;
 
 // Why words are not written. `code_of` and `place_of` in specs/WriteAnswer.antt have the papers' numbers.
 // (Not one type with `dot`'s DrawError: no crate below both knows `Refusal` and `Coded`, and the code of NoRoom is another, 44.)
@@ -26,6 +27,14 @@ impl From<Refusal> for WriteError {
 
     fn from(refusal: Refusal) -> WriteError {
         WriteError::Table(refusal)
+    }
+}
+
+impl From<NoRoom> for WriteError {
+    ghost from_gives = { λ none error. error ≡ NoRoom };
+
+    fn from(_none: NoRoom) -> WriteError {
+        WriteError::NoRoom
     }
 }
 
@@ -49,19 +58,19 @@ impl Coded for WriteError {
     }
 }
 
-// Writes the text as far as there are bytes, and gives its end.
+// Writes the text of words that are a table.
 fn write_checked(words: &[u32], text: &mut [u8]) -> Result<usize, WriteError>
-    ensures { finished result text.new ≡ table_written words.now (length text.old) }
+    ensures { cleared result text.new ≡ table_written words.now (length text.old) }
 {
     let table = check(words)?;
-    Ok(write_tables(Words { words: table.words }, Version::New, text))
+    Ok(write_words(Words { words: table.words }, Version::New, text)?)
 }
 
 // Writes any words into a lent buffer of any length.
 pub fn write_table(words: &[u32], text: &mut [u8]) -> Result<usize, WriteError>
     ensures { placing result text.new ≡ table_written words.now (length text.old) }
 {
-    finish(write_checked(words, text), text, WriteError::NoRoom)
+    finish(write_checked(words, text), text)
 }
 
 // The same for callers in C or Rust: the code, and the other two by reference.

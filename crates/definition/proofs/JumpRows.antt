@@ -70,5 +70,6 @@ pub rows_within : (root : Statements) → WellFormed root → JumpsWithin (rows 
 rows_within root w = block_within root [] w tt
 
 -- the rows that the build makes
-pub built_within : (rule : Rule) (words : List ℕ) (lent lent_index : ℕ) → (accepts : (built rule words lent lent_index).code ≡ 0) → JumpsWithin (rows (one_tree rule words lent lent_index accepts).tree)
+pub built_within : (rule : Rule) (words : List ℕ) (lent lent_index : ℕ)
+    → (accepts : (built rule words lent lent_index).code ≡ 0) → JumpsWithin (rows (one_tree rule words lent lent_index accepts).tree)
 built_within rule words lent lent_index accepts = rows_within _ (one_tree rule words lent lent_index accepts).held.well_formed

@@ -251,7 +251,8 @@ case_matched : {E : List Enclosing} (D : List Enclosing) (l : Option ℕ) → E 
     → Good (λ d. Matched E d.stack) (schedule (target_case b) c)
 case_matched {E} D l is b c h =
     schedule_matched (target_case b) c
-    (λ owns. subst (λ (z : List Enclosing). Matched z (record { id = c.next_id; target = target_case b; owns_loop = owns } ∷ c.stack)) (sym is) (case_built_lem c.next_id b owns l (subst (λ (z : List Enclosing). Matched z c.stack) is h)))
+    (λ owns. subst (λ (z : List Enclosing). Matched z (record { id = c.next_id; target = target_case b; owns_loop = owns } ∷ c.stack)) (sym is)
+    (case_built_lem c.next_id b owns l (subst (λ (z : List Enclosing). Matched z c.stack) is h)))
 
 loop_matched : {E : List Enclosing} (f k l : ℕ) (g : Option ℕ) (c : Context) → LabelOr g f → Matched E c.stack → Good (λ d. Matched (a_loop g ∷ E) d.stack) (schedule (target_loop f k l) c)
 unfolding schedule pushed
@@ -451,10 +452,12 @@ module _ (rule : Rule) where
         good_bind (λ d. Matched E d.stack) (CasesNamed E) _ _ (case_matched D l is k.block r.context h.1) (λ c₁ n.
         good_bind (CasesNamed E) (CasesNamed E) _ _ (cases_named D l is at f ks (r.context.next_id ∷ ids) c₁ n) (λ z q. (h.0, q)))))
 
-    consequent_named : (o : Around) → Inner E o.statements → is_switch_inside o.statements ≡ is_switch_inside E → o.rule ≡ rule → (at y i : ℕ) (c : Context) → Matched E c.stack → Good (KeptBlock E) (traverse_consequent o inner at y i c)
+    consequent_named : (o : Around) → Inner E o.statements → is_switch_inside o.statements ≡ is_switch_inside E → o.rule ≡ rule
+        → (at y i : ℕ) (c : Context) → Matched E c.stack → Good (KeptBlock E) (traverse_consequent o inner at y i c)
     unfolding traverse_consequent Named
     consequent_named o n inside e at y i c m =
-        good_pick (KeptBlock E) (is_scheduled c y) _ _ (good_bind (NamedOption E) (KeptBlock E) _ _ (visit_break_named E o n inside e at y i c m) (λ s h. (followed_named E s done h tt, m))) (inner_named y c m)
+        good_pick (KeptBlock E) (is_scheduled c y) _ _
+        (good_bind (NamedOption E) (KeptBlock E) _ _ (visit_break_named E o n inside e at y i c m) (λ s h. (followed_named E s done h tt, m))) (inner_named y c m)
 
   -- ---- terminals
 
@@ -495,12 +498,14 @@ module _ (rule : Rule) where
       terminal_named (switch x i n f) at k c m =
           good_bind Any (NamedStep E) _ _ (good_any (unless_unreachable t c f)) (λ g _.
           good_bind (λ d. Matched (a_switch g ∷ E) d.stack) (NamedStep E) _ _ (switch_matched g c m) (λ c₁ m₁.
-          good_bind (CasesNamed (a_switch g ∷ E)) (NamedStep E) _ _ (cases_named (a_switch g ∷ E) _ (deeper (a_switch g)) (wa _) E g refl at f (cases_last_first t i n) (schedule_ids g c.next_id) c₁ m₁) (λ r h.
+          good_bind (CasesNamed (a_switch g ∷ E)) (NamedStep E) _ _
+          (cases_named (a_switch g ∷ E) _ (deeper (a_switch g)) (wa _) E g refl at f (cases_last_first t i n) (schedule_ids g c.next_id) c₁ m₁) (λ r h.
           good_bind Any (NamedStep E) _ _ (good_any (unschedule_all r.ids r.context)) (λ c₂ _. h))))
       terminal_named (do_while l x f) at k c m =
           good_bind (λ d. Matched (a_loop (unless_scheduled c f) ∷ E) d.stack) (NamedStep E) _ _ (loop_matched f x l (unless_scheduled c f) c (scheduled_label c f) m) (λ c₁ m₁.
           good_unless (NamedStep E) _ 16 at c₁.visits _ (λ _.
-          good_bind (KeptBlock (a_loop (unless_scheduled c f) ∷ E)) (NamedStep E) _ _ (inner_named (a_loop (unless_scheduled c f) ∷ E) _ (deeper (a_loop (unless_scheduled c f))) (wa _) l c₁ m₁) (λ r h.
+          good_bind (KeptBlock (a_loop (unless_scheduled c f) ∷ E)) (NamedStep E) _ _
+          (inner_named (a_loop (unless_scheduled c f) ∷ E) _ (deeper (a_loop (unless_scheduled c f))) (wa _) l c₁ m₁) (λ r h.
           good_bind Any (NamedStep E) _ _ (good_any (values x none k.span r.context.visits)) (λ v _.
           good_bind Any (NamedStep E) _ _ (good_any (unschedule c.next_id (with_visits v.visits r.context))) (λ c₂ _. h.0)))))
       terminal_named (while x l f) at k c m =

@@ -105,7 +105,8 @@ built_agrees t s w h b answers spoken = elim (runs t b answers) [
 pub tree_built : (rule : Rule) {width : Width} (t : Table) → Covers t rule width → PlainEnough width t → Ranged t → (r : BlockResult) → build_tree rule t ≡ ok r
     → Built t [] t.entry r.statements
 unfolding build_tree WalkOk BlockOk
-tree_built rule t covers pl rg r e = (walk_ok t rule covers pl rg 128 (outermost rule) [] (record { by_rule = refl; fits = fits_none }) t.entry start r (start_ok t) (pl.entry, pl.entry_reached) e).tree
+tree_built rule t covers pl rg r e =
+    (walk_ok t rule covers pl rg 128 (outermost rule) [] (record { by_rule = refl; fits = fits_none }) t.entry start r (start_ok t) (pl.entry, pl.entry_reached) e).tree
 
 -- ---- a table as paper 01 has it has no Switch, so that its run comes to no answer that is the place of no case
 
@@ -220,7 +221,8 @@ tree_is_built rule words lent lent_index a one = sym (one.only a.root.statements
 
 -- ---- demand 3, and M-113
 
-module _ (rule : Rule) {width : Width} (words : List ℕ) (lent lent_index : ℕ) (covers : Covers (table_of words) rule width) (h : (built rule words lent lent_index).code ≡ 0) (pl : PlainEnough width (table_of words)) where
+module _ (rule : Rule) {width : Width} (words : List ℕ) (lent lent_index : ℕ)
+    (covers : Covers (table_of words) rule width) (h : (built rule words lent lent_index).code ≡ 0) (pl : PlainEnough width (table_of words)) where
   root_agrees : (answers : Answers) → Spoken (table_of words) answers → Agree (table_of words) (one_tree rule words lent lent_index h).tree answers
   unfolding one_tree tree_one
   root_agrees =
@@ -239,7 +241,8 @@ covers_paper t rust = tt
 covers_paper t language = tt
 
 -- "the run law of plain tables covers both" entries, and from less than the paper's plainness (proofs/PlainEnough)
-pub run_law_enough : (rule : Rule) (words : List ℕ) (lent lent_index : ℕ) → (built rule words lent lent_index).code ≡ 0 → PlainEnough paper_01 (table_of words) → RunLaw words (built rule words lent lent_index)
+pub run_law_enough : (rule : Rule) (words : List ℕ) (lent lent_index : ℕ)
+    → (built rule words lent lent_index).code ≡ 0 → PlainEnough paper_01 (table_of words) → RunLaw words (built rule words lent lent_index)
 run_law_enough rule words lent lent_index h pl = record {
   one = one_tree rule words lent lent_index h;
   agree = λ answers. root_agrees rule words lent lent_index (covers_paper (table_of words) rule) h pl answers (all_spoken (table_of words) pl answers);
@@ -249,7 +252,8 @@ pub run_law : (rule : Rule) (words : List ℕ) (lent lent_index : ℕ) → (buil
 run_law rule words lent lent_index h pl = run_law_enough rule words lent lent_index h (plain_enough (table_of words) pl)
 
 -- M-113: the run law with switches, for the language entry
-pub switch_law_enough : (words : List ℕ) (lent lent_index : ℕ) → (built language words lent lent_index).code ≡ 0 → PlainEnough with_switch (table_of words) → SwitchLaw words (built language words lent lent_index)
+pub switch_law_enough : (words : List ℕ) (lent lent_index : ℕ)
+    → (built language words lent lent_index).code ≡ 0 → PlainEnough with_switch (table_of words) → SwitchLaw words (built language words lent lent_index)
 switch_law_enough words lent lent_index h pl = record { one = one_tree language words lent lent_index h; agree = root_agrees language words lent lent_index tt h pl }
 
 pub switch_law : LawOfSwitches

@@ -136,8 +136,50 @@ unfolding word entry_word block_count instruction_count case_count place_count i
     instruction_statements then_next visit_block traverse_block build_tree reported report refusal words_of in_list lines line_words placed outcome_of after_check built performing move by_answer
     case_list at_place by_place block_run loop_continues breakable labelled completed completing prefix then_on then choose after_body while_rounds while_loop for_loop do_while_loop loop
     switch_ends entry_at choose_place jump_completion run_statement reason_of tree_run
-computed rust = (((refl, refl), (refl, refl), (refl, refl), (refl, refl), (refl, refl), (refl, refl), (refl, refl), (refl, refl), (refl, refl), (refl, refl), (refl, refl), (refl, refl), (refl, refl), (refl, refl), (refl, refl), (refl, refl)), (refl, refl), (refl, refl, refl, refl, refl, refl, refl, refl, refl, refl))
-computed language = (((refl, refl), (refl, refl), (refl, refl), (refl, refl), (refl, refl), (refl, refl), (refl, refl), (refl, refl), (refl, refl), (refl, refl), (refl, refl), (refl, refl), (refl, refl), (refl, refl), (refl, refl), (refl, refl)), ((refl, refl), (refl, refl), (refl, refl), (refl, refl), (refl, refl), (refl, refl)), (refl, refl, refl, refl, refl, refl, refl, refl, refl, refl))
+computed rust = (
+  (
+    (refl, refl),
+    (refl, refl),
+    (refl, refl),
+    (refl, refl),
+    (refl, refl),
+    (refl, refl),
+    (refl, refl),
+    (refl, refl),
+    (refl, refl),
+    (refl, refl),
+    (refl, refl),
+    (refl, refl),
+    (refl, refl),
+    (refl, refl),
+    (refl, refl),
+    (refl, refl),
+  ),
+  (refl, refl),
+  (refl, refl, refl, refl, refl, refl, refl, refl, refl, refl),
+)
+computed language = (
+  (
+    (refl, refl),
+    (refl, refl),
+    (refl, refl),
+    (refl, refl),
+    (refl, refl),
+    (refl, refl),
+    (refl, refl),
+    (refl, refl),
+    (refl, refl),
+    (refl, refl),
+    (refl, refl),
+    (refl, refl),
+    (refl, refl),
+    (refl, refl),
+    (refl, refl),
+    (refl, refl),
+  ),
+  ((refl, refl), (refl, refl), (refl, refl), (refl, refl), (refl, refl), (refl, refl)),
+  (refl, refl, refl, refl, refl, refl, refl, refl, refl, refl),
+)
 
 -- ---- the law
 

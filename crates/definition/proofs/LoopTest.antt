@@ -18,7 +18,8 @@ use Rattle.definition.specs.Statement.{cases_last_first}
 use Rattle.definition.specs.Value.{is_fallthrough}
 use Rattle.definition.specs.Plain.{Width, paper_01, with_switch, is_branch, fallthrough_of, other_names, NotBranch, All}
 use Rattle.definition.specs.PlainLoops.{Loop, new_loop, loop_of, loop_codes, ends_in_unnamed, ends_in_own_load, drop_own, proper_blocks_of, IsProper, Reached, entered_by, may_be_open, PlainLoops}
-use Rattle.definition.specs.PlainTest.{every_of, all_of, shape_of, is_branch_to, goto_block, no_branches, only_of, part_of, not_in_loop, last_is_own, all_reached, goes_on, update_test, part_test, loop_test, end_test}
+use Rattle.definition.specs.PlainTest.{every_of, all_of, shape_of, is_branch_to, goto_block}
+use Rattle.definition.specs.PlainTest.{no_branches, only_of, part_of, not_in_loop, last_is_own, all_reached, goes_on, update_test, part_test, loop_test, end_test}
 use Rattle.definition.specs.PlainTest.{proper_test, loop_block_test, is_plain_loops}
 use Rattle.definition.proofs.Steps.{true_false}
 use Rattle.definition.proofs.PlainTest.{and_left, and_right, and_both, or_else, or_left, or_right, not_is, is_not, by_cases, every_at, every_of_lem, all_at, all_of_lem}

@@ -361,7 +361,8 @@ module _ (t : Table) (visit : VisitValueBlock) (vc : Valued visit) (inner : Trav
   terminal_apart (branch test consequent alternative) at block cx =
       block_bind (another none ∷ E) (AlikeEnds E) of_end _ _ _ _ (consequent_apart at consequent block.id cx)
       (λ first. let least = visits_after first in
-      counted_bind (From least) visits_after of_end _ _ (unscheduled_counted (From least) (more least) t visit (vc least) _ (ic _ least) alternative 19 at first.context (omega arith)) (λ _ k. k)) (λ s c.
+      counted_bind (From least) visits_after of_end _ _
+      (unscheduled_counted (From least) (more least) t visit (vc least) _ (ic _ least) alternative 19 at first.context (omega arith)) (λ _ k. k)) (λ s c.
       block_bind (another none ∷ E) (AlikeEnds E) of_end _ _ _ _ (unscheduled (another none) alternative 19 at c) (λ second. omega arith)
       (λ z d. alike_ends _ _ none d (a_statement (IF test block.id none s true z))))
   terminal_apart (switch test first number fallthrough) at block cx =
@@ -422,7 +423,9 @@ module _ (t : Table) (visit : VisitValueBlock) (vc : Valued visit) (inner : Trav
   next_apart : (at : ℕ) (f g : TraverseBlock) → WalkApart E f g → (s s' : Option Statement) (next : Option ℕ) (cx : Context) → AlikeOption E s s'
       → Apart (AlikeBlocks E) visits_after (then_next t at f s next cx) (then_next t at g s' next cx)
   unfolding then_next WalkApart relabeled
-  next_apart at f g w s s' none cx p = blocks_made E _ _ cx (instructions_alike (instruction_rows_at t at) (followed_by s done) ∙ ap (instruction_statements t (instruction_rows_at t at)) (followed_done s s' p))
+  next_apart at f g w s s' none cx p =
+      blocks_made E _ _ cx
+      (instructions_alike (instruction_rows_at t at) (followed_by s done) ∙ ap (instruction_statements t (instruction_rows_at t at)) (followed_done s s' p))
     where
       followed_done : (s s' : Option Statement) → AlikeOption E s s' → relabeled E (followed_by s done) ≡ followed_by s' done
       followed_done s s' q = followed_alike E s s' done q

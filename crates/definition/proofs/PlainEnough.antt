@@ -8,7 +8,8 @@ use mathlib.Core.List.{List, [], ◌∷◌, reverse_aux}
 use lib.ListN.{take, drop}
 use mathlib.Core.Bool.{Bool, true, false, ◌||◌, cond}
 use lib.Dec.{eqb}
-use Rattle.table.specs.Table.{Table, Case, Operation, other, load_local, store_local, Terminal, absent, unreachable, throw, return, goto, if, branch, switch, do_while, while, for, for_of, for_in, logical}
+use Rattle.table.specs.Table.{Table, Case, Operation, other, load_local, store_local}
+use Rattle.table.specs.Table.{Terminal, absent, unreachable, throw, return, goto, if, branch, switch, do_while, while, for, for_of, for_in, logical}
 use Rattle.table.specs.Table.{ternary, optional, label, sequence, maybe_throw, try, scope, code_of, is_unreachable, terminal_at, instruction_at, instruction_rows_at}
 use Rattle.definition.specs.Completion.{contains}
 use Rattle.definition.specs.Plain.{Width, paper_01, with_switch, Plain, IsCase, blocks_of, case_blocks_of, paper_codes, plain_codes, other_names, is_branch, is_store, ends_in_store, NotBranch, All}

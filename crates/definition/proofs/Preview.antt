@@ -64,7 +64,8 @@ module _ (rule : Rule) (words : List ℕ) (lent lent_index : ℕ) where
       at (check.refused code place) h = unfold preview_after in absurd (omega (arith, h))
       at check.accepted h = unfold after_check preview_after in report_40 lent lent_index (report rule (table_of words)) h
 
-  pub preview_41 : (previewed rule words).rows ≤ lent / 6 → lent_index / 3 < (previewed rule words).lines → built rule words lent lent_index ≡ refusal 41 0 0 (previewed rule words).visits lent lent_index
+  pub preview_41 : (previewed rule words).rows ≤ lent / 6 → lent_index / 3 < (previewed rule words).lines
+      → built rule words lent lent_index ≡ refusal 41 0 0 (previewed rule words).visits lent lent_index
   unfolding built previewed
   preview_41 = at (checked words)
     where

@@ -17,7 +17,8 @@ use Rattle.definition.specs.Tree.{instructions_rows, count_instructions, count_s
 use Rattle.definition.specs.Tree.{rows, undef_row, instr_row, for_of_row, for_in_row}
 use Rattle.definition.specs.Reading.{BelowNone, EmptyUnless, WellFormedStatement, WellFormed, WellFormedCases, Part, value, statement, block, case}
 use Rattle.definition.specs.Reading.{part_rows, Forest, forest_rows, WellFormedPart, WellFormedForest, ReadAsForest, ReadAs}
-use Rattle.definition.specs.Reader.{Step, take_value, take_statement, take_block, take_case, as_instruction, take_instructions, take_statements, take_cases, pushes, kind_of, close_if, close_for, closings, close, read}
+use Rattle.definition.specs.Reader.{Step, take_value, take_statement, take_block, take_case, as_instruction, take_instructions, take_statements, take_cases}
+use Rattle.definition.specs.Reader.{pushes, kind_of, close_if, close_for, closings, close, read}
 use Rattle.definition.specs.Value.{appended}
 
 -- ---- many of a kind

@@ -7,7 +7,8 @@ use mathlib.Core.Option.{Option, none, some}
 use mathlib.Core.Bool.{Bool, true, false, not, ◌||◌, cond}
 use lib.Dec.{eqb, T}
 use borrow.Author.Tests.{eqb-true, eqb-false}
-use Rattle.table.specs.Table.{Table, Terminal, absent, unreachable, throw, return, goto, if, branch, switch, do_while, while, for, for_of, for_in, logical, ternary, optional, label, sequence, maybe_throw, try, scope, code_of, terminal_at}
+use Rattle.table.specs.Table.{Table, Terminal, absent, unreachable, throw, return, goto, if, branch, switch, do_while, while, for, for_of, for_in}
+use Rattle.table.specs.Table.{logical, ternary, optional, label, sequence, maybe_throw, try, scope, code_of, terminal_at}
 use Rattle.definition.specs.Context.{Flags, has, target_if, target_switch, target_case, target_loop, Entry, target_block, is_loop, loops_of, continues_at}
 use Rattle.definition.specs.Context.{break_kind, break_target_from, Resolution, continue_kind, continue_target_from}
 use Rattle.definition.specs.Plain.{Width, paper_01, fallthrough_of}
@@ -369,7 +370,8 @@ module _ (t : Table) where
     -- two loops with one fallthrough continue at one block
     same_again : (w z l f x w' z' l' x' : ℕ) → loop_of (terminal_at t w) ≡ some (new_loop z l f x) → loop_of (terminal_at t w') ≡ some (new_loop z' l' f x') → x ≡ x'
     same_again w z l f x w' z' l' x' e e' =
-        ap (λ (u : Loop). u.again) (some_eq (sym e ∙ ap (λ (u : ℕ). loop_of (terminal_at t u)) (pl.one_fallthrough w w' f (loop_ft (terminal_at t w) (new_loop z l f x) e) (loop_ft (terminal_at t w') (new_loop z' l' f x') e')) ∙ e'))
+        ap (λ (u : Loop). u.again) (some_eq (sym e ∙ ap (λ (u : ℕ). loop_of (terminal_at t u))
+        (pl.one_fallthrough w w' f (loop_ft (terminal_at t w) (new_loop z l f x) e) (loop_ft (terminal_at t w') (new_loop z' l' f x') e')) ∙ e'))
 
     at_loop : (x g f f' w z l : ℕ) (y : Bool) (r : Option ℕ) → eqb f f' ≡ y → loop_of (terminal_at t w) ≡ some (new_loop z l f x) → Of g f' → (((f ≡ f') → ⊥) → r ≡ some g) → cond y (some x) r ≡ some g
     at_loop x g f f' w z l true r h s (w', z', l', s') k =

@@ -113,7 +113,8 @@ mutual
   list_rises n done = nothing (omega arith)
   list_rises n (s ▸ r) =
       rises_to ((n + rows_in (statement_rows s)) + rows_in (statements_rows r))
-      (rises_append (n + rows_in (statement_rows s)) (rises_append ((n + rows_in (statement_rows s)) - 1) (parts_rise n s) (own_rises n s (label_of s))) (list_rises (n + rows_in (statement_rows s)) r))
+      (rises_append (n + rows_in (statement_rows s)) (rises_append ((n + rows_in (statement_rows s)) - 1) (parts_rise n s) (own_rises n s (label_of s)))
+      (list_rises (n + rows_in (statement_rows s)) r))
       (omega (arith, ap length (statement_append s [] (statements_rows r [])), length-append (statement_rows s []) (statements_rows r [])))
 
   cases_rise : (n : ℕ) (cs : Cases) → Rises n (in_cases n cs) (n + rows_in (cases_rows cs))

@@ -143,7 +143,9 @@ rows_while R id g v b = block_out_lem (R ++ value_out v) b _ ∙ value_out_lem R
 pub rows_for : (R : List Row) (id : ℕ) (g : Option ℕ) (n v : Value) (u : Option Value) (b : Statements)
     → block_out (((R ++ value_out n) ++ value_out v) ++ update_out u) b ++ (row 15 id (or_none g) (update_present u) 0 0 ∷ []) ≡ R ++ statement_out (FOR id g n v u b)
 unfolding statement_out
-rows_for R id g n v u b = block_out_lem (((R ++ value_out n) ++ value_out v) ++ update_out u) b _ ∙ update_out_lem ((R ++ value_out n) ++ value_out v) u _ ∙ value_out_lem (R ++ value_out n) v _ ∙ value_out_lem R n _
+rows_for R id g n v u b =
+    block_out_lem (((R ++ value_out n) ++ value_out v) ++ update_out u) b _ ∙ update_out_lem ((R ++ value_out n) ++ value_out v) u _
+    ∙ value_out_lem (R ++ value_out n) v _ ∙ value_out_lem R n _
 
 pub rows_for_of : (R : List Row) (id : ℕ) (g : Option ℕ) (s : Span) (n v : Value) (b : Statements)
     → block_out ((R ++ value_out n) ++ value_out v) b ++ (for_of_row id (or_none g) s ∷ []) ≡ R ++ statement_out (FOROF id g s n v b)

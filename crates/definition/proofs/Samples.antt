@@ -186,6 +186,7 @@ unfolding word entry_word block_count instruction_count case_count place_count i
     mark_scope_fallthrough_if is_switch_inside kind_by break_kind_in is_label names_statement names_loop unnamed break_unnamed continue_unnamed break_to_scope break_resolved
     visit_break continue_resolved visit_continue visit_goto traverse_unscheduled traverse_alternate
     traverse_consequent traverse_enclosed loop_is_taken traverse_loop visit_update cases_last_first traverse_cases unschedule_all visit_value_statement visit_terminal
-    instruction_statements then_next visit_block traverse_block build_tree in_list lines line_words reported report refusal words_of placed outcome_of after_check built preview_of preview_after previewed
+    instruction_statements then_next visit_block traverse_block build_tree in_list lines line_words reported report refusal words_of placed
+    outcome_of after_check built preview_of preview_after previewed
 the_previews rust = refl
 the_previews language = refl

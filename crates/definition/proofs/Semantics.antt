@@ -610,7 +610,8 @@ module _ (t : Table) where
   with_own f [] later = refl
   with_own f (k ∷ ks) later = at (eqb k.block f) (with_own f ks (k ∷ later))
     where
-      at : (y : Bool) → reverse_aux (drop_own f ks) (owns f ks (k ∷ later)) ≡ reverse_aux ks (k ∷ later) → reverse_aux (cond y (drop_own f ks) (k ∷ ks)) (cond y (owns f ks (k ∷ later)) later) ≡ reverse_aux ks (k ∷ later)
+      at : (y : Bool) → reverse_aux (drop_own f ks) (owns f ks (k ∷ later)) ≡ reverse_aux ks (k ∷ later)
+          → reverse_aux (cond y (drop_own f ks) (k ∷ ks)) (cond y (owns f ks (k ∷ later)) later) ≡ reverse_aux ks (k ∷ later)
       at true ih = ih
       at false ih = refl
 
@@ -754,7 +755,8 @@ module _ (t : Table) where
         (λ y'. runs h₃ y'))
     runs {F} {b} (built_for {s₀} n x u l f k y i g vn vx vu {s} {r} e e₁ e₂ qn qx way w h₁ h₃ q₀) answers =
         leads_instructions F b (FOR i (some f) vn vx vu s ▸ r) answers s₀ q₀
-        (leads_part F b n f answers answers (prefix (performs vn) (loop (some f) (for_loop (f ∷ []) (performs vx) (performs_update vu) (λ a'. run_statements s a') answers))) (λ a'. run_statements r a')
+        (leads_part F b n f answers answers (prefix (performs vn) (loop (some f) (for_loop (f ∷ []) (performs vx) (performs_update vu) (λ a'. run_statements s a') answers)))
+        (λ a'. run_statements r a')
         (move_of b (for n x u l f) answers (go n answers) e refl) (le_refl (length answers))
         (subst (λ (z : List ℕ). Ends F f n answers (prefix z (loop (some f) (for_loop (f ∷ []) (performs vx) (performs_update vu) (λ a'. run_statements s a') answers)))) (sym qn)
         (ends_prefix F f (loop (some f) (for_loop (f ∷ []) (performs vx) (performs_update vu) (λ a'. run_statements s a') answers))

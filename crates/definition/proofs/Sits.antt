@@ -83,15 +83,20 @@ body_in : (n : ℕ) (b : Statements) (k : List Row) → Each (Sits n (statements
 body_in n b k h = each_in n n (statements_out b) (block_rows b k) [] (block_row (count_statements b) ∷ k) (in_list n b) (block_rows_lem b k) (omega arith) h
 
 -- a body behind some rows
-body_behind : (n m : ℕ) (front : List Row) (b : Statements) (k : List Row) → m ≡ n + length front → Each (Sits m (statements_out b)) (in_list m b) → Each (Sits n (front ++ block_rows b k)) (in_list m b)
-body_behind n m front b k e h = each_in n m (statements_out b) (front ++ block_rows b k) front (block_row (count_statements b) ∷ k) (in_list m b) (ap (λ (z : List Row). front ++ z) (block_rows_lem b k)) e h
+body_behind : (n m : ℕ) (front : List Row) (b : Statements) (k : List Row)
+    → m ≡ n + length front → Each (Sits m (statements_out b)) (in_list m b) → Each (Sits n (front ++ block_rows b k)) (in_list m b)
+body_behind n m front b k e h =
+    each_in n m (statements_out b) (front ++ block_rows b k) front (block_row (count_statements b) ∷ k) (in_list m b)
+    (ap (λ (z : List Row). front ++ z) (block_rows_lem b k)) e h
 
 -- two bodies
-bodies_in : (n : ℕ) (b c : Statements) (k : List Row) → Each (Sits n (statements_out b)) (in_list n b) → Each (Sits (n + rows_in (block_rows b)) (statements_out c)) (in_list (n + rows_in (block_rows b)) c)
+bodies_in : (n : ℕ) (b c : Statements) (k : List Row)
+    → Each (Sits n (statements_out b)) (in_list n b) → Each (Sits (n + rows_in (block_rows b)) (statements_out c)) (in_list (n + rows_in (block_rows b)) c)
     → Each (Sits n (block_rows b (block_rows c k))) (in_list n b ++ in_list (n + rows_in (block_rows b)) c)
 bodies_in n b c k p q =
     each_append (Sits n (block_rows b (block_rows c k))) (in_list n b) (in_list (n + rows_in (block_rows b)) c) (body_in n b (block_rows c k) p)
-    (subst (λ (z : List Row). Each (Sits n z) (in_list (n + rows_in (block_rows b)) c)) (sym (block_split b (block_rows c k))) (body_behind n (n + rows_in (block_rows b)) (block_rows b []) c k refl q))
+    (subst (λ (z : List Row). Each (Sits n z) (in_list (n + rows_in (block_rows b)) c)) (sym (block_split b (block_rows c k)))
+    (body_behind n (n + rows_in (block_rows b)) (block_rows b []) c k refl q))
 
 mutual
   unfolding in_list statements_out

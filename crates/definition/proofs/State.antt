@@ -120,7 +120,8 @@ module _ (t : Table) where
   both_false true y n h = absurd (n refl)
   both_false false y n h = h
 
-  pub fallthrough_free : {width : Width} (pl : PlainEnough width t) {F : List Frame} {c c₁ : Context} (b f : ℕ) → Entered b F c c₁ → fallthrough_of (terminal_at t b) ≡ some f → is_scheduled c₁ f ≡ false
+  pub fallthrough_free : {width : Width} (pl : PlainEnough width t) {F : List Frame} {c c₁ : Context} (b f : ℕ)
+      → Entered b F c c₁ → fallthrough_of (terminal_at t b) ≡ some f → is_scheduled c₁ f ≡ false
   unfolding is_scheduled
   fallthrough_free pl {F} {c} {c₁} b f p e =
       both_false (has c₁.scheduled f) (has c₁.catch_handlers f) (λ h. not_known pl c.emitted b f p.old e (p.before f h)) (p.state.no_catch f)

@@ -18,7 +18,8 @@ use Rattle.definition.specs.Context.{get_break_target, get_continue_target, Reso
 use Rattle.definition.specs.Context.{Context, is_scheduled, with_visits, mark_scope_fallthrough, pushed, schedule, unschedule, break_target_from}
 use Rattle.definition.specs.Context.{continue_target_from}
 use Rattle.definition.specs.Plain.{Width, paper_01, with_switch, blocks_of, fallthrough_of, is_branch, NotBranch, other_names, All}
-use Rattle.definition.specs.Around.{Rule, rust, language, Enclosing, Around, a_loop, a_switch, another, within, is_switch_inside, kind_by, break_kind_in, names_statement, unnamed, break_unnamed, continue_unnamed}
+use Rattle.definition.specs.Around.{Rule, rust, language, Enclosing, Around, a_loop, a_switch, another, within}
+use Rattle.definition.specs.Around.{is_switch_inside, kind_by, break_kind_in, names_statement, unnamed, break_unnamed, continue_unnamed}
 use Rattle.definition.specs.Result.{Result, ok, ◌>>=◌, refuse_if}
 use Rattle.definition.specs.Run.{Answers}
 use Rattle.definition.specs.BlockRun.{move}
@@ -29,7 +30,8 @@ use Rattle.definition.specs.Statement.{unless_scheduled, unless_unreachable, sch
 use Rattle.definition.specs.Statement.{AlternateResult, traverse_alternate, break_resolved, continue_resolved, visit_goto, traverse_enclosed, loop_is_taken}
 use Rattle.definition.specs.Statement.{traverse_loop, continue_block_of, OptionalValue, visit_update, CasesResult, cases_last_first, traverse_cases, schedule_switch, schedule_ids, unschedule_all}
 use Rattle.definition.specs.Statement.{visit_terminal, instruction_statements, followed_by, then_next, visit_block, traverse_block}
-use Rattle.definition.specs.Tree.{Kind, implicit, labeled, unlabeled, Value, PLAIN, UNDEF, SEQ, Instructions, no_instructions, instruction, Statement, IF, SWITCH, CASE, DOWHILE, WHILE, FOR, LABEL, SCOPE, BREAK, CONTINUE, Statements, done, ◌▸◌}
+use Rattle.definition.specs.Tree.{Kind, implicit, labeled, unlabeled, Value, PLAIN, UNDEF, SEQ, Instructions, no_instructions, instruction}
+use Rattle.definition.specs.Tree.{Statement, IF, SWITCH, CASE, DOWHILE, WHILE, FOR, LABEL, SCOPE, BREAK, CONTINUE, Statements, done, ◌▸◌}
 use Rattle.definition.specs.Value.{visit_value_block, begin_visit, ValueBlockResult, VisitValueBlock, instructions_of, wrap_with_sequence, final_value}
 use Rattle.definition.specs.Value.{stored_to_named, all_but_last, last, extract_value_block_result, extract_or_refuse, final_place, branch_value, visit_value_block_at}
 use Rattle.definition.specs.Value.{single_instruction, appended, sequenced_instructions, innermost_value, loaded_by, loaded_place, same_identifier, unless_same, value_block_result_to_sequence}
@@ -252,7 +254,8 @@ module _ (t : Table) where
   -- what a block's end gives: it ends the list, or the fallthrough goes on
   pub data StepOk (F : List Frame) (b : ℕ) (S : List Entry) (s : TerminalResult) : Type 0 where
     ends_here : s.next ≡ none → Built t F b (instruction_statements t (instruction_rows_at t b) (followed_by s.statement done)) → Closed t F S s.context → StepOk F b S s
-    goes_on : (f : ℕ) → s.next ≡ some f → NotBranch t f × Reached t f → ((r : Statements) → Built t F f r → Built t F b (instruction_statements t (instruction_rows_at t b) (followed_by s.statement r)))
+    goes_on : (f : ℕ) → s.next ≡ some f → NotBranch t f × Reached t f
+        → ((r : Statements) → Built t F f r → Built t F b (instruction_statements t (instruction_rows_at t b) (followed_by s.statement r)))
         → Closed t F S s.context → StepOk F b S s
     -- it goes on to an Unreachable block, as a scope does
     goes_out : (f : ℕ) → s.next ≡ some f → is_unreachable (terminal_at t f) ≡ true
@@ -526,7 +529,8 @@ module _ (t : Table) where
         opened : (g : Option ℕ) → g ≡ none → (schedule_if g c >>= λ c₁. traverse_enclosed (inner (within (another g) o)) x 17 b g c c₁ (LABEL k.id g)) ≡ ok s → StepOk F b c.stack s
         opened g q k₁ = nothing (rw q at k₁)
 
-    scope_ok : {F : List Frame} {c₀ c : Context} (o : Around) → Suits rule o F → (b : ℕ) (pr : Bool) (x f n : ℕ) (k : Block) (s : TerminalResult) → Entered t b F c₀ c → terminal_at t b ≡ scope pr x f n
+    scope_ok : {F : List Frame} {c₀ c : Context} (o : Around) → Suits rule o F → (b : ℕ) (pr : Bool) (x f n : ℕ) (k : Block) (s : TerminalResult)
+        → Entered t b F c₀ c → terminal_at t b ≡ scope pr x f n
         → visit_terminal t values inner o (scope pr x f n) b k c ≡ ok s → StepOk F b c.stack s
     unfolding visit_terminal
     scope_ok {F} {c₀} {c} o su b pr x f n k s p e h = finish (unless_scheduled c f) (untaken_free t c f (fallthrough_free t pl b f p (ap fallthrough_of e))) h
@@ -542,7 +546,8 @@ module _ (t : Table) where
         taken h₁ =
             let (c₁, h₂, k₂) = bind_ok (schedule_if (some f) c) _ s h₁ in
             enclosed_ok (within (another none) o) (inside_scope o f su) b x 18 b f (SCOPE pr n) s
-            (opened_scope f (omega (arith, rg.fallthroughs b f (ap fallthrough_of e), rg.few)) p.state (fallthrough_of_lem b p.new (ap fallthrough_of e)) h₂) (parts.0, into.0) (by_reach f (λ z. inl (parts.1.0, z)) (λ z. inr z))
+            (opened_scope f (omega (arith, rg.fallthroughs b f (ap fallthrough_of e), rg.few)) p.state (fallthrough_of_lem b p.new (ap fallthrough_of e)) h₂)
+            (parts.0, into.0) (by_reach f (λ z. inl (parts.1.0, z)) (λ z. inr z))
             (λ s₁ r p₁ p₂. built_scope pr x f n e p₁ p₂ refl) k₂
 
         finish : (g : Option ℕ) → g ≡ some f → (schedule_if g c >>= λ c₁. traverse_enclosed (inner (within (another none) o)) x 18 b g c
@@ -642,7 +647,8 @@ module _ (t : Table) where
           straight = w.straight;
         })
 
-    for_ok : {F : List Frame} {c₀ c : Context} (o : Around) → Suits rule o F → (b n x : ℕ) (u : Option ℕ) (l f : ℕ) (k : Block) (s : TerminalResult) → Entered t b F c₀ c → terminal_at t b ≡ for n x u l f
+    for_ok : {F : List Frame} {c₀ c : Context} (o : Around) → Suits rule o F → (b n x : ℕ) (u : Option ℕ) (l f : ℕ) (k : Block) (s : TerminalResult)
+        → Entered t b F c₀ c → terminal_at t b ≡ for n x u l f
         → visit_terminal t values inner o (for n x u l f) b k c ≡ ok s → StepOk F b c.stack s
     unfolding visit_terminal traverse_loop BlockOk TestOk GotoOk with_visits
     for_ok {F} {c₀} {c} o su b n x u l f k s p e h =
@@ -944,7 +950,8 @@ module _ (t : Table) where
     broke {F} {c} o su b v g i r s false x p e q n h z =
         let (u, h₁, h₂) = bind_ok (refuse_if (break_unnamed o r) 29 b v) _ s h in
         subst (λ (w : Option Statement). JumpOk F g w) (ok_eq h₂)
-        (goes_as (jump_completion (break_kind_in o r.kind) g i break) (break_in o su g r p e q n (unless_ok (break_unnamed o r) 29 b v u h₁) i) (run_break g i (break_kind_in o r.kind) r.loops) (tt, tt))
+        (goes_as (jump_completion (break_kind_in o r.kind) g i break)
+        (break_in o su g r p e q n (unless_ok (break_unnamed o r) 29 b v u h₁) i) (run_break g i (break_kind_in o r.kind) r.loops) (tt, tt))
 
     -- to a scope: no row, as good as an Implicit one
     to_scope : {F : List Frame} (c : Context) (b g : ℕ) (r : Resolution) (s : Option Statement) (k : Kind) → StateOk t F c → break_target_from c.stack g true 0 ≡ some r → r.kind ≡ k
@@ -1095,7 +1102,8 @@ module _ (t : Table) where
         let (c₁, h₁, k₁) = bind_ok (enter_block t b c) _ r e in
         let (s, h₂, k₂) = bind_ok (visit_terminal t values inner o (terminal_at t b) b (block_at t b) c₁) _ r k₁ in
         let q : Entered t b F c c₁ = enter_ok t rg b c₁ p h₁ in
-        let m : Made F b c₁.stack r = next_ok F b c₁.stack (visit_block t values inner o n) s r (visit_block_ok o F su n) (visit_open_ok o F n) (terminal_ok o su b (terminal_at t b) s q nb refl h₂) k₂ in
+        let m : Made F b c₁.stack r = next_ok F b c₁.stack (visit_block t values inner o n) s r
+        (visit_block_ok o F su n) (visit_open_ok o F n) (terminal_ok o su b (terminal_at t b) s q nb refl h₂) k₂ in
         record { tree = m.tree; left = and_then m.left q.same }
 
   module _ (rule : Rule) {width : Width} (covers : Covers rule width) (pl : PlainEnough width t) (rg : Ranged t) where

@@ -140,7 +140,8 @@ pub record Plain (width : Width) (t : Table) : Type 0 where
   -- "and is named only by one While as its test, and by Gotos; its consequent is that While's loop, its alternate that While's ft;":
   -- there is that While; there is one; and nothing else names a Branch block
   pub branches : (block place consequent alternate : ℕ) → terminal_at t block ≡ branch place consequent alternate → (named_by : ℕ) × (terminal_at t named_by ≡ while block consequent alternate)
-  pub one_while : (block block' test loop loop' fallthrough fallthrough' : ℕ) → terminal_at t block ≡ while test loop fallthrough → terminal_at t block' ≡ while test loop' fallthrough' → block ≡ block'
+  pub one_while : (block block' test loop loop' fallthrough fallthrough' : ℕ)
+      → terminal_at t block ≡ while test loop fallthrough → terminal_at t block' ≡ while test loop' fallthrough' → block ≡ block'
   pub names : (block : ℕ) → All (NotBranch t) (other_names (terminal_at t block))
   -- "its last instruction is no StoreLocal."
   pub no_store : (block place consequent alternate : ℕ) → terminal_at t block ≡ branch place consequent alternate → ends_in_store t (instruction_rows_at t block) ≡ false

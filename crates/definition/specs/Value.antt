@@ -252,7 +252,8 @@ visit_value_block_at t visit unreachable number block outer span visits = termin
 visit_value_block_at t visit (throw value) number block outer span visits = terminal_then_fallthrough t visit (throw value) number block span visits
 visit_value_block_at t visit (return value) number block outer span visits = terminal_then_fallthrough t visit (return value) number block span visits
 visit_value_block_at t visit (goto target variant) number block outer span visits = extract_or_refuse t number (instruction_rows block) visits 24 number
-visit_value_block_at t visit (if test consequent alternate fallthrough) number block outer span visits = terminal_then_fallthrough t visit (if test consequent alternate fallthrough) number block span visits
+visit_value_block_at t visit (if test consequent alternate fallthrough) number block outer span visits =
+    terminal_then_fallthrough t visit (if test consequent alternate fallthrough) number block span visits
 visit_value_block_at t visit (branch test consequent alternate) number block outer span visits = branch_value t number test block.id (instruction_rows block) visits
 visit_value_block_at t visit (switch test first cases fallthrough) number block outer span visits = terminal_then_fallthrough t visit (switch test first cases fallthrough) number block span visits
 visit_value_block_at t visit (do_while loop test fallthrough) number block outer span visits = terminal_then_fallthrough t visit (do_while loop test fallthrough) number block span visits

@@ -5,7 +5,8 @@ use mathlib.Core.List.{List, [], ◌∷◌, ◌++◌, map}
 use mathlib.Core.Option.{none, some}
 use mathlib.Core.Bool.{true, false}
 use lib.ListN.{replicate}
-use Rattle.table.specs.Table.{Table, Block, Case, Continue, Try, Terminal, absent, unreachable, throw, return, goto, if, branch, switch, do_while, while, for, for_of, for_in, logical, ternary, optional, label, sequence, maybe_throw, try, scope, no_block}
+use Rattle.table.specs.Table.{Table, Block, Case, Continue, Try, Terminal, absent, unreachable, throw, return, goto, if, branch, switch, do_while, while}
+use Rattle.table.specs.Table.{for, for_of, for_in, logical, ternary, optional, label, sequence, maybe_throw, try, scope, no_block}
 use Rattle.text.specs.Ascii.{ascii}
 use Rattle.text.specs.Decimal.{digits_of, decimal}
 use Rattle.text.specs.Placed.{refusal, placed}
@@ -69,13 +70,17 @@ samples =
     -- no update
     ∷ record { table = table (for 4 5 none 2 1 ∷ []) []; text = ascii "digraph g {\nn0 -> n4;\nn0 -> n5;\nn0 -> n2;\nn0 -> n1;\n}\n" }
     -- a block that is named twice, and two Switches over one case row
-    ∷ record { table = table (if 0 1 1 1 ∷ switch 0 0 1 0 ∷ switch 0 0 1 0 ∷ []) (2 ∷ []); text = ascii "digraph g {\nn0 -> n1;\nn0 -> n1;\nn0 -> n1;\nn1 -> n2;\nn1 -> n0;\nn2 -> n2;\nn2 -> n0;\n}\n" }
+    ∷ record {
+      table = table (if 0 1 1 1 ∷ switch 0 0 1 0 ∷ switch 0 0 1 0 ∷ []) (2 ∷ []);
+      text = ascii "digraph g {\nn0 -> n1;\nn0 -> n1;\nn0 -> n1;\nn1 -> n2;\nn1 -> n0;\nn2 -> n2;\nn2 -> n0;\n}\n";
+    }
     ∷ record {
       table = every_end;
       text = ascii "digraph g {\nn4 -> n5;\nn5 -> n6;\nn5 -> n7;\nn5 -> n8;\nn6 -> n7;\nn6 -> n8;\nn7 -> n2;\nn7 -> n1;\nn7 -> n3;\nn8 -> n9;\nn8 -> n10;\nn8 -> n11;\n"
-          ++ (ascii "n9 -> n10;\nn9 -> n11;\nn9 -> n12;\nn10 -> n11;\nn10 -> n12;\nn10 -> n13;\nn10 -> n14;\nn10 -> n15;\nn11 -> n12;\nn11 -> n13;\nn11 -> n14;\nn11 -> n15;\nn12 -> n13;\nn12 -> n14;\nn12 -> n15;\n"
+          ++ (ascii "n9 -> n10;\nn9 -> n11;\nn9 -> n12;\nn10 -> n11;\nn10 -> n12;\nn10 -> n13;\nn10 -> n14;\nn10 -> n15;\n"
+          ++ (ascii "n11 -> n12;\nn11 -> n13;\nn11 -> n14;\nn11 -> n15;\nn12 -> n13;\nn12 -> n14;\nn12 -> n15;\n"
           ++ (ascii "n13 -> n14;\nn13 -> n15;\nn14 -> n15;\nn14 -> n16;\nn15 -> n16;\nn15 -> n17;\nn16 -> n17;\nn16 -> n18;\nn17 -> n18;\nn17 -> n19;\nn18 -> n19;\n"
-          ++ ascii "n19 -> n20;\nn19 -> n21;\nn19 -> n0;\nn20 -> n21;\nn20 -> n0;\nn21 -> n0;\nn21 -> n1;\n}\n"));
+          ++ ascii "n19 -> n20;\nn19 -> n21;\nn19 -> n0;\nn20 -> n21;\nn20 -> n0;\nn21 -> n0;\nn21 -> n1;\n}\n")));
     }
     ∷ []
 

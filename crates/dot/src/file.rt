@@ -5,9 +5,9 @@ ghost use Rattle.dot.specs.Prints.{drawing_text, drawn_text};
 
 use crate::dot;
 use text::lent::{FILE_WORDS, zeros};
-use text::placed::{Coded, print};
+use text::placed::{print, write_refusal};
 use text::read::read;
-use text::write::{NoRoom, write};
+use text::write::NoRoom;
 
 // Draws a table in the bytes that are printed of it.
 #[tactic(auto, using(crate::proofs::AnswerLaws::code_some))]
@@ -25,6 +25,6 @@ pub fn draw_file(file: &[u8], out: &mut [u8]) -> Result<usize, NoRoom>
     let mut words = zeros::<u32, FILE_WORDS>();
     match read(file, &mut words) {
         Ok(count) => draw_words(&words[..count], out),
-        Err(error) => write(out, error.code(), error.place(), 0, 0, &[]),
+        Err(error) => write_refusal(out, error),
     }
 }

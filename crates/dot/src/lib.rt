@@ -6,14 +6,15 @@ mod graph;
 mod write;
 
 ghost use Rattle.std.specs.Prelude.{◌≡◌, length};
-ghost use Rattle.dot.specs.Answer.{code_of, place_of, placing, finished};
+ghost use Rattle.dot.specs.Answer.{code_of, place_of, placing, cleared};
 ghost use Rattle.dot.specs.Dot.{drawn};
-ghost use Rattle.dot.specs.declared.DrawError.TheVariants.{Table};
+ghost use Rattle.dot.specs.declared.DrawError.TheVariants.{Table, NoRoom};
 
 use crate::graph::write_graph;
 use table::Refusal;
 use table_check::check;
 use text::placed::{Coded, finish, tell};
+use text::write::{NoRoom, Writer};
 
 // Why words are not drawn. `code_of` and `place_of` in specs/Answer.antt have the papers' numbers.
 // (Not one type with `convert`'s WriteError: see there.)
@@ -30,6 +31,14 @@ impl From<Refusal> for DrawError {
 
     fn from(refusal: Refusal) -> DrawError {
         DrawError::Table(refusal)
+    }
+}
+
+impl From<NoRoom> for DrawError {
+    ghost from_gives = { λ none error. error ≡ NoRoom };
+
+    fn from(_none: NoRoom) -> DrawError {
+        DrawError::NoRoom
     }
 }
 
@@ -53,19 +62,21 @@ impl Coded for DrawError {
     }
 }
 
-// Writes the drawing as far as there are bytes, and gives its end.
+// Writes the drawing of words that are a table.
 fn draw(words: &[u32], text: &mut [u8]) -> Result<usize, DrawError>
-    ensures { finished result text.new ≡ drawn words.now (length text.old) }
+    ensures { cleared result text.new ≡ drawn words.now (length text.old) }
 {
     let table = check(words)?;
-    Ok(write_graph(table, text))
+    let mut writer = Writer::new(text);
+    write_graph(table, &mut writer);
+    Ok(writer.finish()?)
 }
 
 // Draws any words into a lent buffer of any length.
 pub fn dot(words: &[u32], text: &mut [u8]) -> Result<usize, DrawError>
     ensures { placing result text.new ≡ drawn words.now (length text.old) }
 {
-    finish(draw(words, text), text, DrawError::NoRoom)
+    finish(draw(words, text), text)
 }
 
 // The same for callers in C or Rust: the code, and the other two by reference.

@@ -1,45 +1,34 @@
--- The search in the loop, and what the entry makes of it.
+-- The search, and what the entry makes of it.
 use mathlib.Core.Path.{◌≡◌, sym, ap, ◌∙◌}
-use Prim.Native.Nat.{ℕ, suc, ◌+◌, ◌*◌, ◌-◌, ◌≤◌, ◌<◌}
+use Prim.Native.Nat.{ℕ, ◌+◌, ◌*◌, ◌≤◌, ◌<◌}
 use native.Mathlib.Omega.{arith}
-use native.Mathlib.Numerals.{add-one}
 use mathlib.Core.List.{List}
 use lib.ListN.{length, get_or}
-use borrow.Author.Tests.{eq-eqb, ne_eqb}
-use Rattle.std.specs.Prelude.{Option, None, Some, Ok, Err, ok_or}
+use Rattle.std.specs.Prelude.{Option, None, Some, Ok, Err, ok_or, MatchOption}
 use Rattle.lookup.specs.declared.LookupError.{LookupError}
 use Rattle.lookup.specs.declared.LookupError.TheVariants.{NoSuchLabel}
 use Rattle.lookup.specs.Lookup.{code_of, lines_read, line_word, first_with, refusal, part_of, found_at, found}
-use Rattle.lookup.proofs.Searches.{read_few, found_read}
+use Rattle.lookup.proofs.Searches.{read_few, found_read, first_is, none_is}
 
 label_word : (index : List ℕ) (line : ℕ) → line_word index line 0 ≡ get_or index (line * 3) 0
 label_word index line = ap (λ (n : ℕ). get_or index n 0) (omega arith)
 
--- what is left of the search gives what the whole gives
-pub record Searching (index : List ℕ) (label count line : ℕ) : Type 0 where
-  pub rest : first_with index label 0 count ≡ first_with index label line (count - line)
-  pub most : line ≤ count
+module _ (index : List ℕ) (label : ℕ) where
+  abbrev pub Has : ℕ → Type 0
+  Has line = get_or index (line * 3) 0 ≡ label
 
-module _ (index : List ℕ) (label count line : ℕ) (s : Searching index label count line) where
-  pub not_there : count ≤ line → None ≡ first_with index label 0 count
-  unfolding first_with
-  not_there h = let none_left : count - line ≡ 0 = omega arith in sym (s.rest ∙ rw none_left)
+  abbrev pub HasNot : ℕ → Type 0
+  HasNot line = get_or index (line * 3) 0 ≡ label → ⊥
 
-  module _ (h : line < count) where
-    one_more : count - line ≡ suc (count - (line + 1))
-    one_more = omega arith
-
-    pub there : get_or index (line * 3) 0 ≡ label → Some line ≡ first_with index label 0 count
-    there e = sym (s.rest ∙ (ap (first_with index label line) one_more ∙ (unfold first_with in rw (eq-eqb (line_word index line 0) label (label_word index line ∙ e), first_with))))
-
-    pub goes_on : (get_or index (line * 3) 0 ≡ label → ⊥) → Searching index label count (line + 1)
-    goes_on f = record {
-      rest = s.rest ∙ (ap (first_with index label line) one_more ∙ (unfold first_with in rw (ne_eqb (line_word index line 0) label other, first_with, add-one)));
-      most = omega arith;
-    }
-      where
-        other : line_word index line 0 ≡ label → ⊥
-        other e = f (sym (label_word index line) ∙ e)
+  pub sought : (count : ℕ) (r : Option ℕ) → MatchOption r ((k : ℕ) → 0 ≤ k → k < count → HasNot k) (λ i. (0 ≤ i) × (i < count) × Has i × ((k : ℕ) → 0 ≤ k → k < i → HasNot k))
+      → r ≡ first_with index label 0 count
+  sought count None h = sym (none_is index label count (λ j a b e. h j a (omega (arith, b)) (sym (label_word index j) ∙ e)))
+  sought count (Some i) h = sym (first_is index label count i (record {
+    from = h.0;
+    read = omega (arith, h.1);
+    has = label_word index i ∙ h.2;
+    none_before = λ j a b e. h.3 j a b (sym (label_word index j) ∙ e);
+  }))
 
 -- ---- from the search to the answer
 

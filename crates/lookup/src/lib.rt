@@ -9,32 +9,25 @@ use std::ops::Range;
 // Why a lookup finds nothing.
 #[derive(Clone, Copy, Debug, PartialEq, Eq)]
 pub enum LookupError {
-    NoSuchLabel,
-    BadLine,
+    NoSuchLabel = 42,
+    BadLine = 43,
 }
 
 impl LookupError {
     pub fn code(self) -> u32
         ensures { result ≡ code_of self }
     {
-        match self {
-            LookupError::NoSuchLabel => 42,
-            LookupError::BadLine => 43,
-        }
+        self as u32
     }
 }
 
 // The first line that has the label, of those that may be read: no more than told, and whole ones.
+// (Over the lines' numbers and not `chunks_exact(3)`: the number is the answer, and `part_at` reads the line by it.)
 fn first_with(index: &[u32], lines: u32, label: u32) -> Option<usize>
     ensures { result ≡ first_with index.now label 0 (lines_read index.now lines) }
 {
     let count = (index.len() / 3).min(lines as usize);
-    for line in 0..count {
-        if index[line * 3] == label {
-            return Some(line);
-        }
-    }
-    None
+    (0..count).find(|line| index[*line * 3] == label)
 }
 
 // The rows that a line names, in words of the tree. Both numbers are compared before they are multiplied, since a caller's line may have any words.

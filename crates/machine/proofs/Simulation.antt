@@ -573,7 +573,8 @@ module _ (rule : Rule) (t : Table) (d : ℕ) (inner : TraverseInside) (ws : Walk
   abbrev Makes : Terminal → ℕ → Type 0
   Makes e b = (fr : Frame) (F : List Frame) (R : Output) (c : Context) → make_at t visit e (block_at t b) none fr F R c ≡ value_at t visit e (block_at t b) fr F R c
 
-  value_sim : {v : ℕ} {F : List Frame} {R : Output} {n : ℕ} (e : Terminal) (b f : ℕ) (c : Context) → terminal_at t b ≡ e → Makes e b → T (not (is_maybe_throw e)) → length F + suc d ≡ 128 → v ≤ c.visits
+  value_sim : {v : ℕ} {F : List Frame} {R : Output} {n : ℕ} (e : Terminal) (b f : ℕ) (c : Context) → terminal_at t b ≡ e → Makes e b
+      → T (not (is_maybe_throw e)) → length F + suc d ≡ 128 → v ≤ c.visits
       → Sim rule t v F R n (schedule_value b f F R n c) (visit_value_statement t visit e b (block_at t b) f c)
   unfolding schedule_value visit_value_statement value_at
   value_sim {v} {F} {R} {n} e b f c q made m size h =
@@ -661,7 +662,8 @@ module _ (rule : Rule) (t : Table) (d : ℕ) (inner : TraverseInside) (ws : Walk
       loop_sim _ b l (loop_is_taken c l f) w.visits c.next_id c1 g _ _ q (unfold resume_at in λ _ _ _ _ _. refl) size (omega arith) (p.1 [] tt)
       (unfold closing_row_of in parts_while R (block_at t b).id g w.value) (λ s. refl)))))
   terminal_sim {R = R} {n} (for i x u l f) b c q size h =
-      unfold schedule_loop make_at in sim_bind (Onto c) _ _ _ (onto_scheduled (target_loop f (continue_block_of u x) l) c) (λ c1 p. looped (for i x u l f) (frame_of b (unless_scheduled c f) 1 R n) _ c1 _ q size
+      unfold schedule_loop make_at in sim_bind (Onto c) _ _ _ (onto_scheduled (target_loop f (continue_block_of u x) l) c)
+      (λ c1 p. looped (for i x u l f) (frame_of b (unless_scheduled c f) 1 R n) _ c1 _ q size
       (sim_bind (λ w. c1.visits ≤ w.visits) _ _ _ (values i none (block_at t b).span c1.visits) (λ n p₁.
       sim_bind (λ w. n.visits ≤ w.visits) _ _ _ (values x none (block_at t b).span n.visits) (λ w p₂.
       sim_bind (Updated u w.visits) _ _ _ (updates u (block_at t b).span w.visits) (λ z p₃.
@@ -782,7 +784,9 @@ module _ (rule : Rule) (t : Table) (d : ℕ) (inner : TraverseInside) (ws : Walk
       S = visiting b F R m c
 
       f : Context → Result State
-      f c1 = terminal_turn (around_of rule t F) t (visit_value_block t d) (terminal_at t b) b (block_at t b) F (R ⊕ instructions_out t (instruction_rows_at t b)) (m + length (instruction_rows_at t b)) c1
+      f c1 =
+          terminal_turn (around_of rule t F) t (visit_value_block t d) (terminal_at t b) b (block_at t b) F
+          (R ⊕ instructions_out t (instruction_rows_at t b)) (m + length (instruction_rows_at t b)) c1
 
       g : Context → Result BlockResult
       g c1 =

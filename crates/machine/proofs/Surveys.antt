@@ -3,7 +3,8 @@ use mathlib.Core.Path.{◌≡◌, refl, sym, ap, ◌∙◌}
 use Prim.Native.Nat.{ℕ, zero, suc}
 use mathlib.Core.List.{List, [], ◌∷◌}
 use mathlib.Core.Bool.{Bool, true, false, ◌&&◌, ◌||◌}
-use Rattle.definition.specs.Around.{Enclosing, a_loop, a_switch, another, Around, is_label, is_switch_inside, kind_by, break_kind_in, names_statement, names_loop, unnamed, break_unnamed, continue_unnamed}
+use Rattle.definition.specs.Around.{Enclosing, a_loop, a_switch, another, Around}
+use Rattle.definition.specs.Around.{is_label, is_switch_inside, kind_by, break_kind_in, names_statement, names_loop, unnamed, break_unnamed, continue_unnamed}
 use Rattle.definition.specs.Context.{Resolution}
 use Rattle.definition.specs.Tree.{Kind}
 use Rattle.machine.specs.Survey.{Survey, unseen, fewer, is_next, pass, survey}

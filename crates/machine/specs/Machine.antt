@@ -5,10 +5,12 @@ use Rattle.std.proofs.Math.Option.{Option, none, some}
 use Rattle.table.specs.Table.{Table, Block, Case, Terminal, absent, unreachable, throw, return, goto, if, branch, switch, do_while, while, for, for_of, for_in, logical}
 use Rattle.table.specs.Table.{ternary, optional, sequence, maybe_throw, try, scope, block_at, terminal_at, instruction_rows_at, label}
 use Rattle.definition.specs.Build.{accepted, Report, rejected}
-use Rattle.definition.specs.Context.{target_if, target_switch, target_case, target_loop, Entry, Context, start, is_scheduled, with_visits, schedule_catch_handler, pushed, schedule, unscheduled_by, popped}
+use Rattle.definition.specs.Context.{target_if, target_switch, target_case, target_loop}
+use Rattle.definition.specs.Context.{Entry, Context, start, is_scheduled, with_visits, schedule_catch_handler, pushed, schedule, unscheduled_by, popped}
 use Rattle.definition.specs.Around.{Rule, Enclosing, a_loop, a_switch, another, Around}
 use Rattle.definition.specs.Result.{refused, Result, ok, ◌>>=◌, refuse_if}
-use Rattle.definition.specs.Statement.{visit_update, continue_block_of, enter_block, unless_scheduled, unless_unreachable, mark_scope_fallthrough_if, visit_break, visit_goto, loop_is_taken, cases_last_first}
+use Rattle.definition.specs.Statement.{visit_update, continue_block_of, enter_block, unless_scheduled, unless_unreachable}
+use Rattle.definition.specs.Statement.{mark_scope_fallthrough_if, visit_break, visit_goto, loop_is_taken, cases_last_first}
 use Rattle.definition.specs.Tree.{Row, row, or_none, flag_of, update_present, instr_row, for_of_row, for_in_row}
 use Rattle.definition.specs.Value.{visit_value_block, most_depth, VisitValueBlock, visit_value_block_terminal, value_block_result_to_sequence}
 use Rattle.definition.specs.Output.{Output, no_output, ◌⊕◌, block_row, value_out, update_out, jump_out, added, instructions_out, scope_row, line_out}
@@ -411,7 +413,8 @@ terminal_turn around t visit (do_while loop test fallthrough) at block frames ou
 terminal_turn around t visit (while test loop fallthrough) at block frames out count cx =
     unless_unreachable t cx fallthrough >>= λ taken.
     schedule_loop at fallthrough test loop taken frames out count cx
-terminal_turn around t visit (for init test update loop fallthrough) at block frames out count cx = schedule_loop at fallthrough (continue_block_of update test) loop (unless_scheduled cx fallthrough) frames out count cx
+terminal_turn around t visit (for init test update loop fallthrough) at block frames out count cx =
+    schedule_loop at fallthrough (continue_block_of update test) loop (unless_scheduled cx fallthrough) frames out count cx
 terminal_turn around t visit (for_of init test loop fallthrough) at block frames out count cx = schedule_loop at fallthrough init loop (unless_scheduled cx fallthrough) frames out count cx
 terminal_turn around t visit (for_in init loop fallthrough) at block frames out count cx = schedule_loop at fallthrough init loop (unless_scheduled cx fallthrough) frames out count cx
 terminal_turn around t visit (logical operator test fallthrough) at block frames out count cx = schedule_value at fallthrough frames out count cx
@@ -447,7 +450,8 @@ unfoldable pub step : Rule → Table → State → Turn
 step rule t (visiting block frames out count cx) = turn (visit_turn rule t block frames out count cx)
 step rule t (ended [] out count cx) = halt (accepted (out.rows ++ (block_row count ∷ [])) out.lines cx.visits)
 step rule t (ended (frame ∷ frames) out count cx) = turn (resume t (visit_value_block t (depth_left frames)) frame frames (out ⊕ (block_row count ∷ [])) cx)
-step rule t (choosing frame frames out cx) = turn (choose_case t (switch_columns (terminal_at t frame.block)).first (switch_columns (terminal_at t frame.block)).fallthrough frame.left frame frames out cx)
+step rule t (choosing frame frames out cx) =
+    turn (choose_case t (switch_columns (terminal_at t frame.block)).first (switch_columns (terminal_at t frame.block)).fallthrough frame.left frame frames out cx)
 step rule t (popping frame frames out cx) = going (close t frame frames out cx)
 step rule t (making body frame frames out cx) = turn (make_at t (visit_value_block t (depth_left frames)) (terminal_at t frame.block) (block_at t frame.block) body frame frames out cx)
 

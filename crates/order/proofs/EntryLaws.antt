@@ -4,7 +4,8 @@ use Prim.Native.Nat.{ℕ, ◌<◌, ◌≤◌}
 use native.Mathlib.Omega.{arith}
 use mathlib.Core.List.{List}
 use mathlib.Core.Bool.{Bool, true, false}
-use lib.ListN.{length, get_or, replicate, get_or-eq_default}
+use lib.ListN.{length, get_or, take, replicate, get_or-eq_default}
+use lib.Seq.{length-take-le, get_or-take}
 use lib.Dec.{ltb}
 use borrow.Author.Tests.{ltb-true, ltb-false}
 use Rattle.table.specs.Words.{block_count}
@@ -20,13 +21,16 @@ use Rattle.order.specs.declared.OrderError.{OrderError}
 use Rattle.order.specs.Entry.{rearranging, restoring, rearranged_or_cleared, restored_or_cleared}
 use Rattle.definition.proofs.Steps.{true_false}
 use Rattle.std.proofs.Common.{Result, Ok, Err, is_err}
-use Rattle.order.specs.Write.{number_in, renumbered, Writing}
-use Rattle.order.proofs.WriteLaws.{number_there, number_beyond}
+use Rattle.order.specs.Write.{number_in, renumbered, Numbering}
 
 -- ---- a list that has numbers
 
 pub few_blocks : (n : ℕ) (list : List ℕ) → n ≤ 1024 → is_permutation n list ≡ true → length list ≤ 1024
 few_blocks n list few is = omega (arith, (permutes n list is).long)
+
+-- there are as many new numbers at least
+pub few_numbers : (list : List ℕ) {new : List ℕ} → Numbers list new → length list ≤ 1024 → length list ≤ length new
+few_numbers list numbers few = omega (arith, numbers.wide, few)
 
 pub own_blocks : (n : ℕ) (list : List ℕ) → is_permutation n list ≡ true → is_permutation (length list) list ≡ true
 own_blocks n list is = rw (permutes n list is).long is
@@ -40,63 +44,56 @@ module _ (n : ℕ) (list new : List ℕ) (p : Permutes n list) (numbers : Number
   renames : Renaming n (new_number list) (old_number list)
   renames = renaming_of n list p
 
-  new_numbers : number_in n new ≡ new_number list
-  new_numbers = fun_ext (λ b. by b (ltb b n) refl)
-    where
-      by : (b : ℕ) (y : Bool) → ltb b n ≡ y → number_in n new b ≡ new_number list b
-      by b true e = number_there n new b (ltb-true b n e) ∙ numbers.are b (omega (arith, ltb-true b n e, p.long))
-      by b false e = number_beyond n new b (ltb-false b n e) ∙ sym (renames.beyond b (ltb-false b n e))
+  -- the new numbers as they are lent: those of the list's blocks alone
+  abbrev lent : List ℕ
+  lent = take (length list) new
 
-  old_numbers : number_in n list ≡ old_number list
-  unfolding old_number
-  old_numbers = fun_ext (λ b. by b (ltb b n) refl)
+  lent_long : n ≤ 1024 → length lent ≡ n
+  lent_long few = length-take-le (length list) new (omega (arith, numbers.wide, p.long)) ∙ p.long
+
+  new_numbers : n ≤ 1024 → number_in lent ≡ new_number list
+  unfolding number_in
+  new_numbers few = fun_ext (λ b. by b (ltb b n) refl)
     where
-      by : (b : ℕ) (y : Bool) → ltb b n ≡ y → number_in n list b ≡ old_number list b
-      by b true e = number_there n list b (ltb-true b n e) ∙ get_d_any list b 0 b (omega (arith, ltb-true b n e, p.long))
-      by b false e = number_beyond n list b (ltb-false b n e) ∙ sym (get_or-eq_default list b (omega (arith, ltb-false b n e, p.long)))
+      by : (b : ℕ) (y : Bool) → ltb b n ≡ y → get_or lent b b ≡ new_number list b
+      by b true e =
+          let less : b < length list = omega (arith, ltb-true b n e, p.long) in
+          get_d_any lent b b 0 (omega (arith, lent_long few, ltb-true b n e)) ∙ (get_or-take (length list) new b 0 less ∙ numbers.are b less)
+      by b false e = get_or-eq_default lent b (omega (arith, ltb-false b n e, lent_long few)) ∙ sym (renames.beyond b (ltb-false b n e))
+
+  old_numbers : number_in list ≡ old_number list
+  unfolding number_in old_number
+  old_numbers = refl
 
   list_below : (i : ℕ) → i < n → get_or list i 0 < n
   list_below i h = p.below (get_or list i 0) (in_place list i 0 (omega (arith, p.long)))
 
-  new_small : (b : ℕ) → b < n → get_or new b 0 < n
-  new_small b h = rw (numbers.are b (omega (arith, p.long))) (new_below n (new_number list) (old_number list) renames n (omega arith) b h)
+  new_small : (b : ℕ) → b < n → get_or lent b 0 < n
+  new_small b h =
+      rw (get_or-take (length list) new b 0 (omega (arith, p.long)), numbers.are b (omega (arith, p.long))) (new_below n (new_number list) (old_number list) renames n (omega arith) b h)
 
 module _ (ws list new : List ℕ) (promise : Promise ws) (p : Permutes (block_count ws) list) (numbers : Numbers list new) where
-  few : block_count ws ≤ length new
-  few = omega (arith, numbers.wide, promise.sized.limited.blocks)
+  abbrev few : block_count ws ≤ 1024
+  few = promise.sized.limited.blocks
 
-  pub writing_new : {out : List ℕ} → length out ≡ length ws → Writing ws new list out 0
-  writing_new long =
-      record {
-        named = few;
-        rowed = omega (arith, p.long);
-        there = list_below (block_count ws) list new p numbers;
-        long = long;
-        written = λ k l. absurd (omega arith);
-      }
+  pub numbering_new : Numbering ws (take (length list) new) list
+  numbering_new = record { named = lent_long (block_count ws) list new p numbers few; rowed = p.long; there = list_below (block_count ws) list new p numbers }
 
-  pub writing_first : {out : List ℕ} → length out ≡ length ws → Writing ws list new out 0
-  writing_first long =
-      record {
-        named = omega (arith, p.long);
-        rowed = few;
-        there = new_small (block_count ws) list new p numbers;
-        long = long;
-        written = λ k l. absurd (omega arith);
-      }
+  pub numbering_first : Numbering ws list (take (length list) new)
+  numbering_first = record { named = p.long; rowed = lent_long (block_count ws) list new p numbers few; there = new_small (block_count ws) list new p numbers }
 
-  pub is_restored : renumbered ws list new ≡ restored_by list ws
+  pub is_restored : renumbered ws list (take (length list) new) ≡ restored_by list ws
   unfolding renumbered restored_by
-  is_restored = rw (new_numbers (block_count ws) list new p numbers, old_numbers (block_count ws) list new p numbers)
+  is_restored = rw (new_numbers (block_count ws) list new p numbers few, old_numbers (block_count ws) list new p numbers)
 
-  is_new : renumbered ws new list ≡ renamed (new_number list) (old_number list) ws
+  is_new : renumbered ws (take (length list) new) list ≡ renamed (new_number list) (old_number list) ws
   unfolding renumbered
-  is_new = rw (new_numbers (block_count ws) list new p numbers, old_numbers (block_count ws) list new p numbers)
+  is_new = rw (new_numbers (block_count ws) list new p numbers few, old_numbers (block_count ws) list new p numbers)
 
 pub order_permutes : (ws list : List ℕ) → Promise ws → list ≡ walking_order (table_of ws) → Permutes (block_count ws) list
 order_permutes ws list promise e = permutes (block_count ws) list (order_is ws list promise e)
 
-pub is_rearranged : (ws list new : List ℕ) (promise : Promise ws) (e : list ≡ walking_order (table_of ws)) (numbers : Numbers list new) → renumbered ws new list ≡ rearranged ws
+pub is_rearranged : (ws list new : List ℕ) (promise : Promise ws) (e : list ≡ walking_order (table_of ws)) (numbers : Numbers list new) → renumbered ws (take (length list) new) list ≡ rearranged ws
 unfolding rearranged
 is_rearranged ws list new promise e numbers = is_new ws list new promise (order_permutes ws list promise e) numbers ∙ rw e
 

@@ -1,4 +1,3 @@
-pub mod AnswerLaws
 pub mod QueueLaws
 pub mod WalkLaws
 pub mod ListLaws

@@ -1,35 +1,28 @@
 -- From the rearranged words and their text to what is printed.
 use Prim.Native.Nat.{ℕ, zero, suc, ◌+◌, ◌*◌, ◌≤◌}
-use mathlib.Core.Path.{◌≡◌, refl, ap, ◌∙◌}
-use mathlib.Core.Bool.{Bool, true, false}
+use mathlib.Core.Path.{◌≡◌, ◌∙◌}
 use mathlib.Core.List.{List, []}
 use native.Mathlib.Omega.{arith}
-use lib.Dec.{leb}
 use lib.ListN.{length, get_or, take, drop, length-append, length-take}
 use lib.Seq.{length-take-le}
-use borrow.Author.Tests.{leb-false}
 use Rattle.table.specs.Check.{accepted, refused, checked}
 use Rattle.table.specs.Answer.{refusal_code}
 use Rattle.table.specs.declared.Refusal.{Refusal}
 use Rattle.table.specs.declared.Refusal.TheVariants as refusals
-use Rattle.table.specs.Promise.{Promise}
+use Rattle.table.specs.Promise.{Promise, Sized}
 use Rattle.table.proofs.PromiseLaws.{promised, promise_checked}
 use Rattle.text.specs.Layout.{Layout, layout}
 use Rattle.text.specs.Answer.{Accepted}
 use Rattle.text.proofs.AnswerLaws.{good_room}
-use Rattle.text.specs.Lent.{padded}
 use Rattle.text.specs.Line.{lines}
-use Rattle.text.specs.Printed.{printed, Written, no_room, written_of, lent_of}
-use Rattle.text.specs.Placed.{Placing, refusal, placed}
+use Rattle.text.specs.Printed.{printed, Written, written_of, lent_of}
 use Rattle.text.specs.Prints.{WrittenText}
 use Rattle.text.specs.declared.version.Version.TheVariants.{New}
-use Rattle.std.specs.Prelude.{Ok}
-use Rattle.text.proofs.WriteLaws.{Narrow, narrow_words, narrow_take, narrow_drop, line_most}
+use Rattle.text.proofs.WriteLaws.{Narrow, narrow_words, narrow_take, narrow_drop, line_most, text_fits}
 use Rattle.renaming.specs.Order.{rearranged}
 use Rattle.renaming.proofs.OrderLaws.{rearranged_checked}
 use Rattle.convert.specs.Cut.{cut, instructions_at, cases_at, places_at, identifiers_at, end_at, Shaped, tables_in, text_in}
-use Rattle.convert.specs.Write.{table_text, table_written}
-use Rattle.convert.specs.Write as writer
+use Rattle.convert.specs.Write.{table_text}
 use Rattle.convert.proofs.TextLaws.{sized_shaped}
 use Rattle.order.specs.Prints.{unless_refused, ordered_text}
 
@@ -61,47 +54,19 @@ text_most words s n =
     let d = lines_most 1 (get_or words 5 0) (drop (identifiers_at (layout New) words) words) (narrow_drop (identifiers_at (layout New) words) words n) in
     simp length-append (omega (arith, long, head, length-take-le 6 words s.head, b, i, c, p, d))
 
--- ---- the answer of the writer as that of a program
-
-module _ (most room : ℕ) (text : List ℕ) (d : Placing) (is : d ≡ placed 53 room text) (few : length text ≤ most) where
-  placed_bytes : d.code ≡ 0 → WrittenText most text room (Ok d.length) d.buffer
-  unfolding placed refusal written_of lent_of
-  placed_bytes none = by (leb (length text) room) refl is
-    where
-      by : (fits : Bool) → leb (length text) room ≡ fits
-          → d ≡ elim fits [ true ↦ record { code = 0; at = 0; length = length text; buffer = padded room text } | false ↦ refusal 53 0 room ]
-          → WrittenText most text room (Ok d.length) d.buffer
-      by true e z = rw z (record { answer = rw e; bytes = rw e; enough = λ _. refl })
-      by false e z = absurd (omega (arith, ap (λ (p : Placing). p.code) z, none))
-
-  placed_none : (d.code ≡ 0 → ⊥) → WrittenText most text room no_room d.buffer
-  unfolding placed refusal written_of lent_of
-  placed_none some = by (leb (length text) room) refl is
-    where
-      by : (fits : Bool) → leb (length text) room ≡ fits
-          → d ≡ elim fits [ true ↦ record { code = 0; at = 0; length = length text; buffer = padded room text } | false ↦ refusal 53 0 room ]
-          → WrittenText most text room no_room d.buffer
-      by true e z = absurd (some (ap (λ (p : Placing). p.code) z))
-      by false e z = rw z (record { answer = rw e; bytes = rw e; enough = λ q. absurd (omega (arith, few, q, leb-false (length text) room e)) })
-
-module _ (words : List ℕ) (promise : Promise words) (few : length words ≤ 16384) (narrow : Narrow words) (room : ℕ) (d : Placing) (is : d ≡ table_written words room) where
-  table_placed : d ≡ placed 53 room (table_text words)
-  unfolding table_written writer.unless_refused
-  table_placed = is ∙ rw (promise_checked words promise)
-
-  text_fits : length (table_text words) ≤ 180368
-  text_fits = omega (arith, few, text_most words (sized_shaped words promise.sized) narrow)
-
-  pub table_bytes : d.code ≡ 0 → WrittenText 180368 (table_text words) room (Ok d.length) d.buffer
-  table_bytes = placed_bytes 180368 room (table_text words) d table_placed text_fits
-
-  pub table_none : (d.code ≡ 0 → ⊥) → WrittenText 180368 (table_text words) room no_room d.buffer
-  table_none = placed_none 180368 room (table_text words) d table_placed text_fits
+-- the writer's answer, and bytes that are enough
+pub table_printed : (words : List ℕ) {room : ℕ} {r : Written} {lent : List ℕ} → Sized words → length words ≤ 16384 → Narrow words
+    → r ≡ written_of room (table_text words) → lent ≡ lent_of room (table_text words) → WrittenText 180368 (table_text words) room r lent
+table_printed words {room} sized few narrow answer bytes = record {
+  answer = answer;
+  bytes = bytes;
+  enough = λ long. answer ∙ text_fits room (table_text words) (omega (arith, long, few, text_most words (sized_shaped words sized) narrow));
+}
 
 -- ---- the rearranged words
 
-pub rearranged_promise : (words : List ℕ) → Promise words → Promise (rearranged words)
-rearranged_promise words promise = promised (rearranged words) (rearranged_checked words (promise_checked words promise))
+pub rearranged_sized : {words new_words : List ℕ} → new_words ≡ rearranged words → Promise words → Sized new_words
+rearranged_sized {words} e promise = rw e (promised (rearranged words) (rearranged_checked words (promise_checked words promise))).sized
 
 -- ---- what is printed of a file's words
 

@@ -73,9 +73,6 @@ module _ (blocks : List ℕ) (count : ℕ) (found : List Bool) (b : ℕ) (long :
 
 -- ---- a name
 
-pub named_there : (list : List ℕ) (b : ℕ) → contains list b ≡ true → list ≡ with_named list (b ∷ [])
-named_there list b e = sym (pick_true (contains list b) list (list ++ (b ∷ [])) e)
-
 pub named_new : (list : List ℕ) (b : ℕ) → contains list b ≡ false → list ++ (b ∷ []) ≡ with_named list (b ∷ [])
 named_new list b e = sym (pick_false (contains list b) list (list ++ (b ∷ [])) e)
 

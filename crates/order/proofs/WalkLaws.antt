@@ -20,7 +20,8 @@ use Rattle.renaming.proofs.Permutations.{both_and, pick_true, pick_false, fits_i
 use Rattle.renaming.proofs.OrderLaws.{with_step, with_once, with_below, named_here, walking_order_lem}
 
 module _ (t : Table) where
-  walk_more : (places place : ℕ) (found : List ℕ) → place < length found → walk_from t (suc places) place found ≡ walk_from t places (suc place) (with_named found (named_at t (get_or found place 0)))
+  walk_more : (places place : ℕ) (found : List ℕ) → place < length found
+      → walk_from t (suc places) place found ≡ walk_from t places (suc place) (with_named found (named_at t (get_or found place 0)))
   unfolding walk_from
   walk_more places place found h = pick_true (ltb place (length found)) _ _ (lt-ltb place (length found) h)
 

@@ -11,7 +11,8 @@ use std::marker::Model;
 use table::Table;
 
 // The first `count` words of `blocks` are the blocks found, none of them twice; `found` has a flag for each of them.
-// (Fixed memory: no heap, so no Vec and no set.)
+// (Fixed memory: no heap, so no Vec and no set; std has no array with a length. Not the caller's list as the memory: a view hides the reference,
+// and nothing could be told of what is left in the list.)
 #[derive(Drop)]
 struct Queue {
     blocks: [u32; 1024],
@@ -72,7 +73,8 @@ impl Queue {
         }
     }
 
-    // The blocks that a row names, in the order of its lines.
+    // The blocks that a row names, in the order of its lines. (dot's `write_row` has these two loops too. One function of `table` that takes a
+    // closure would tell its calls alone, by `FoldsTo`: each of the two would have an induction on them to prove in the place of its loops.)
     fn name_row(&mut self, table: Table<'_>, row: u32)
         requires { row < block_count table.words.now }
         ensures { self.new ≡ with_named self.old (named_at (table_of table.entry.words.now) row) }

@@ -1,40 +1,35 @@
 // The program treeorder as a function: a file's bytes in, the bytes that are printed of it out.
-ghost use Rattle.std.specs.Prelude.{◌≡◌, [], ◌≤◌, length, Ok};
-ghost use Rattle.text.specs.Printed.{printed};
+ghost use Rattle.std.specs.Prelude.{◌≡◌, ◌≤◌, length, Ok};
 ghost use Rattle.text.specs.Prints.{printing, WrittenText};
 ghost use Rattle.renaming.specs.Order.{rearranged};
 ghost use Rattle.convert.specs.Write.{table_text};
 ghost use Rattle.order.specs.Prints.{ordered_text, order_text};
 
-use crate::rearrange_checked;
-use convert::writing::write_table;
+use crate::{OrderError, rearrange_checked};
+use convert::written_tables::write_tables;
 use table::Table;
+use table::words::Words;
 use table_check::check;
 use text::lent::{FILE_WORDS, zeros};
-use text::placed::Coded;
+use text::placed::write_refusal;
 use text::read::read;
-use text::write::{NoRoom, write};
+use text::version::Version;
+use text::write::{NoRoom, Writer};
 
-fn write_refusal(out: &mut [u8], code: u32, at: u32) -> Result<usize, NoRoom>
-    requires { code ≡ 0 → ⊥ }
-    ensures { WrittenText 180368 (printed code at 0 0 []) (length out.old) result out.new }
-{
-    write(out, code, at, 0, 0, &[])
-}
-
-// The text of the rearranged table: 11 bytes a word, and the names, are enough. `new_words` and the numbers have exactly the lengths needed.
-fn order_table(table: Table<'_>, new_words: &mut [u32], out: &mut [u8]) -> Result<usize, NoRoom>
-    requires words_len_bound { length table.words.now ≤ 16384 }
-    requires new_words_len { length new_words.old ≡ length table.words.now }
+// The text of the rearranged table: 11 bytes a word, and the names, are enough.
+#[tactic(auto, using(crate::proofs::OrderedLaws::rearranged_sized))]
+fn order_table(table: Table<'_>, out: &mut [u8]) -> Result<usize, NoRoom>
+    requires { length table.words.now ≤ 16384 }
     ensures { WrittenText 180368 (table_text (rearranged table.entry.words.now)) (length out.old) result out.new }
 {
+    let mut words = zeros::<u32, FILE_WORDS>();
     let mut old_numbers = zeros::<u32, 1024>();
+    let new_words = &mut words[..table.words.len()];
     let blocks = table.block_count() as usize;
     rearrange_checked(table, new_words, &mut old_numbers[..blocks]);
-    match write_table(new_words, out) {
-        Ok(length) => Ok(length),
-        Err(_) => Err(NoRoom),
-    }
+    let mut writer = Writer::new(out);
+    write_tables(&mut writer, Words { words: new_words }, Version::New);
+    writer.finish()
 }
 
 // The words of a file: the rearranged table's text, or why there is none.
@@ -43,12 +38,8 @@ fn order_words(words: &[u32], out: &mut [u8]) -> Result<usize, NoRoom>
     ensures { WrittenText 180368 (ordered_text words.now) (length out.old) result out.new }
 {
     match check(words) {
-        Ok(table) => {
-            let mut new_words = zeros::<u32, FILE_WORDS>();
-            let count = words.len();
-            order_table(table, &mut new_words[..count], out)
-        }
-        Err(refusal) => write_refusal(out, refusal.code(), refusal.place()),
+        Ok(table) => order_table(table, out),
+        Err(refusal) => write_refusal(out, OrderError::Table(refusal)),
     }
 }
 
@@ -60,6 +51,6 @@ pub fn order_file(file: &[u8], out: &mut [u8]) -> Result<usize, NoRoom>
     let mut words = zeros::<u32, FILE_WORDS>();
     match read(file, &mut words) {
         Ok(count) => order_words(&words[..count], out),
-        Err(error) => write_refusal(out, error.code(), error.place()),
+        Err(error) => write_refusal(out, error),
     }
 }

@@ -69,10 +69,11 @@ fn write_rearranged(table: Table<'_>, old_numbers: &[u32], new_words: &mut [u32]
 {
     let mut new = [0; 1024];
     new_numbers(old_numbers, &mut new);
-    write_table(table, &new, old_numbers, new_words);
+    write_table(table, &new[..old_numbers.len()], old_numbers, new_words);
 }
 
 // Of a checked table, and outputs of the lengths needed.
+// (Each that lends the new words on asks for their length: a struct of them and the table would be built here and taken apart in `write_table`.)
 fn rearrange_checked(table: Table<'_>, new_words: &mut [u32], old_numbers: &mut [u32])
     requires new_words_len { length new_words.old ≡ length table.words.now }
     requires old_numbers_len { length old_numbers.old ≡ block_count table.words.now }
@@ -131,7 +132,7 @@ fn try_restore(
     }
     let mut new = [0; 1024];
     new_numbers(old_numbers, &mut new);
-    write_table(table, old_numbers, &new, first_words);
+    write_table(table, old_numbers, &new[..old_numbers.len()], first_words);
     Ok(())
 }
 

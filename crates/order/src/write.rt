@@ -1,14 +1,14 @@
 // The words of a renamed table, from the first to the last.
-ghost use Rattle.std.specs.Prelude.{◌≡◌, [], ◌∷◌, true, false, ◌+◌, ◌*◌, ◌<◌, ◌≤◌, length};
-ghost use Rattle.table.specs.Words.{block_count, cases_begin, places_begin, instructions_begin};
+ghost use Rattle.std.specs.Prelude.{◌≡◌, [], ◌∷◌, true, false, ◌*◌, ◌/◌, ◌<◌, length};
+ghost use Rattle.table.specs.Words.{block_count};
 ghost use Rattle.table.specs.Table.{code_of};
 ghost use Rattle.table.specs.Ending.{ending};
-ghost use Rattle.renaming.specs.Renaming.{renamed_if};
-ghost use Rattle.order.specs.Write.{number_in, columns_of, renumbered, Writing, Copied};
+ghost use Rattle.renaming.specs.Renaming.{renamed_if, renamed_block_row};
+ghost use Rattle.order.specs.Write.{number_in, columns_of, renumbered, Numbering, BlockRows, CaseRows};
 
 use table::Table;
 use table::terminals::Terminal;
-use table::words::{case_count, cases_begin, instructions_begin, places_begin};
+use table::words::{cases_begin, instructions_begin, places_begin};
 
 // A row's columns: the first three, a to e, and the last three.
 // (So that an arm of `named_columns` has the five that can differ.)
@@ -47,99 +47,69 @@ fn named_columns(end: Terminal) -> [bool; 11]
 }
 
 // A block's number; 65,535 (none) stays.
-// (`numbers` has 1,024 places or a caller's: so the number of blocks stands beside it.)
 #[tactic(auto, unfolding(crate::specs::Write::number_in))]
-fn number_in(numbers: &[u32], blocks: u32, block: u32) -> u32
-    requires { blocks ≤ length numbers.now }
-    ensures { result ≡ number_in blocks numbers.now block }
+fn number_in(numbers: &[u32], block: u32) -> u32
+    ensures { result ≡ number_in numbers.now block }
 {
-    if block < blocks {
-        let b = block as usize;
-        return numbers[b];
-    }
-    block
+    numbers.get(block as usize).copied().unwrap_or(block)
 }
 
-fn number_if(named: bool, numbers: &[u32], blocks: u32, word: u32) -> u32
-    requires { blocks ≤ length numbers.now }
-    ensures { result ≡ renamed_if named (number_in blocks numbers.now) word }
+fn number_if(named: bool, numbers: &[u32], word: u32) -> u32
+    ensures { result ≡ renamed_if named (number_in numbers.now) word }
 {
     if named {
-        return number_in(numbers, blocks, word);
+        return number_in(numbers, word);
     }
     word
 }
 
-fn copy_words(words: &[u32], new_words: &mut [u32], begin: usize, end: usize)
-    requires begin_le_end { begin ≤ end }
-    requires end_in_bounds { end ≤ length words.now }
-    requires new_words_len { length new_words.old ≡ length words.now }
-    ensures { Copied words.now new_words.old begin end new_words.new }
+// The row of an old block, with the blocks that it names renamed.
+fn write_row(table: Table<'_>, block: u32, names: &[u32], row: &mut [u32])
+    requires block_bound { block < block_count table.words.now }
+    requires row_len { length row.old ≡ 11 }
+    ensures { row.new ≡ renamed_block_row (number_in names.now) table.entry.words.now block }
 {
-    new_words[begin..end].copy_from_slice(&words[begin..end]);
-}
-
-fn write_head(table: Table<'_>, names: &[u32], rows: &[u32], new_words: &mut [u32])
-    requires { Writing table.words.now names.now rows.now new_words.old 0 }
-    ensures { Writing table.entry.words.now names.now rows.now new_words.new 6 }
-{
-    new_words[0] = number_in(names, table.block_count(), table.words[0]);
-    copy_words(table.words, new_words, 1, 6);
-}
-
-// The row of a block: the old table's row, with the blocks that it names renamed.
-fn write_row(table: Table<'_>, names: &[u32], rows: &[u32], new_words: &mut [u32], row: u32)
-    requires writing { Writing table.words.now names.now rows.now new_words.old (6 + row * 11) }
-    requires row_bound { row < block_count table.words.now }
-    ensures { Writing table.entry.words.now names.now rows.now new_words.new (6 + (row + 1) * 11) }
-{
-    let blocks = table.block_count();
-    let place = row as usize;
-    let source = rows[place];
-    let columns = named_columns(table.terminal(source));
-    let from = (6 + source * 11) as usize;
-    let to = (6 + row * 11) as usize;
+    let columns = named_columns(table.terminal(block));
+    let begin = (6 + block * 11) as usize;
     for (k, named) in columns.iter().enumerate() {
-        new_words[to + k] = number_if(*named, names, blocks, table.words[from + k]);
+        row[k] = number_if(*named, names, table.words[begin + k]);
     }
 }
 
-fn write_blocks(table: Table<'_>, names: &[u32], rows: &[u32], new_words: &mut [u32])
-    requires { Writing table.words.now names.now rows.now new_words.old 6 }
-    ensures { Writing table.entry.words.now names.now rows.now new_words.new (instructions_begin table.entry.words.now) }
+fn write_blocks(table: Table<'_>, names: &[u32], rows: &[u32], new_rows: &mut [u32])
+    requires numbering { Numbering table.words.now names.now rows.now }
+    requires new_rows_len { length new_rows.old ≡ block_count table.words.now * 11 }
+    ensures { BlockRows table.entry.words.now names.now rows.now (block_count table.entry.words.now) new_rows.new }
 {
-    for row in 0..table.block_count() {
-        write_row(table, names, rows, new_words, row);
+    for (row, block) in rows.iter().enumerate() {
+        let begin = row * 11;
+        write_row(table, *block, names, &mut new_rows[begin..begin + 11]);
     }
 }
 
 // "every case row renamed whether used or not"
-fn write_cases(table: Table<'_>, names: &[u32], rows: &[u32], new_words: &mut [u32])
-    requires { Writing table.words.now names.now rows.now new_words.old (cases_begin table.words.now) }
-    ensures { Writing table.entry.words.now names.now rows.now new_words.new (places_begin table.entry.words.now) }
+fn rename_cases(names: &[u32], cases: &mut [u32])
+    ensures { CaseRows names.now cases.old (length cases.old / 2) cases.new }
 {
-    let blocks = table.block_count();
-    let begin = cases_begin(table.words) as usize;
-    let cases = case_count(table.words) as usize;
-    for case in 0..cases {
-        let test = begin + case * 2;
-        new_words[test] = table.words[test];
-        new_words[test + 1] = number_in(names, blocks, table.words[test + 1]);
+    for case in 0..cases.len() / 2 {
+        let block = case * 2 + 1;
+        cases[block] = number_in(names, cases[block]);
     }
 }
 
 // The whole table: `names` gives a block's number, `rows` the old row of each new one.
-// `Writing` says how far the words are written, another end at each step. The words are lent anew at each, so a struct would be built at each.
+#[tactic(auto, using(crate::proofs::WriteLaws::sizes))]
 pub fn write_table(table: Table<'_>, names: &[u32], rows: &[u32], new_words: &mut [u32])
-    requires { Writing table.words.now names.now rows.now new_words.old 0 }
+    requires numbering { Numbering table.words.now names.now rows.now }
+    requires new_words_len { length new_words.old ≡ length table.words.now }
     ensures { new_words.new ≡ renumbered table.entry.words.now names.now rows.now }
 {
-    write_head(table, names, rows, new_words);
-    write_blocks(table, names, rows, new_words);
-    let instructions = instructions_begin(table.words) as usize;
-    let cases = cases_begin(table.words) as usize;
-    copy_words(table.words, new_words, instructions, cases);
-    write_cases(table, names, rows, new_words);
-    let places = places_begin(table.words) as usize;
-    copy_words(table.words, new_words, places, table.words.len());
+    let words = table.words;
+    let instructions = instructions_begin(words) as usize;
+    let cases = cases_begin(words) as usize;
+    let places = places_begin(words) as usize;
+    new_words.copy_from_slice(words);
+    new_words[0] = number_in(names, table.entry());
+    write_blocks(table, names, rows, &mut new_words[6..instructions]);
+    rename_cases(names, &mut new_words[cases..places]);
 }

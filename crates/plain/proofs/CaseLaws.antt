@@ -3,36 +3,67 @@ use mathlib.Core.Path.{◌≡◌, refl, sym, ap, ◌∙◌}
 use Prim.Native.Nat.{ℕ, zero, suc, ◌+◌, ◌-◌, ◌<◌, ◌≤◌}
 use native.Mathlib.Omega.{arith}
 use mathlib.Core.List.{List, [], ◌∷◌, ◌++◌, reverse, reverse-cons, reverse-append}
-use mathlib.Core.Bool.{Bool, true, false, ◌&&◌}
+use mathlib.Core.Bool.{Bool, true, false, not, ◌&&◌}
 use lib.Dec.{eqb}
 use lib.ListN.{length, get_or, take, drop, length-drop}
 use lib.Seq.{take-suc, drop-cons, get_or-drop}
 use borrow.Author.Tests.{eq-eqb, ne_eqb}
+use Rattle.std.specs.List.{range_with_len, list_all, list_any}
 use Rattle.table.specs.Words.{case_count}
 use Rattle.table.specs.Table.{Table, Case, table_of}
 use Rattle.table.specs.Promise.{Chooses}
 use Rattle.table.proofs.TableLaws.{length_cases}
 use Rattle.definition.specs.BlockRun.{case_list}
+use Rattle.definition.specs.Completion.{contains}
 use Rattle.definition.specs.Statement.{cases_last_first}
-use Rattle.definition.specs.Plain.{blocks_of}
+use Rattle.definition.specs.Plain.{blocks_of, different}
 use Rattle.definition.specs.PlainLoops.{drop_own}
 use Rattle.definition.specs.PlainTest.{all_of, last_is_own}
 
 abbrev a_case : (test block : ℕ) → Case
 a_case test block = record { test = test; block = block }
 
--- ---- forwards
+-- ---- forwards: what is asked of each row is asked of its case's block
+
+abbrev pub block_at : Table → (row : ℕ) → ℕ
+block_at t row = (get_or t.cases row (a_case 0 0)).block
+
+pub block_chosen : {ws : List ℕ} {row test block : ℕ} → Chooses ws row test block → block_at (table_of ws) row ≡ block
+block_chosen chosen = ap (λ (k : Case). k.block) (chosen.is (a_case 0 0))
+
+module _ (ws : List ℕ) where
+  first_of : (first rest : ℕ) → first + suc rest ≤ case_count ws
+      → blocks_of (case_list (table_of ws) first (suc rest)) ≡ block_at (table_of ws) first ∷ blocks_of (case_list (table_of ws) (first + 1) rest)
+  unfolding case_list
+  first_of first rest h =
+      let next : suc first ≡ first + 1 = omega arith in
+      ap (λ (ks : List Case). blocks_of (take (suc rest) ks)) (drop-cons (table_of ws).cases first (a_case 0 0) (omega (arith, h, length_cases ws)))
+      ∙ ap (λ (i : ℕ). block_at (table_of ws) first ∷ blocks_of (take rest (drop i (table_of ws).cases))) next
+
+  pub all_rows : (p : ℕ → Bool) (first number : ℕ) → first + number ≤ case_count ws
+      → list_all (λ row. p (block_at (table_of ws) row)) (range_with_len first number) ≡ all_of (blocks_of (case_list (table_of ws) first number)) p
+  unfolding case_list
+  all_rows p first zero h = refl
+  all_rows p first (suc n) h = rw (all_rows p (first + 1) n (omega (arith, h)), first_of first n h) refl
+
+  pub some_row : (block first number : ℕ) → first + number ≤ case_count ws
+      → list_any (λ row. eqb (block_at (table_of ws) row) block) (range_with_len first number) ≡ contains (blocks_of (case_list (table_of ws) first number)) block
+  unfolding case_list
+  some_row block first zero h = refl
+  some_row block first (suc n) h = rw (some_row block (first + 1) n (omega (arith, h)), first_of first n h) refl
+
+  pub differ_rows : (end first number : ℕ) → first + number ≡ end → end ≤ case_count ws
+      → list_all (λ row. not (contains (blocks_of (case_list (table_of ws) (row + 1) (end - (row + 1)))) (block_at (table_of ws) row))) (range_with_len first number)
+      ≡ different (blocks_of (case_list (table_of ws) first number))
+  unfolding case_list
+  differ_rows end first zero e h = refl
+  differ_rows end first (suc n) e h =
+      let rest : end - (first + 1) ≡ n = omega (arith, e) in
+      rw (rest, differ_rows end (first + 1) n (omega (arith, e)) h, first_of first n (omega (arith, e, h))) refl
+
+-- ---- from the last on
 
 module _ {ws : List ℕ} where
-  first_of : (at rest : ℕ) {test block : ℕ} → Chooses ws at test block → at + suc rest ≤ case_count ws
-      → case_list (table_of ws) at (suc rest) ≡ a_case test block ∷ case_list (table_of ws) (at + 1) rest
-  unfolding case_list
-  first_of at rest {test} {block} chosen h =
-      let next : suc at ≡ at + 1 = omega arith in
-      ap (take (suc rest)) (drop-cons (table_of ws).cases at (a_case 0 0) (omega (arith, h, length_cases ws)))
-      ∙ ap (λ (k : Case). k ∷ take rest (drop (suc at) (table_of ws).cases)) (chosen.is (a_case 0 0))
-      ∙ ap (λ (i : ℕ). a_case test block ∷ take rest (drop i (table_of ws).cases)) next
-
   last_of : (first left i : ℕ) {test block : ℕ} → i ≡ first + left → Chooses ws i test block → first + left < case_count ws
       → cases_last_first (table_of ws) first (suc left) ≡ a_case test block ∷ cases_last_first (table_of ws) first left
   unfolding cases_last_first
@@ -43,31 +74,6 @@ module _ {ws : List ℕ} where
       get_or-drop first (table_of ws).cases left (a_case 0 0) ∙ ap (λ (n : ℕ). get_or (table_of ws).cases n (a_case 0 0)) (sym at) ∙ chosen.is (a_case 0 0) in
       ap reverse (take-suc rows left (a_case 0 0) long) ∙ reverse-append (take left rows) (get_or rows left (a_case 0 0) ∷ [])
       ∙ ap (λ (k : Case). k ∷ reverse (take left rows)) one
-
--- what is left of the cases gives what all give
-pub record Left (ws : List ℕ) (F : List ℕ → Bool) (first number at left : ℕ) : Type 0 where
-  pub within : at + left ≤ case_count ws
-  pub same : F (blocks_of (case_list (table_of ws) first number)) ≡ F (blocks_of (case_list (table_of ws) at left))
-
-module _ {ws : List ℕ} (F : List ℕ → Bool) where
-  pub left_all : {first number left : ℕ} → first + number ≤ case_count ws → left ≡ number → Left ws F first number first left
-  left_all {first} {number} h e = rw e (record { within = h; same = refl })
-
-  pub left_first : {first number at left : ℕ} (rest : ℕ) {test block : ℕ} → Left ws F first number at left → left ≡ suc rest → Chooses ws at test block
-      → F (blocks_of (case_list (table_of ws) first number)) ≡ F (block ∷ blocks_of (case_list (table_of ws) (at + 1) rest))
-  left_first {at = at} rest l e chosen =
-      let here = rw e at l in
-      here.same ∙ ap (λ (cs : List Case). F (blocks_of cs)) (first_of at rest chosen here.within)
-
-  pub left_more : {first number at left : ℕ} (rest : ℕ) {test block : ℕ} → Left ws F first number at left → left ≡ suc rest → Chooses ws at test block
-      → F (block ∷ blocks_of (case_list (table_of ws) (at + 1) rest)) ≡ F (blocks_of (case_list (table_of ws) (at + 1) rest)) → Left ws F first number (at + 1) rest
-  left_more rest l e chosen same = record { within = omega (arith, l.within, e); same = left_first rest l e chosen ∙ same }
-
-  pub left_none : {first number at left : ℕ} → Left ws F first number at left → left ≡ 0 → F (blocks_of (case_list (table_of ws) first number)) ≡ F []
-  unfolding case_list
-  left_none l e = (rw e at l).same
-
--- ---- from the last on
 
 pub last_own : {ws : List ℕ} {test block : ℕ} (first number f : ℕ) → first + number ≤ case_count ws → (number ≡ 0 → ⊥) → Chooses ws (first + (number - 1)) test block
     → eqb block f ≡ last_is_own f (cases_last_first (table_of ws) first number)

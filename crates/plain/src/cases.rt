@@ -1,5 +1,5 @@
 // What the conditions ask of a Switch's cases.
-ghost use Rattle.std.specs.Prelude.{◌≡◌, ℕ, ◌+◌, ◌≤◌, Bool};
+ghost use Rattle.std.specs.Prelude.{◌≡◌, ℕ, ◌+◌, ◌≤◌, ◌<◌, Bool};
 ghost use Rattle.table.specs.Words.{case_count};
 ghost use Rattle.table.specs.Table.{table_of, switch};
 ghost use Rattle.table.specs.Promise.{Ends};
@@ -27,30 +27,28 @@ impl<'a> Cases<'a> {
     fn have(self, block: u32) -> bool
         ensures { result ≡ contains (blocks_of (case_list (table_of self.entry.table.words.now) self.entry.first self.entry.number)) block }
     {
-        for row in self.first..self.first + self.number {
-            if self.table.case(row).block == block {
-                return true;
-            }
-        }
-        false
+        let end = self.first + self.number;
+        (self.first..end).any(|row| self.table.case(row).block == block)
     }
 
     pub fn differ(self) -> bool
         ensures { result ≡ different (blocks_of (case_list (table_of self.entry.table.words.now) self.entry.first self.entry.number)) }
     {
         let end = self.first + self.number;
-        for row in self.first..end {
-            let next = row + 1;
-            let rest = Cases {
-                table: self.table,
-                first: next,
-                number: end - next,
-            };
-            if rest.have(self.table.case(row).block) {
-                return false;
-            }
-        }
-        true
+        (self.first..end).all(
+            |row|
+                requires row_bound { row < end }
+                requires end_bound { end ≤ case_count self.table.words.now }
+            {
+                let next = row + 1;
+                let rest = Cases {
+                    table: self.table,
+                    first: next,
+                    number: end - next,
+                };
+                !rest.have(self.table.case(row).block)
+            },
+        )
     }
 
     // Whether a test holds of every case's block.
@@ -58,12 +56,13 @@ impl<'a> Cases<'a> {
         requires { F.IsAlwaysCallable test }
         ensures { (p : ℕ → Bool) → AnswersCase (F.post test) p → result ≡ all_of (blocks_of (case_list (table_of self.entry.table.words.now) self.entry.first self.entry.number)) p }
     {
-        for row in self.first..self.first + self.number {
-            if !test(self.table.case(row).block) {
-                return false;
-            }
-        }
-        true
+        let end = self.first + self.number;
+        (self.first..end).all(
+            |row|
+                requires row_bound { row < case_count self.table.words.now }
+                requires callable { F.IsAlwaysCallable test }
+            { test(self.table.case(row).block) },
+        )
     }
 
     // Whether the last is the Switch's own fallthrough.

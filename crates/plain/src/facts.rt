@@ -13,8 +13,8 @@ ghost use Rattle.plain.specs.Loops.{maybe_loop};
 use table::Table;
 use table::terminals::Terminal;
 
-// The block's terminal. A block beyond the table is absent. The hints here and below halve the time of `table_plain`, which asks each block of each block: what
-// a test does not ask for is not read.
+// The block's terminal. A block beyond the table is absent. The hints here and below halve the time of `table_plain`, which asks each block of
+// each block: what a test does not ask for is not read.
 #[tactic(auto, using(crate::proofs::TerminalLaws::beyond_ends))]
 #[inline(always)]
 pub fn terminal_or_absent(table: Table<'_>, block: u32) -> Terminal
@@ -96,10 +96,7 @@ pub fn loop_of(end: Terminal) -> Option<Loop>
 pub fn not_in_loop(end: Terminal, named: u32) -> bool
     ensures { result ≡ not_in_loop named (loop_of (ending end)) }
 {
-    match loop_of(end) {
-        Some(end) => named != end.body && named != end.again,
-        None => true,
-    }
+    loop_of(end).is_none_or(|end| named != end.body && named != end.again)
 }
 
 pub fn is_while(end: Terminal, test: u32, body: u32, fallthrough: u32) -> bool

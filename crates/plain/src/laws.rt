@@ -11,20 +11,16 @@ use table::Table;
 // Paper 01's, M-113's, or the one beyond the papers.
 #[derive(Clone, Copy, Debug, PartialEq, Eq)]
 pub enum Law {
-    Paper01,
-    Switches,
-    Loops,
+    Paper01 = 1,
+    Switches = 2,
+    Loops = 3,
 }
 
 impl Law {
     pub fn number(self) -> u32
         ensures { result ≡ number_of self }
     {
-        match self {
-            Law::Paper01 => 1,
-            Law::Switches => 2,
-            Law::Loops => 3,
-        }
+        self as u32
     }
 }
 

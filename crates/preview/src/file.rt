@@ -9,7 +9,7 @@ use crate::preview;
 use text::lent::{FILE_WORDS, zeros};
 use text::placed::Coded;
 use text::read::read;
-use text::write::{NoRoom, finish_text, write_line, write_names};
+use text::write::{NoRoom, Writer};
 use walk::answer::Numbered;
 
 // Two lines: 81 bytes are always enough.
@@ -23,10 +23,10 @@ fn write_size(
 ) -> Result<usize, NoRoom>
     ensures { WrittenText 81 (size_text (record { code = code; at = at; rows = rows; visits = visits; lines = lines })) (length out.old) result out.new }
 {
-    let names = write_names(out, 0, b"code at rows visits lines\n");
-    let numbers = [code, at, rows, visits, lines];
-    let end = write_line(out, names, &numbers);
-    finish_text(out, end)
+    let mut writer = Writer::new(out);
+    writer.bytes(b"code at rows visits lines\n");
+    writer.line(&[code, at, rows, visits, lines]);
+    writer.finish()
 }
 
 // What a build of the table gives where both buffers are large enough.

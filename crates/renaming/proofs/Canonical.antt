@@ -204,7 +204,8 @@ module _ (new : ℕ → ℕ) (m : Moves new) where
       rest : eqb x b ≡ false → contains l b ≡ true
       rest e = rw e at h
 
-      by : (y : Bool) → eqb x b ≡ y → (eqb x b ≡ false → place_from (suc place) (map new l) (new b) ≡ place_from (suc place) l b) → place_from place (map new (x ∷ l)) (new b) ≡ place_from place (x ∷ l) b
+      by : (y : Bool) → eqb x b ≡ y → (eqb x b ≡ false → place_from (suc place) (map new l) (new b) ≡ place_from (suc place) l b)
+          → place_from place (map new (x ∷ l)) (new b) ≡ place_from place (x ∷ l) b
       by true e q = pick_true (eqb (new x) (new b)) _ _ (same_test new m x b ∙ e) ∙ sym (pick_true (eqb x b) _ _ e)
       by false e q = pick_false (eqb (new x) (new b)) _ _ (same_test new m x b ∙ e) ∙ (q e ∙ sym (pick_false (eqb x b) _ _ e))
 

@@ -56,7 +56,8 @@ module _ (n : ℕ) (new : ℕ → ℕ) (below : (b : ℕ) → b < n → new b < 
   Named (rule ∷ rules) (true ∷ names) = Keeps rule × Named rules names
   Named (rule ∷ rules) (false ∷ names) = Named rules names
 
-  named : (rules : List Rule) (names : List Bool) → Named rules names → (k w : ℕ) → fits (get_or rules k unused) w ≡ true → fits (get_or rules k unused) (renamed_if (get_or names k false) new w) ≡ true
+  named : (rules : List Rule) (names : List Bool) → Named rules names → (k w : ℕ)
+      → fits (get_or rules k unused) w ≡ true → fits (get_or rules k unused) (renamed_if (get_or names k false) new w) ≡ true
   named rules [] h k w e = e
   named [] (name ∷ names) h k w e = absurd h
   named (rule ∷ rules) (true ∷ names) h zero w e = h.0 w e
@@ -117,7 +118,8 @@ module _ (new old : ℕ → ℕ) (ws : List ℕ) (p : Promise ws) (g : Renaming 
       and (K, (K, tt))
       and ends)
 
-  named_fits : (code first k w : ℕ) → fits (get_or (terminal_rules ws code first) k unused) w ≡ true → fits (get_or (terminal_rules ws code first) k unused) (renamed_if (names_block code k) new w) ≡ true
+  named_fits : (code first k w : ℕ)
+      → fits (get_or (terminal_rules ws code first) k unused) w ≡ true → fits (get_or (terminal_rules ws code first) k unused) (renamed_if (names_block code k) new w) ≡ true
   unfolding names_block
   named_fits code first k w h = named (block_count ws) new below none_stays (terminal_rules ws code first) (get_or names_by_code code []) (every_code first code) k w h
 

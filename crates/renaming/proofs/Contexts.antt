@@ -261,7 +261,8 @@ module _ (new : ℕ → ℕ) (m : Moves new) where
     pick_found false true found found' rest rest' e p q = absurd (let z : ◌≡◌ {A = ℕ} 0 1 = cc in omega arith)
     pick_found false false found found' rest rest' e p q = q
 
-    break_from : (s : List Entry) (b : ℕ) (top : Bool) (above : ℕ) → break_target_from (map (renamed_entry new) s) (new b) top above ≡ Option.map (renamed_resolution new) (break_target_from s b top above)
+    break_from : (s : List Entry) (b : ℕ) (top : Bool) (above : ℕ)
+        → break_target_from (map (renamed_entry new) s) (new b) top above ≡ Option.map (renamed_resolution new) (break_target_from s b top above)
     unfolding break_target_from
     break_from [] b top above = refl
     break_from (entry ∷ below) b top above =

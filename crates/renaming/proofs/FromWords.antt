@@ -89,7 +89,13 @@ module _ (new old : ℕ → ℕ) (ws ws' : List ℕ) (p : Promise ws) (g : Renam
           column 9 (omega arith),
           column 10 (omega arith),
         )
-        (ap (λ (x : Terminal). record { first = block_word ws b 0; count = block_word ws b 1; terminal = x; id = block_word ws b 8; span = record { from = block_word ws b 9; to = block_word ws b 10 } })
+        (ap (λ (x : Terminal). record {
+          first = block_word ws b 0;
+          count = block_word ws b 1;
+          terminal = x;
+          id = block_word ws b 8;
+          span = record { from = block_word ws b 9; to = block_word ws b 10 };
+        })
         (terminal_same new (one_old (block_count ws) new old g) none_stays (block_word ws b 3) (block_word ws b 4) (block_word ws b 5) (block_word ws b 6)
         (block_word ws b 7) (block_word ws b 2) (omega (arith, code_known ws p b h))))
 

@@ -3,7 +3,8 @@ use mathlib.Core.Path.{◌≡◌, refl}
 use Prim.Native.Nat.{ℕ}
 use mathlib.Core.List.{List, [], ◌∷◌, ◌++◌, map}
 use mathlib.Core.Option.{none, some}
-use Rattle.table.specs.Table.{Table, Block, Case, Terminal, absent, return, goto, if, switch, for, Break, no_block, table_of, tabulate, block_of, case_of, instruction_of, terminal_of, unless_none, variant_of}
+use Rattle.table.specs.Table.{Table, Block, Case, Terminal, absent, return, goto, if, switch, for, Break}
+use Rattle.table.specs.Table.{no_block, table_of, tabulate, block_of, case_of, instruction_of, terminal_of, unless_none, variant_of}
 use Rattle.table.specs.Words.{word, entry_word, block_count, instruction_count, case_count, place_count, identifier_count, blocks_begin, instructions_begin, cases_begin}
 use Rattle.table.specs.Words.{places_begin, identifiers_begin, block_word, instruction_word, case_word, place_word, identifier_word}
 use Rattle.table.specs.Lines.{named_by}

@@ -128,7 +128,8 @@ module _ (new : ℕ → ℕ) (m : Moves new) (t : Table) (blocks : List Block) (
   ended_alike r (some w) at = refl
 
   module _ (visit visit' : VisitValueBlock) (va : ValuesAlike new visit visit') where
-    test_alike : (b : ℕ) (span : Span) (v at : ℕ) → Alike new (λ a a'. a' ≡ renamed_test new a) (visit_test_block t visit b span v at) (visit_test_block (there new t blocks) visit' (new b) span v (new at))
+    test_alike : (b : ℕ) (span : Span) (v at : ℕ)
+        → Alike new (λ a a'. a' ≡ renamed_test new a) (visit_test_block t visit b span v at) (visit_test_block (there new t blocks) visit' (new b) span v (new at))
     unfolding visit_test_block ValuesAlike
     test_alike b span v at =
         alike_by new (renamed_value new) _ _ _ _ _ (va b none span v) (λ r.
@@ -170,7 +171,8 @@ module _ (new : ℕ → ℕ) (m : Moves new) (t : Table) (blocks : List Block) (
     end_alike (scope pruned block fallthrough number) id span v at = (refl, (λ _. refl), refl)
 
     then_alike : (x : Terminal) (b : ℕ) (k : Block) (span : Span) (v : ℕ)
-        → Alike new (SameValue new) (terminal_then_fallthrough t visit x b k span v) (terminal_then_fallthrough (there new t blocks) visit' (renamed_terminal new x) (new b) (renamed_block new k) span v)
+        → Alike new (SameValue new) (terminal_then_fallthrough t visit x b k span v)
+        (terminal_then_fallthrough (there new t blocks) visit' (renamed_terminal new x) (new b) (renamed_block new k) span v)
     unfolding then_fallthrough ValuesAlike
     then_alike x b k span v =
         alike_by new (renamed_end new) (SameValue new) _ _ _ _ (end_alike x k.id k.span v b) (λ init.

@@ -190,7 +190,8 @@ map_drop f zero l = refl
 map_drop f (suc n) [] = refl
 map_drop f (suc n) (x ∷ l) = map_drop f n l
 
-cases_renamed : (new : ℕ → ℕ) (t : Table) (blocks : List Block) (first number : ℕ) → cases_last_first (renamed_table new blocks t) first number ≡ map (renamed_case new) (cases_last_first t first number)
+cases_renamed : (new : ℕ → ℕ) (t : Table) (blocks : List Block) (first number : ℕ)
+    → cases_last_first (renamed_table new blocks t) first number ≡ map (renamed_case new) (cases_last_first t first number)
 unfolding cases_last_first
 cases_renamed new t blocks first number =
     ap (λ (l : List Case). reverse (take number l)) (map_drop (renamed_case new) first t.cases)
@@ -297,7 +298,8 @@ module _ (new : ℕ → ℕ) (m : Moves new) (t : Table) (blocks : List Block) (
         ends {v} e = rw e (end_alike new m t blocks moved visit visit' va x k.id k.span v at)
 
     terminal_alike : (a : Around) (x : Terminal) (at : ℕ) (k : Block) (c c' : Context) → Alongside new c c'
-        → Alike new (SameStep new) (visit_terminal t visit traverse a x at k c) (visit_terminal there visit' traverse' (renamed_around new a) (renamed_terminal new x) (new at) (renamed_block new k) c')
+        → Alike new (SameStep new) (visit_terminal t visit traverse a x at k c)
+        (visit_terminal there visit' traverse' (renamed_around new a) (renamed_terminal new x) (new at) (renamed_block new k) c')
     unfolding visit_terminal WalkAlike
     terminal_alike ar absent at k c c' h = (refl, (λ _. refl), h.visits)
     terminal_alike ar unreachable at k c c' h = (refl, refl, h)

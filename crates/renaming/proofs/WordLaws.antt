@@ -238,7 +238,9 @@ module _ (new old : ℕ → ℕ) (ws a b : List ℕ) (p : RenamedWords new old w
   blocks_same = by_rows 11 Same 6 (block_count ws) (omega arith) (λ i h k l. p.block i h k l ∙ sym (q.block i h k l))
 
   instructions_same : (j : ℕ) → instructions_begin ws ≤ j → j < instructions_begin ws + instruction_count ws * 7 → Same j
-  instructions_same = by_rows 7 Same (instructions_begin ws) (instruction_count ws) (omega arith) (λ i h k l. instruction_word_lem new old ws a p i h k l ∙ sym (instruction_word_lem new old ws b q i h k l))
+  instructions_same =
+      by_rows 7 Same (instructions_begin ws) (instruction_count ws) (omega arith)
+      (λ i h k l. instruction_word_lem new old ws a p i h k l ∙ sym (instruction_word_lem new old ws b q i h k l))
 
   cases_same : (j : ℕ) → cases_begin ws ≤ j → j < cases_begin ws + case_count ws * 2 → Same j
   cases_same = by_rows 2 Same (cases_begin ws) (case_count ws) (omega arith) (λ i h k l. case_word_lem new old ws a p i h k l ∙ sym (case_word_lem new old ws b q i h k l))

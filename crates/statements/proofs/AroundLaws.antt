@@ -15,17 +15,17 @@ use Rattle.table.specs.Table.{table_of, terminal_at}
 use Rattle.definition.specs.Around.{Rule, rust, language, Around, Enclosing, a_loop, a_switch, another, is_label, kind_by, unnamed, break_kind_in, break_unnamed, continue_unnamed}
 use Rattle.definition.specs.Context.{Resolution}
 use Rattle.machine.specs.Goal.{Goal, break_goal, continue_goal, surveyed_break, surveyed_continue}
-use Rattle.definition.specs.Tree.{Kind, implicit, labeled, unlabeled, kind_number}
+use Rattle.definition.specs.Tree.{Kind, implicit, labeled, unlabeled}
 use Rattle.machine.specs.Machine.{enclosing_by, enclosings, around_of}
 use Rattle.machine.specs.Survey.{Survey, unseen, pass, survey}
 use Rattle.machine.proofs.Goals.{break_surveyed, continue_surveyed, break_rust, continue_rust}
 use Rattle.definition.proofs.Steps.{true_false}
-use Rattle.control.specs.Pass.{asks_around, passed_from, target_sought, unseen_by}
+use Rattle.control.specs.Pass.{passed_from, target_sought, unseen_by}
 use Rattle.statements.specs.declared.plan.Frame.{Frame}
 use Rattle.statements.specs.Plans.{no_frame, frames_of}
 use Rattle.statements.specs.declared.search.Jump.{Jump}
 use Rattle.statements.specs.declared.search.Jump.TheVariants as jump
-use Rattle.statements.specs.Search.{asked_of, asks_of, goal_by, surveyed_by, enough_for, known_by}
+use Rattle.statements.specs.Search.{asks_of, goal_by, surveyed_by, enough_for, known_by}
 
 -- what a pass over all that is around gives, where it was asked; an Implicit jump does not depend on it
 module _ (around : Around) (seen : Survey) (found : Resolution) (by : around.rule ≡ language) where
@@ -167,21 +167,3 @@ module _ (w : List ℕ) (frames : List Frame) (depth : ℕ) where
           by language y = ap some
               (labeled_same f (survey f.target (enclosings (table_of w) (frames_of frames depth)) (unseen f.loops)) (survey f.target (enclosings (table_of w) (frames_of frames 0)) looked) e
               (all ∙ sym (named_kept f.target (enclosings (table_of w) (frames_of frames 0)) looked m)))
-
--- ---- whether they are asked
-
-pub asked_implicit : (rule : Rule) (found : Resolution) → kind_number found.kind ≡ 0 → asks_of rule (some found) ≡ false
-asked_implicit rule found e = at found.kind e
-  where
-    at : (k : Kind) → kind_number k ≡ 0 → asked_of k (asks_around rule (some found)) ≡ false
-    at implicit e = refl
-    at labeled e = absurd (omega (arith, e))
-    at unlabeled e = absurd (omega (arith, e))
-
-pub asked_explicit : (rule : Rule) (found : Resolution) → (kind_number found.kind ≡ 0 → ⊥) → asks_of rule (some found) ≡ asks_around rule (some found)
-asked_explicit rule found e = at found.kind e
-  where
-    at : (k : Kind) → (kind_number k ≡ 0 → ⊥) → asked_of k (asks_around rule (some found)) ≡ asks_around rule (some found)
-    at implicit e = absurd (e refl)
-    at labeled e = refl
-    at unlabeled e = refl

@@ -51,7 +51,8 @@ module _ {w : List ℕ} (p : Position) {x c a : ℕ} (ends : Ends w p.block (bra
       | false ↦ ok (visiting c (machine.frame_of p.block none 0 R p.count ∷ F) R 0 C)
     ]
 
-    branch_is_lem : (y : Bool) (F : List machine.Frame) (R : Output) (C : definition.Context) → is_scheduled C c ≡ y → terminal_step_in around w p F R C ≡ turned y (block_at (table_of w) p.block).id F R C
+    branch_is_lem : (y : Bool) (F : List machine.Frame) (R : Output) (C : definition.Context) → is_scheduled C c ≡ y
+        → terminal_step_in around w p F R C ≡ turned y (block_at (table_of w) p.block).id F R C
     unfolding terminal_turn branch_turn
     branch_is_lem y F R C q = step_in around w p _ F R C ends.is ∙ ap (λ (z : Bool). turned z (block_at (table_of w) p.block).id F R C) q
 
@@ -115,11 +116,16 @@ module _ {w : List ℕ} (p : Position) {x c a : ℕ} (ends : Ends w p.block (bra
           fitting = tt;
         })
 
-        pub branch_other : {done : Jumped} (op n rows' : ℕ) (plan : Plan) (b' : List ℕ) → jump ≡ Ok done → op ≡ 9 → n ≡ done.count → Written b₁ done.rows (row op n 0 0 0 0) b' rows' → has S a || has H a ≡ false
+        pub branch_other : {done : Jumped} (op n rows' : ℕ) (plan : Plan) (b' : List ℕ) → jump ≡ Ok done → op ≡ 9 → n ≡ done.count
+            → Written b₁ done.rows (row op n 0 0 0 0) b' rows' → has S a || has H a ≡ false
             → plan ≡ nesting a (second (open_frame p None 0)) (p.depth + 1) rows' p.visits None None None → Planned (terminal_step_in around w p) On [] p.depth p.rows b (Ok plan) b'
         branch_other {done} op n rows' plan b' z o₉ counted h f e = subst (λ (k : Plan). Planned (terminal_step_in around w p) On [] p.depth p.rows b (Ok k) b') (sym e) (record {
           out = jump_out st ++ (row op n 0 0 0 0 ∷ []);
-          held = λ before k. rw (sym (append_assoc before (jump_out st) (row op n 0 0 0 0 ∷ []))) (row_held b₁ b' done.rows rows' (row op n 0 0 0 0) h (before ++ jump_out st) ((subst (λ (r : std.Result Jumped Refused). IfOk r (λ jumped. (before : List Row) → Holds b p.rows (pushed before []) → Holds b₁ jumped.rows (pushed (before ++ jump_out st) []))) z met.held) before k));
+          held = λ before k.
+              let jumped_held = subst (λ (r : std.Result Jumped Refused). IfOk r (λ jumped. (before : List Row) → Holds b p.rows (pushed before [])
+              → Holds b₁ jumped.rows (pushed (before ++ jump_out st) []))) z met.held in
+              rw (sym (append_assoc before (jump_out st) (row op n 0 0 0 0 ∷ [])))
+              (row_held b₁ b' done.rows rows' (row op n 0 0 0 0) h (before ++ jump_out st) (jumped_held before k));
           same =
               λ F R C d o. ap turn (went F R C z o ∙ into_free a 19 p.block _ F _ C
               (seen_scheduled S H p.visits C o.sets a ∙ f)) ∙ turn_ok _
@@ -131,5 +137,7 @@ module _ {w : List ℕ} (p : Position) {x c a : ℕ} (ends : Ends w p.block (bra
           where
             rows_are : (R : Output) → (R ⊕ jump_out st) ⊕ (block_row (added st 0) ∷ []) ≡ R ⊕ (jump_out st ++ (row op n 0 0 0 0 ∷ []))
             rows_are R =
-                ap (λ (k : ℕ). (R ⊕ jump_out st) ⊕ (block_row k ∷ [])) (sym (counted ∙ subst (λ (r : std.Result Jumped Refused). IfOk r (λ jumped. jumped.count ≡ added st 0)) z met.count)) ∙ ap (λ (k : ℕ). (R ⊕ jump_out st) ⊕ (row k n 0 0 0 0 ∷ []))
-                (sym o₉) ∙ out_assoc R (jump_out st) (row op n 0 0 0 0 ∷ [])
+                let added_is = counted ∙ subst (λ (r : std.Result Jumped Refused). IfOk r (λ jumped. jumped.count ≡ added st 0)) z met.count in
+                ap (λ (k : ℕ). (R ⊕ jump_out st) ⊕ (block_row k ∷ [])) (sym added_is)
+                ∙ ap (λ (k : ℕ). (R ⊕ jump_out st) ⊕ (row k n 0 0 0 0 ∷ [])) (sym o₉)
+                ∙ out_assoc R (jump_out st) (row op n 0 0 0 0 ∷ [])

@@ -69,7 +69,8 @@ or_none_lem n = at (eqb n largest) refl
     at false e = refl
 
 -- what the code of each terminal returns, by what its readers say
-module _ {w : List ℕ} (frame : Frame) {r : ClosingRow} {first count id taken : ℕ} {span : Span} (heads : Heads w frame.block first count id span) (labelled : taken ≡ or_none (maybe_of frame.label)) where
+module _ {w : List ℕ} (frame : Frame) {r : ClosingRow} {first count id taken : ℕ} {span : Span}
+    (heads : Heads w frame.block first count id span) (labelled : taken ≡ or_none (maybe_of frame.label)) where
   module _ {test alternate : ℕ} (later : alternate ≡ flag_of frame.second) (is : row_of r ≡ row 10 test alternate id taken 0) where
     pub if_closes : {c a f : ℕ} → Ends w frame.block (if test c a f) → row_of r ≡ closing_row_at w frame
     unfolding closing_row_of

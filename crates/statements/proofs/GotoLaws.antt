@@ -50,7 +50,8 @@ jump_plan p (Err e) = Err e
 
 pub jump_planned : (around : Around) (w : List ℕ) (p : Position) (On : definition.Context → Type 0) (outcome : definition.Context
     → Result (Option Statement)) (O : Flags) (b : List ℕ) (jump : std.Result Jumped Refused) (b' : List ℕ) (plan : std.Result Plan Refused)
-    → ((F : List machine.Frame) (R : Output) (C : definition.Context) → On C → terminal_step_in around w p F R C ≡ jump_step p outcome F R C) → ((C : definition.Context) → On C → JumpSeen O p.visits C)
+    → ((F : List machine.Frame) (R : Output) (C : definition.Context) → On C → terminal_step_in around w p F R C ≡ jump_step p outcome F R C)
+    → ((C : definition.Context) → On C → JumpSeen O p.visits C)
     → JumpMet outcome O p.visits p.rows b jump b' → plan ≡ jump_plan p jump → Planned (terminal_step_in around w p) On [] p.depth p.rows b plan b'
 unfolding ◌>>=◌
 jump_planned around w p On outcome O b jump b' plan step seen met e = subst (λ (z : std.Result Plan Refused). Planned (terminal_step_in around w p) On [] p.depth p.rows b z b') (sym e) (by jump met)

@@ -32,7 +32,8 @@ use Rattle.statements.proofs.RowPlanLaws.{row_held}
 bare : (n : ℕ) (b : List ℕ) → (before : List Row) → Holds b n (stack.pushed before []) → Holds b n (stack.pushed (before ++ []) [])
 bare n b before h = rw (append-nil before) h
 
-pub break_none : (at block id : ℕ) (O : Flags) (v n : ℕ) (b : List ℕ) (r : std.Result Jumped Refused) → r ≡ Err (refused_after (NoBreakTarget block) v) → JumpMet (break_outcome at block id None) O v n b r b
+pub break_none : (at block id : ℕ) (O : Flags) (v n : ℕ) (b : List ℕ) (r : std.Result Jumped Refused) → r ≡ Err (refused_after (NoBreakTarget block) v)
+    → JumpMet (break_outcome at block id None) O v n b r b
 unfolding break_to
 break_none at block id O v n b r e = subst (λ (z : std.Result Jumped Refused). JumpMet (break_outcome at block id None) O v n b z b) (sym e)
     (record { statement = none; same = λ C s. ap (λ (k : ℕ). refused 20 block k) s.visits; held = tt; count = tt; most = tt })
@@ -100,7 +101,8 @@ module _ (at id : ℕ) (O : Flags) (v n : ℕ) (goal : Goal) where
     most = omega (arith, w.count);
   })
 
-pub continue_none : (at block id v n : ℕ) (b : List ℕ) (r : std.Result Jumped Refused) → r ≡ Err (refused_after (NoContinueTarget block) v) → (O : Flags) → JumpMet (continue_outcome at block id None) O v n b r b
+pub continue_none : (at block id v n : ℕ) (b : List ℕ) (r : std.Result Jumped Refused) → r ≡ Err (refused_after (NoContinueTarget block) v)
+    → (O : Flags) → JumpMet (continue_outcome at block id None) O v n b r b
 unfolding continue_to ◌>>=◌
 continue_none at block id v n b r e O = subst (λ (z : std.Result Jumped Refused). JumpMet (continue_outcome at block id None) O v n b z b) (sym e)
     (record { statement = none; same = λ C s. ap (λ (k : ℕ). refused 21 block k) s.visits; held = tt; count = tt; most = tt })

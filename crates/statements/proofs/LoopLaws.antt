@@ -62,7 +62,8 @@ use Rattle.statements.specs.Planned.{Seen, Stands, Reaches, NamedChange, Fitting
 use Rattle.statements.specs.Loops.{Made, plain_made, flat_made, tested_values, for_values, for_of_values, none_made, value_made, plain_form, flat_form}
 use Rattle.statements.specs.Loops.{update_made, made_by, values_at, values_position, Making, values_step, PlannedValues, tally_of, Makes, Spent, MakesMore, MakesTested}
 use Rattle.statements.specs.Loops.{refusing_value, scheduling_loop, scheduling_value, entering_body, loop_taken, is_value, value_fallthrough}
-use Rattle.statements.proofs.PlanLaws.{within_all, within_rest, visits_same, refused_applied, leave_applied, leave_nested, nest_applied, values_asked, off_changed, Label, label_taken, label_entries, label_if}
+use Rattle.statements.proofs.PlanLaws.{within_all, within_rest, visits_same, refused_applied, leave_applied, leave_nested}
+use Rattle.statements.proofs.PlanLaws.{nest_applied, values_asked, off_changed, Label, label_taken, label_entries, label_if}
 use Rattle.statements.proofs.StepLaws.{label_scheduled, seen_scheduled, turn_refused, turn_ok, turn_asked}
 use Rattle.statements.proofs.RefusalLaws.{refusal_planned}
 use Rattle.statements.proofs.VisitLaws.{named_if}
@@ -230,7 +231,8 @@ module _ (w : List ℕ) (S H : Flags) (p : Position) (en : Entered w p) where
   Turns f c l n = (F : List machine.Frame) (R : Output) (C : definition.Context) → Seen S H p.visits C
       → turn (terminal_step w p F R C) ≡ turn (schedule_loop p.block f c l (maybe_of n) F R p.count C)
 
-  loop_planned : (f c l : ℕ) (n : std.Option ℕ) (plan : Plan) → Turns f c l n → block_count w ≤ 1024 → (f < block_count w) × (c < block_count w) × (l < block_count w) → plan ≡ scheduling_loop (loop_taken S H l f) p (blocks_of f n c l)
+  loop_planned : (f c l : ℕ) (n : std.Option ℕ) (plan : Plan) → Turns f c l n → block_count w ≤ 1024
+      → (f < block_count w) × (c < block_count w) × (l < block_count w) → plan ≡ scheduling_loop (loop_taken S H l f) p (blocks_of f n c l)
       → PlannedBare w S H p (Ok plan)
   loop_planned f c l n plan turns few h q = subst (λ (z : Plan). PlannedBare w S H p (Ok z)) (sym q)
       (bare_planned w S H p (Ok (scheduling_loop (loop_taken S H l f) p (blocks_of f n c l))) refl
@@ -304,7 +306,8 @@ module _ {w : List ℕ} {S H : Flags} {p : Position} (en : Entered w p) where
         ∙ reach_same w S H p f n z.0 z.1
         (λ taken. schedule_loop p.block f c l taken F R p.count C) C seen) ends.few (ends.named.2, ends.named.0, ends.named.1) q
 
-  pub for_scheduled : {init test : ℕ} (update : std.Option ℕ) {l f c : ℕ} {n : std.Option ℕ} {plan : Plan} → Ends w p.block (for init test (maybe_of update) l f) → c ≡ unwrap_or update test → Takes S H f n
+  pub for_scheduled : {init test : ℕ} (update : std.Option ℕ) {l f c : ℕ} {n : std.Option ℕ} {plan : Plan}
+      → Ends w p.block (for init test (maybe_of update) l f) → c ≡ unwrap_or update test → Takes S H f n
       → Schedules S H p plan f n c l → PlannedBare w S H p (Ok plan)
   unfolding terminal_turn
   for_scheduled {init} {test} update {l} {f} {c} {n} {plan} ends continues o q =
@@ -433,7 +436,9 @@ none_before t walk (ends.PrunedScope x) span made h = refl
 module _ {w : List ℕ} {q : Position} (en : Entered w q) {b b' : List ℕ} {r : std.Result Tally Refused} where
   pub by_terminal : (e : Terminal) → terminal_at (table_of w) q.block ≡ e
       → Makes q (made_by (table_of w) (visit_value_block (table_of w) (127 - q.depth)) e (block_at (table_of w) q.block).span (none_made q.visits)) b r b' → Makes q (values_at w q) b r b'
-  by_terminal e is m = subst (λ (z : Terminal). Makes q (made_by (table_of w) (visit_value_block (table_of w) (127 - q.depth)) z (block_at (table_of w) q.block).span (none_made q.visits)) b r b') (sym is) m
+  by_terminal e is m =
+      subst (λ (z : Terminal). Makes q (made_by (table_of w) (visit_value_block (table_of w) (127 - q.depth)) z (block_at (table_of w) q.block).span (none_made q.visits)) b r b')
+      (sym is) m
 
   pub while_made : {test l f : ℕ} {before : Tally} → Ends w q.block (while test l f) → before ≡ tally_of q → MakesMore q (plain_made w q test) before b r b' → Makes q (values_at w q) b r b'
   while_made ends start m = by_terminal _ ends.is (first_made _ start m)
@@ -454,14 +459,17 @@ module _ (w : List ℕ) (p : Position) (frame : Frame) (ma : Making w p frame) w
     on : (body : std.Option ℕ) → List machine.Frame → Output → definition.Context → Made → Result State
     on body F R C made = into_body (maybe_of body) made.visits (frame_of frame) F (R ⊕ made.out) C
 
-    step_is : (body : std.Option ℕ) (F : List machine.Frame) (R : Output) (C : definition.Context) → C.visits ≡ p.visits → values_step w p body frame F R C ≡ values_at w (values_position p frame) >>= on body F R C
+    step_is : (body : std.Option ℕ) (F : List machine.Frame) (R : Output) (C : definition.Context) → C.visits ≡ p.visits
+        → values_step w p body frame F R C ≡ values_at w (values_position p frame) >>= on body F R C
     unfolding on
     step_is body F R C v =
         let e : 128 - p.depth ≡ 127 - (p.depth - 1) = omega (arith, ma.depth, ma.deep) in
-        values_made (table_of w) (visit_value_block (table_of w) (128 - p.depth)) (block_at (table_of w) frame.block) (maybe_of body) (frame_of frame) F R C (terminal_at (table_of w) frame.block) looped
+        values_made (table_of w) (visit_value_block (table_of w) (128 - p.depth)) (block_at (table_of w) frame.block) (maybe_of body) (frame_of frame) F R C
+        (terminal_at (table_of w) frame.block) looped
         ∙ rw (e, v)
 
-    pub values_refused : (body : std.Option ℕ) {b b' : List ℕ} {e : Refused} {plan : std.Result Plan walk.Refused} → Makes (values_position p frame) (values_at w (values_position p frame)) b (Err e) b' → plan ≡ refusing_value e → PlannedValues w p body frame b plan b'
+    pub values_refused : (body : std.Option ℕ) {b b' : List ℕ} {e : Refused} {plan : std.Result Plan walk.Refused}
+        → Makes (values_position p frame) (values_at w (values_position p frame)) b (Err e) b' → plan ≡ refusing_value e → PlannedValues w p body frame b plan b'
     values_refused body {e = e} m q = refusal_planned e q (λ F R C v. step_is body F R C v ∙ made_off m (on body F R C))
 
     module _ {b b' : List ℕ} (r : Tally) (m : Makes (values_position p frame) (values_at w (values_position p frame)) b (Ok r) b') where
@@ -566,7 +574,8 @@ module _ {w : List ℕ} {p : Position} (pr : Promise w) (en : Entered w p) {f : 
       free : Label S n
       free = label_taken S H false f fallthrough_few
 
-      same : (F : List machine.Frame) (R : Output) (C : definition.Context) → Stands F R p.depth p.rows → Seen S H p.visits C → turn (terminal_step w p F R C) ≡ applied (Ok (scheduling_value p n)) F R C
+      same : (F : List machine.Frame) (R : Output) (C : definition.Context) → Stands F R p.depth p.rows → Seen S H p.visits C
+          → turn (terminal_step w p F R C) ≡ applied (Ok (scheduling_value p n)) F R C
       same F R C d seen =
           ap turn ((value_terminal (terminal_at (table_of w) p.block) f q).turns (table_of w) (visit_value_block (table_of w) (127 - p.depth)) p.block (block_at (table_of w) p.block) F R p.count C)
           ∙ unfold schedule_value in (turn_ok _ ∙ rw (label_scheduled S H p.visits C seen f)

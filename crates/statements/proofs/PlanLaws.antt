@@ -72,9 +72,11 @@ pub refuse_applied : (p : Position) (refusal : Refusal) (F : List machine.Frame)
 refuse_applied p refusal F R C = refused_applied (refused_after refusal p.visits) F R C
 
 -- D is the Context that the plan's change leaves
-module _ (next : std.Option ℕ) (depth count rows visits : ℕ) (change : std.Option Change) (F : List machine.Frame) (R : Output) (C D : definition.Context) (e : changed change (with_visits visits C) ≡ ok D) where
+module _ (next : std.Option ℕ) (depth count rows visits : ℕ) (change : std.Option Change)
+    (F : List machine.Frame) (R : Output) (C D : definition.Context) (e : changed change (with_visits visits C) ≡ ok D) where
   -- with a line (M-101)
-  pub leave_lined : (line : std.Option Line) → applied (Ok (with_line (leaving next depth count rows visits change) line)) F R C ≡ going (leave (maybe_of next) (within depth F) (lined line rows R) count D)
+  pub leave_lined : (line : std.Option Line)
+      → applied (Ok (with_line (leaving next depth count rows visits change) line)) F R C ≡ going (leave (maybe_of next) (within depth F) (lined line rows R) count D)
   unfolding applied
   leave_lined line =
       ap (λ (after : Result definition.Context). onward (stage_after next) (with_line (leaving next depth count rows visits change) line) F (lined line rows R) after) e ∙ at next
@@ -99,7 +101,8 @@ pub choose_asked : (frame : Frame) (depth rows visits : ℕ) (change : std.Optio
 unfolding applied
 choose_asked frame depth rows visits change F R C = refl
 
-pub choose_applied : (frame : Frame) (depth rows visits : ℕ) (change : std.Option Change) (F : List machine.Frame) (R : Output) (C D : definition.Context) → changed change (with_visits visits C) ≡ ok D
+pub choose_applied : (frame : Frame) (depth rows visits : ℕ) (change : std.Option Change) (F : List machine.Frame) (R : Output) (C D : definition.Context)
+    → changed change (with_visits visits C) ≡ ok D
     → applied (Ok (choosing_next frame depth rows visits change)) F R C ≡ going (choosing (frame_of frame) (within (depth - 1) F) R D)
 choose_applied frame depth rows visits change F R C D e =
     choose_asked frame depth rows visits change F R C ∙ ap (λ (after : Result definition.Context). unless_refused after (choosing (frame_of frame) (within (depth - 1) F) R)) e

@@ -10,7 +10,8 @@ use Rattle.definition.specs.Result.{Result}
 use Rattle.machine.specs.Machine.{State, turn}
 use Rattle.machine.specs.Machine as machine
 use Rattle.values.specs.declared.refusal.Refusal.{Refusal}
-use Rattle.values.specs.declared.refusal.Refusal.TheVariants.{MissingBlock, FallthroughReached, EmptyGoto, TestNotEndedByBranch, LabelInValueBlock, OtherKindInValueBlock, NoInstruction, TooDeep, TooManyVisits, MaybeThrowInValueTerminal}
+use Rattle.values.specs.declared.refusal.Refusal.TheVariants.{MissingBlock, FallthroughReached, EmptyGoto, TestNotEndedByBranch, LabelInValueBlock}
+use Rattle.values.specs.declared.refusal.Refusal.TheVariants.{OtherKindInValueBlock, NoInstruction, TooDeep, TooManyVisits, MaybeThrowInValueTerminal}
 use Rattle.values.specs.declared.refusal.Refused.{Refused}
 use Rattle.values.specs.Refusal.{code_of, place_of, refused_by}
 use Rattle.statements.specs.declared.refusal.Refusal as walk

@@ -111,7 +111,8 @@ module _ (w : List ℕ) (p : Position) (frame : Frame) where
       by false u = record {
         out = [];
         held = λ before h. rw (append-nil before) h;
-        same = λ F R C d seen. rw (out_nil R) (ap turn (e F R C ∙ into_free block (refusal_code r) (refusal_place r) (second_part (frame_of frame)) F R C (seen_scheduled S H p.visits C seen block ∙ u)) ∙ turn_ok _
+        same = λ F R C d seen. rw (out_nil R) (ap turn
+            (e F R C ∙ into_free block (refusal_code r) (refusal_place r) (second_part (frame_of frame)) F R C (seen_scheduled S H p.visits C seen block ∙ u)) ∙ turn_ok _
             ∙ sym (nest_applied block (second frame) p.depth p.rows p.visits None None None (frame_of frame ∷ F) R C _ refl ∙ rw
             (visits_same p.visits C seen.visits, within_rest p.depth (frame_of frame) F d.deep)));
         fitting = record { change = tt; handler = tt; scope = tt; deep = λ _. deep; next = omega arith; nested = tt };
@@ -294,7 +295,8 @@ module _ (w : List ℕ) (p : Position) (frame : Frame) where
 
 module _ (w : List ℕ) (p : Position) (frame : Frame) (ch : Choosing w p frame) where
   -- none is left
-  pub choice_closes : {S H : Flags} {buffer buffer' : List ℕ} {plan : std.Result Plan stopped.Refused} → frame.left ≡ 0 → PlannedClose w p frame buffer plan buffer' → PlannedChoice w S H p frame buffer plan buffer'
+  pub choice_closes : {S H : Flags} {buffer buffer' : List ℕ} {plan : std.Result Plan stopped.Refused} → frame.left ≡ 0
+      → PlannedClose w p frame buffer plan buffer' → PlannedChoice w S H p frame buffer plan buffer'
   unfolding choose_case
   choice_closes e m = planned_as (λ F R C. ap (λ (n : ℕ). choose_case (table_of w) columns.first columns.fallthrough n (frame_of frame) F R C) e) (λ C o. o.visits) m
     where
@@ -394,9 +396,11 @@ hand_pop (suc depth) frame h = refl
 
 module _ (w : List ℕ) (p : Position) (frame : Frame) where
   -- a plan for the frame in hand is one for the turn
-  pub turn_planned : {around : Around} {On : definition.Context → Type 0} {buffer buffer' : List ℕ} {plan : std.Result Plan stopped.Refused} {next : List machine.Frame → Output → definition.Context → Result State} (stage : Stage) (top : List machine.Frame)
+  pub turn_planned : {around : Around} {On : definition.Context → Type 0} {buffer buffer' : List ℕ} {plan : std.Result Plan stopped.Refused}
+      {next : List machine.Frame → Output → definition.Context → Result State} (stage : Stage) (top : List machine.Frame)
       → p.stage ≡ stage → in_hand stage p.depth frame ≡ top
-      → ((F : List machine.Frame) (R : Output) (C : definition.Context) → Stands (top ++ F) R p.depth p.rows → step around.rule (table_of w) (state_at stage p.block (top ++ F) R p.count C) ≡ turn (next F R C))
+      → ((F : List machine.Frame) (R : Output) (C : definition.Context) → Stands (top ++ F) R p.depth p.rows
+      → step around.rule (table_of w) (state_at stage p.block (top ++ F) R p.count C) ≡ turn (next F R C))
       → ((C : definition.Context) → emitting stage p.block C ≡ C)
       → Planned next On top p.depth p.rows buffer plan buffer' → PlannedTurn w around On p frame buffer plan buffer'
   turn_planned {plan = plan} stage top e h steps still m = record {
@@ -418,7 +422,8 @@ module _ (w : List ℕ) (p : Position) (frame : Frame) where
       let at : StageFits w Pop p frame = subst (λ (s : Stage). StageFits w s p frame) e ready.stage in
       record { block = rw (length_blocks w) at at.1.framed.block; depth = at.0; rows = omega (arith, ready.rows); count = at.1.count }
 
-  pub popped : {around : Around} {buffer buffer' : List ℕ} {plan : std.Result Plan stopped.Refused} → Ready w p frame → p.stage ≡ Pop → PlannedClose w p frame buffer plan buffer' → PlannedTurn w around (Begun p.visits) p frame buffer plan buffer'
+  pub popped : {around : Around} {buffer buffer' : List ℕ} {plan : std.Result Plan stopped.Refused} → Ready w p frame → p.stage ≡ Pop
+      → PlannedClose w p frame buffer plan buffer' → PlannedTurn w around (Begun p.visits) p frame buffer plan buffer'
   unfolding step
   popped ready e m = turn_planned Pop (frame_of frame ∷ []) e (hand_pop p.depth frame (closing_at_pop ready e).depth) (λ F R C l. sym (turn_ok _)) (λ C. refl) m
 
@@ -444,7 +449,8 @@ module _ (w : List ℕ) (p : Position) (frame : Frame) where
       }
 
   -- the root
-  pub ended_root : {around : Around} (plan : Plan) (On : definition.Context → Type 0) (buffer buffer' : List ℕ) (rows : ℕ) → p.stage ≡ Ended → p.depth ≡ 0 → ((C : definition.Context) → On C → C.visits ≡ p.visits)
+  pub ended_root : {around : Around} (plan : Plan) (On : definition.Context → Type 0) (buffer buffer' : List ℕ) (rows : ℕ)
+      → p.stage ≡ Ended → p.depth ≡ 0 → ((C : definition.Context) → On C → C.visits ≡ p.visits)
       → Written buffer p.rows (row 9 p.count 0 0 0 0) buffer' rows → plan ≡ accepting rows p.visits → PlannedTurn w around On p frame buffer (Ok plan) buffer'
   unfolding step
   ended_root {around} plan On buffer buffer' rows e z on put q = rw q (record {
@@ -468,7 +474,8 @@ module _ (w : List ℕ) (p : Position) (frame : Frame) where
       root (f ∷ F) R C l o = absurd (omega arith)
 
   -- and a nested one
-  pub ended_nested : {around : Around} (plan : std.Result Plan stopped.Refused) (S H : Flags) (buffer buffer₁ buffer' : List ℕ) (rows : ℕ) → p.stage ≡ Ended → 1 ≤ p.depth → Written buffer p.rows (row 9 p.count 0 0 0 0) buffer₁ rows
+  pub ended_nested : {around : Around} (plan : std.Result Plan stopped.Refused) (S H : Flags) (buffer buffer₁ buffer' : List ℕ) (rows : ℕ)
+      → p.stage ≡ Ended → 1 ≤ p.depth → Written buffer p.rows (row 9 p.count 0 0 0 0) buffer₁ rows
       → Planned (resume_step w p frame) (Seen S H p.visits) (frame_of frame ∷ []) p.depth rows buffer₁ plan buffer' → PlannedTurn w around (Seen S H p.visits) p frame buffer plan buffer'
   unfolding step
   ended_nested plan S H buffer buffer₁ buffer' rows e deep put m =

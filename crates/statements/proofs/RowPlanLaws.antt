@@ -99,18 +99,18 @@ module _ (w : List ℕ) (S H : Flags) (p : Position) (en : Entered w p) (pruned 
   abbrev busy_now : Bool
   busy_now = scheduled_with (has S x || has H x) n x
 
-  scope_enclosed : (plan : std.Result Plan Refused) {busy : Bool} {inner : std.Result Plan Refused} → busy ≡ has S x || has H x → inner ≡ enclosing (scheduled_with busy n x) p n x (ScopeBlockScheduled p.block)
+  scope_enclosed : (plan : std.Result Plan Refused) {inner : std.Result Plan Refused} → inner ≡ enclosing busy_now p n x (ScopeBlockScheduled p.block)
       → plan ≡ scoping inner n → PlannedBare w S H p plan
   unfolding terminal_turn
-  scope_enclosed plan b i e = rw (e, i, b) (bare_planned w S H p (E busy_now) (rows busy_now) (λ F R C d seen. ap turn (step_by w p _ F R C ends.is)
+  scope_enclosed plan i e = rw (e, i) (bare_planned w S H p (E busy_now) (rows busy_now) (λ F R C d seen. ap turn (step_by w p _ F R C ends.is)
       ∙ ap (λ (g : Option ℕ). turn (into x 18 p.block (machine.frame_of p.block g (opens g) R p.count) F R (mark_scope_fallthrough_if g (scheduled_if g C)))) (label_is C seen)
       ∙ scoped_by F R C d seen busy_now refl) (fits busy_now))
 
 -- what the code of a scope returns
 module _ {w : List ℕ} {S H : Flags} {p : Position} {plan : std.Result Plan Refused} (en : Entered w p) {pruned : Bool} {x f s : ℕ} (ends : Ends w p.block (scope pruned x f s)) where
-  pub scope_nested : {n : std.Option ℕ} {busy : Bool} {inner : std.Result Plan Refused} → Takes S H f n → busy ≡ has S x || has H x
-      → inner ≡ enclosing (scheduled_with busy n x) p n x (ScopeBlockScheduled p.block) → plan ≡ scoping inner n → PlannedBare w S H p plan
-  scope_nested {n} takes b i e = scope_enclosed w S H p en pruned x f s n ends takes plan b i e
+  pub scope_nested : {n : std.Option ℕ} {inner : std.Result Plan Refused} → Takes S H f n
+      → inner ≡ enclosing (scheduled_with (has S x || has H x) n x) p n x (ScopeBlockScheduled p.block) → plan ≡ scoping inner n → PlannedBare w S H p plan
+  scope_nested {n} takes i e = scope_enclosed w S H p en pruned x f s n ends takes plan i e
 
 -- ---- Throw and Return
 

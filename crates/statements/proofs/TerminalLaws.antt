@@ -36,7 +36,7 @@ use Rattle.values.specs.Stack.{pushed, push_instruction_rows}
 use Rattle.values.proofs.StackLaws.{push_instruction_rows_after}
 use Rattle.values.specs.Met.{InstructionsPut}
 use Rattle.statements.specs.declared.plan.Stage.{Stage}
-use Rattle.statements.specs.declared.plan.Stage.TheVariants.{Visit, Halt}
+use Rattle.statements.specs.declared.plan.Stage.TheVariants.{Visit}
 use Rattle.statements.specs.declared.plan.Position.{Position}
 use Rattle.statements.specs.declared.plan.Frame.{Frame}
 use Rattle.statements.specs.declared.plan.Plan.{Plan}
@@ -177,8 +177,8 @@ module _ (w : List ℕ) (E S H Z : Flags) (p : Position) (aim : std.Option code.
     out = out;
     held = held;
     same =
-        λ F R C. subst (λ (s : Stage). Stands (in_hand s p.depth frame ++ F) R p.depth p.rows → enclosings (table_of w) (in_hand s p.depth frame ++ F) ≡ around.statements → On C → step around.rule (table_of w)
-        (state_at s b (in_hand s p.depth frame ++ F) R p.count C) ≡ applied plan (in_hand s p.depth frame ++ F) (R ⊕ out) (emitting s b C))
+        λ F R C. subst (λ (s : Stage). Stands (in_hand s p.depth frame ++ F) R p.depth p.rows → enclosings (table_of w) (in_hand s p.depth frame ++ F) ≡ around.statements → On C
+        → step around.rule (table_of w) (state_at s b (in_hand s p.depth frame ++ F) R p.count C) ≡ applied plan (in_hand s p.depth frame ++ F) (R ⊕ out) (emitting s b C))
         (sym here.stage) (λ l n o. same F R C l n o);
     fitting = ok_to plan (λ x f. subst (λ (s : Stage). Fitting (in_hand s p.depth frame) p.depth x) (sym here.stage) f) fit;
   }
@@ -207,23 +207,27 @@ module _ (w : List ℕ) (E S H Z : Flags) (p : Position) (aim : std.Option code.
       next_visit : (C : definition.Context) (q : Position) → On C → q.visits ≡ p.visits + 1 → suc C.visits ≡ q.visits
       next_visit C q o s = omega (arith, o.visits, s)
 
-      pub absent_planned : (buffer : List ℕ) (q : Position) (plan : std.Result Plan Refused) → q.visits ≡ p.visits + 1 → is_absent (terminal_at (table_of w) b) ≡ true → plan ≡ refusing q (MissingBlock b) → PlannedTurn w around On p frame buffer plan buffer
+      pub absent_planned : (buffer : List ℕ) (q : Position) (plan : std.Result Plan Refused) → q.visits ≡ p.visits + 1
+          → is_absent (terminal_at (table_of w) b) ≡ true → plan ≡ refusing q (MissingBlock b) → PlannedTurn w around On p frame buffer plan buffer
       absent_planned buffer q plan s z e = refused_turn buffer q (MissingBlock b) plan e (λ F R C l o. entering_turn F R C 10 b q.visits l
           (no_block around.rule (table_of w) b F R p.count C (omega (arith, o.visits, few)) z ∙ ap (refused 10 b) (next_visit C q o s)))
 
       module _ (present : is_absent (terminal_at (table_of w) b) ≡ false) where
-        pub emitted_planned : (buffer : List ℕ) (q : Position) (plan : std.Result Plan Refused) → q.visits ≡ p.visits + 1 → has E b ≡ true → plan ≡ refusing q (AlreadyEmitted b) → PlannedTurn w around On p frame buffer plan buffer
+        pub emitted_planned : (buffer : List ℕ) (q : Position) (plan : std.Result Plan Refused) → q.visits ≡ p.visits + 1
+            → has E b ≡ true → plan ≡ refusing q (AlreadyEmitted b) → PlannedTurn w around On p frame buffer plan buffer
         emitted_planned buffer q plan s z e = refused_turn buffer q (AlreadyEmitted b) plan e (λ F R C l o. entering_turn F R C 11 b q.visits l
             (emitted_twice around.rule (table_of w) b F R p.count C (omega (arith, o.visits, few)) present (ap (λ (k : Flags). has k b) o.emitted ∙ z) ∙ ap (refused 11 b) (next_visit C q o s)))
 
         -- the terminal's arm goes on from the instructions
-        pub entered_planned : {first count id : ℕ} {span : Span} → Heads w b first count id span → (buffer buffer₁ buffer' : List ℕ) (q : Position) (plan : std.Result Plan Refused) → has E b ≡ false → q.block ≡ b → q.depth ≡ p.depth
+        pub entered_planned : {first count id : ℕ} {span : Span} → Heads w b first count id span
+            → (buffer buffer₁ buffer' : List ℕ) (q : Position) (plan : std.Result Plan Refused) → has E b ≡ false → q.block ≡ b → q.depth ≡ p.depth
             → q.count ≡ p.count + count → q.visits ≡ p.visits + 1
             → InstructionsPut w first count buffer p.rows buffer₁ q.rows
             → Planned (terminal_step_in around w q) (AtTerminal w S H Z q aim around) [] q.depth q.rows buffer₁ plan buffer' → PlannedTurn w around On p frame buffer plan buffer'
         entered_planned {first} {count} heads buffer buffer₁ buffer' q plan z eb ed ec ev put m = planned plan (lines ++ m.out)
             (ok_to plan (λ x held before h. subst (λ (R : List Row). Holds buffer' x.position.rows (pushed R [])) (append_assoc before lines m.out) (held (before ++ lines) (written before h))) m.held)
-            (λ F R C l n o. ap turn (goes F R C l n o) ∙ m.same F (R ⊕ lines) (emit b (with_visits (suc C.visits) C)) (record { deep = l.deep ∙ sym ed; many = (stands_after lines (counted_on lines written) l).many }) (sees C o)
+            (λ F R C l n o. ap turn (goes F R C l n o)
+            ∙ m.same F (R ⊕ lines) (emit b (with_visits (suc C.visits) C)) (record { deep = l.deep ∙ sym ed; many = (stands_after lines (counted_on lines written) l).many }) (sees C o)
             ∙ entered_applied plan b (suc C.visits) F ((R ⊕ lines) ⊕ m.out) C ∙ ap (λ (X : Output). applied plan F X (emit b C)) (out_assoc R lines m.out))
             (ok_to plan (λ x f. subst (λ (d : ℕ). Fitting [] d x) ed f) m.fitting)
           where
@@ -241,7 +245,8 @@ module _ (w : List ℕ) (E S H Z : Flags) (p : Position) (aim : std.Option code.
             goes : (F : List machine.Frame) (R : Output) (C : definition.Context) → Stands F R p.depth p.rows → enclosings (table_of w) F ≡ around.statements → On C
                 → visit_turn around.rule (table_of w) b F R p.count C ≡ terminal_step_in around w q F (R ⊕ lines) (emit b (with_visits (suc C.visits) C))
             goes F R C l n o = not_deep around.rule (table_of w) b F R p.count C (omega (arith, l.deep))
-                ∙ ap (inside around.rule (table_of w) b F R p.count C) (enters around.rule (table_of w) b F R p.count C (omega (arith, o.visits, few)) present (ap (λ (k : Flags). has k b) o.emitted ∙ z))
+                ∙ ap (inside around.rule (table_of w) b F R p.count C)
+                (enters around.rule (table_of w) b F R p.count C (omega (arith, o.visits, few)) present (ap (λ (k : Flags). has k b) o.emitted ∙ z))
                 ∙ inside_ok around.rule (table_of w) b F R p.count C (emit b (with_visits (suc C.visits) C))
                 ∙ rw (eb, ed, ec, l.deep, ← n, ap length rows_are ∙ length_rows first count) refl
 
@@ -257,6 +262,3 @@ visits_ready w p frame ready e =
 
 pub shown_seen : {w : List ℕ} {E S H Z : Flags} {p : Position} {aim : std.Option code.Goal} {around : Around} {C : definition.Context} → Shown w E S H Z p aim around C → Seen S H p.visits C
 shown_seen o = record { scheduled = o.scheduled; handlers = o.handlers; visits = o.visits; wide = o.wide }
-
-pub not_halted : (w : List ℕ) (p : Position) (frame : Frame) → Ready w p frame → p.stage ≡ Halt → ⊥
-not_halted w p frame ready e = subst (λ (s : Stage). StageFits w s p frame) e ready.stage

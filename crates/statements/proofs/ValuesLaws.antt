@@ -32,11 +32,13 @@ module _ (w : List ℕ) (p : Position) (frame : Frame) where
       let at : StageFits w (Values body) p frame = subst (λ (s : Stage). StageFits w s p frame) e ready.stage in
       record { block = rw (length_blocks w) at at.1.framed.block; depth = at.0; deep = ready.depth; visits = ready.visits; rows = omega (arith, ready.rows); count = at.1.count }
 
-  pub valued : {around : Around} {buffer buffer' : List ℕ} {plan : std.Result Plan Refused} {body : std.Option ℕ} → Ready w p frame → p.stage ≡ Values body → PlannedValues w p body frame buffer plan buffer'
+  pub valued : {around : Around} {buffer buffer' : List ℕ} {plan : std.Result Plan Refused} {body : std.Option ℕ} → Ready w p frame
+      → p.stage ≡ Values body → PlannedValues w p body frame buffer plan buffer'
       → PlannedTurn w around (SameVisits p) p frame buffer plan buffer'
   unfolding step
   valued {body = body} ready e m =
       turn_planned w p frame (Values body) (frame_of frame ∷ []) e (hand_values body p.depth frame (making ready e).depth) (λ F R C l.
       let n : depth_left F ≡ 128 - p.depth = omega (arith, l.deep) in
-      ap (λ (z : ℕ). turn (make_at (table_of w) (visit_value_block (table_of w) z) (terminal_at (table_of w) frame.block) (block_at (table_of w) frame.block) (maybe_of body) (frame_of frame) F R C)) n)
+      ap (λ (z : ℕ). turn (make_at (table_of w) (visit_value_block (table_of w) z)
+      (terminal_at (table_of w) frame.block) (block_at (table_of w) frame.block) (maybe_of body) (frame_of frame) F R C)) n)
       (λ C. refl) m

@@ -52,7 +52,8 @@ enclosing_rows false p n block r = refl
 
 module _ (w : List ℕ) (S H : Flags) (p : Position) (en : Entered w p) (e : Terminal) (f x : ℕ) (refusal : Refusal) (ends : Ends w p.block e)
     (asks : Asks w p e f (λ F R C taken. into x (refusal_code refusal) (refusal_place refusal) (here p R taken) F R (scheduled_if taken C))) (h : f < block_count w) where
-  reached_enclosed : (n : std.Option ℕ) (plan : std.Result Plan Refused) → is_absent (terminal_at (table_of w) f) ≡ false → Reached w S H f n → plan ≡ enclosing (scheduled_with (has S x || has H x) n x) p n x refusal → PlannedBare w S H p plan
+  reached_enclosed : (n : std.Option ℕ) (plan : std.Result Plan Refused) → is_absent (terminal_at (table_of w) f) ≡ false
+      → Reached w S H f n → plan ≡ enclosing (scheduled_with (has S x || has H x) n x) p n x refusal → PlannedBare w S H p plan
   reached_enclosed n plan z r o = rw o
       (reached_same w S H p en e f _ ends asks h n (enclosing busy p n x refusal) z r
       (enclosing_rows busy p n x refusal) (enclosing_fits S busy p n x refusal l)
@@ -121,17 +122,17 @@ module _ {w : List ℕ} {S H : Flags} {p : Position} (en : Entered w p) where
     pub if_missing : {e : Refused} {plan : std.Result Plan Refused} → Reaches w S H p f (Err e) → plan ≡ Err e → PlannedBare w S H p plan
     if_missing {plan = plan} z q = reached_missing w S H p en (if t c a f) f _ ends (if_asks w p t c a f) ends.named.3 plan z.0 (q ∙ ap Err z.1)
 
-    pub if_nested : {n : std.Option ℕ} {busy : Bool} {plan : std.Result Plan Refused} → Reaches w S H p f (Ok n) → busy ≡ has S c || has H c → plan ≡ enclosing (scheduled_with busy n c) p n c (ConsequentScheduled c) → PlannedBare w S H p plan
-    if_nested {n} {plan = plan} z b q = reached_enclosed w S H p en (if t c a f) f c (ConsequentScheduled c) ends (if_asks w p t c a f) ends.named.3 n plan z.0 z.1
-        (q ∙ ap (λ (y : Bool). enclosing (scheduled_with y n c) p n c (ConsequentScheduled c)) b)
+    pub if_nested : {n : std.Option ℕ} {plan : std.Result Plan Refused} → Reaches w S H p f (Ok n)
+        → plan ≡ enclosing (scheduled_with (has S c || has H c) n c) p n c (ConsequentScheduled c) → PlannedBare w S H p plan
+    if_nested {n} {plan} z q = reached_enclosed w S H p en (if t c a f) f c (ConsequentScheduled c) ends (if_asks w p t c a f) ends.named.3 n plan z.0 z.1 q
 
   module _ {x f : ℕ} (ends : Ends w p.block (label x f)) where
     pub label_absent : {e : Refused} {plan : std.Result Plan Refused} → Reaches w S H p f (Err e) → plan ≡ Err e → PlannedBare w S H p plan
     label_absent {plan = plan} z q = reached_missing w S H p en (label x f) f _ ends (label_asks w p x f) ends.named.1 plan z.0 (q ∙ ap Err z.1)
 
-    pub label_nested : {n : std.Option ℕ} {busy : Bool} {plan : std.Result Plan Refused} → Reaches w S H p f (Ok n) → busy ≡ has S x || has H x → plan ≡ enclosing (scheduled_with busy n x) p n x (LabelBlockScheduled p.block) → PlannedBare w S H p plan
-    label_nested {n} {plan = plan} z b q = reached_enclosed w S H p en (label x f) f x (LabelBlockScheduled p.block) ends (label_asks w p x f) ends.named.1 n plan z.0 z.1
-        (q ∙ ap (λ (y : Bool). enclosing (scheduled_with y n x) p n x (LabelBlockScheduled p.block)) b)
+    pub label_nested : {n : std.Option ℕ} {plan : std.Result Plan Refused} → Reaches w S H p f (Ok n)
+        → plan ≡ enclosing (scheduled_with (has S x || has H x) n x) p n x (LabelBlockScheduled p.block) → PlannedBare w S H p plan
+    label_nested {n} {plan} z q = reached_enclosed w S H p en (label x f) f x (LabelBlockScheduled p.block) ends (label_asks w p x f) ends.named.1 n plan z.0 z.1 q
 
   module _ {t i m f : ℕ} (ends : Ends w p.block (switch t i m f)) where
     pub switch_missing : {e : Refused} {plan : std.Result Plan Refused} → Reaches w S H p f (Err e) → plan ≡ Err e → PlannedBare w S H p plan
@@ -166,7 +167,8 @@ module _ {w : List ℕ} {S H : Flags} {p : Position} (en : Entered w p) where
     pub try_missing : {e : Refused} {plan : std.Result Plan Refused} → Reaches w S H p f (Err e) → plan ≡ Err e → PlannedBare w S H p plan
     try_missing {plan = plan} z q = reached_missing w S H p en (try x y f binding) f (try_rest p x y) ends (try_asks w p x y f binding) ends.named.2 plan z.0 (q ∙ ap Err z.1)
 
-    pub try_nested : {n : std.Option ℕ} {entries : ℕ} {frame : Frame} {change : std.Option Change} {inner next : Plan} → Reaches w S H p f (Ok n) → entries ≡ entries_if n → frame ≡ open_frame p n entries
+    pub try_nested : {n : std.Option ℕ} {entries : ℕ} {frame : Frame} {change : std.Option Change} {inner next : Plan}
+        → Reaches w S H p f (Ok n) → entries ≡ entries_if n → frame ≡ open_frame p n entries
         → change ≡ schedule_if n → inner ≡ nesting x frame (p.depth + 1) p.rows p.visits None None change → next ≡ with_handler inner y → PlannedBare w S H p (Ok next)
     try_nested {n} z o g k q e =
         rw (e, q, g, o, k) (reached_same w S H p en (try x y f binding) f (try_rest p x y) ends (try_asks w p x y f binding) ends.named.2 n (Ok (try_plan p x y n))
@@ -189,7 +191,8 @@ module _ {w : List ℕ} {S H : Flags} {p : Position} (en : Entered w p) where
 
   -- ---- MaybeThrow and Unreachable
 
-  pub maybe_throw_left : {f : ℕ} {n : std.Option ℕ} {next : Plan} → Ends w p.block (maybe_throw f) → Takes S H f n → next ≡ leaving n p.depth p.count p.rows p.visits None → PlannedBare w S H p (Ok next)
+  pub maybe_throw_left : {f : ℕ} {n : std.Option ℕ} {next : Plan} → Ends w p.block (maybe_throw f) → Takes S H f n
+      → next ≡ leaving n p.depth p.count p.rows p.visits None → PlannedBare w S H p (Ok next)
   unfolding terminal_turn
   maybe_throw_left {f} {n} ends q e = rw e (bare_planned w S H p (Ok (leaving n p.depth p.count p.rows p.visits None)) refl (λ F R C d seen.
       ap turn (step_by w p _ F R C ends.is) ∙ turn_ok _

@@ -29,7 +29,16 @@ use Rattle.statements.specs.Refusal.{refusal_code, refusal_place, refused_after}
 -- ---- from the code's records to the machine's
 
 abbrev pub frame_of : Frame → machine.Frame
-frame_of frame = record { block = frame.block; second = frame.second; label = maybe_of frame.label; entries = frame.entries; left = frame.left; built = frame.built; first = frame.first; count = frame.count }
+frame_of frame = record {
+  block = frame.block;
+  second = frame.second;
+  label = maybe_of frame.label;
+  entries = frame.entries;
+  left = frame.left;
+  built = frame.built;
+  first = frame.first;
+  count = frame.count;
+}
 
 abbrev pub no_frame : Frame
 no_frame = record { block = 0; label = None; entries = 0; left = 0; built = 0; first = 0; count = 0; second = false }
@@ -118,7 +127,16 @@ abbrev pub second : Frame → Frame
 second frame = record { block = frame.block; label = frame.label; entries = frame.entries; left = frame.left; built = frame.built; first = frame.first; count = frame.count; second = true }
 
 abbrev pub with_counts : Frame → (entries left built : ℕ) → Frame
-with_counts frame entries left built = record { block = frame.block; label = frame.label; entries = entries; left = left; built = built; first = frame.first; count = frame.count; second = frame.second }
+with_counts frame entries left built = record {
+  block = frame.block;
+  label = frame.label;
+  entries = entries;
+  left = left;
+  built = built;
+  first = frame.first;
+  count = frame.count;
+  second = frame.second;
+}
 
 -- on to the position, and nothing else
 abbrev pub going_on : Position → Plan

@@ -4,7 +4,8 @@ use Rattle.values.specs.Refusal.{code_of, place_of}
 use Rattle.values.specs.declared.refusal.Refused as values
 use Rattle.statements.specs.declared.refusal.Refusal.{Refusal}
 use Rattle.statements.specs.declared.refusal.Refusal.TheVariants.{MissingBlock, AlreadyEmitted, ConsequentScheduled, AlternateScheduled, CaseScheduled, LoopScheduled, LabelBlockScheduled}
-use Rattle.statements.specs.declared.refusal.Refusal.TheVariants.{ScopeBlockScheduled, BranchAlternateScheduled, NoBreakTarget, NoContinueTarget, ScopeBreak, NoSuchLabel, TooDeep, TooManyVisits, Value}
+use Rattle.statements.specs.declared.refusal.Refusal.TheVariants.{ScopeBlockScheduled, BranchAlternateScheduled, NoBreakTarget}
+use Rattle.statements.specs.declared.refusal.Refusal.TheVariants.{NoContinueTarget, ScopeBreak, NoSuchLabel, TooDeep, TooManyVisits, Value}
 use Rattle.statements.specs.declared.refusal.Refused.{Refused}
 
 -- "10 missing block (named); 11 already emitted (named); 12 If consequent scheduled (named), 13 alternate (named); 14 switch case; 16 loop scheduled or equal

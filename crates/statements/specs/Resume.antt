@@ -85,7 +85,8 @@ pub record Choosing (words : List ℕ) (p : Position) (frame : Frame) : Type 0 w
   pub case : frame.left ≤ case_count words - (switch_columns (terminal_at (table_of words) frame.block)).first
 
 -- a plan for the frame in hand
-abbrev pub PlannedFor : (step : List machine.Frame → Output → definition.Context → Result State) → (On : definition.Context → Type 0) → Position → Frame → List ℕ → std.Result Plan Refused → List ℕ → Type 0
+abbrev pub PlannedFor : (step : List machine.Frame → Output → definition.Context → Result State) → (On : definition.Context → Type 0)
+    → Position → Frame → List ℕ → std.Result Plan Refused → List ℕ → Type 0
 PlannedFor step On p frame = Planned step On (frame_of frame ∷ []) p.depth p.rows
 
 abbrev pub Begun : ℕ → definition.Context → Type 0

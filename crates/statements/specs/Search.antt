@@ -77,4 +77,5 @@ known_by (Some (jump.Continue block)) found named = false
 
 -- a search that finds what the block's terminal looks for
 pub record Searches (words : List ℕ) (scheduled_set handler_set : Flags) (block : ℕ) (found : std.Option Jump) : Type 0 where
-  pub resolves : (around : Around) (cx : definition.Context) → cx.scheduled ≡ scheduled_set → cx.catch_handlers ≡ handler_set → Resolves (terminal_at (table_of words) block) around cx (goal_by found around (found_by found cx))
+  pub resolves : (around : Around) (cx : definition.Context) → cx.scheduled ≡ scheduled_set → cx.catch_handlers ≡ handler_set
+      → Resolves (terminal_at (table_of words) block) around cx (goal_by found around (found_by found cx))

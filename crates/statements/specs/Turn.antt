@@ -128,7 +128,8 @@ emitting (Values body) block cx = cx
 emitting Halt block cx = cx
 
 -- the plan, applied, is the machine's step over the frames that are around
-pub record PlannedTurn (words : List ℕ) (around : Around) (On : definition.Context → Type 0) (p : Position) (frame : Frame) (buffer : List ℕ) (outcome : std.Result Plan Refused) (buffer' : List ℕ) : Type 0 where
+pub record PlannedTurn (words : List ℕ) (around : Around) (On : definition.Context → Type 0) (p : Position) (frame : Frame)
+    (buffer : List ℕ) (outcome : std.Result Plan Refused) (buffer' : List ℕ) : Type 0 where
   pub out : List Row
   pub held : IfOk outcome (λ plan. (before : List Row) → Holds buffer p.rows (pushed before []) → Holds buffer' plan.position.rows (pushed (before ++ out) []))
   pub same : (frames : List machine.Frame) (before : Output) (cx : definition.Context) → Stands (in_hand p.stage p.depth frame ++ frames) before p.depth p.rows

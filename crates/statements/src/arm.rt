@@ -6,8 +6,8 @@ use crate::plan::{Frame, Position};
 use crate::sets::Blocks;
 use table::Table;
 
-// The checked table, the sets, and the position of a block that is entered. (In a file of its own, with the next: a struct with a ghost field imports each `ghost use` of its file.)
-// An arm asks besides for its own terminal (`Ends`), each for another.
+// The checked table, the sets, and the position of a block that is entered. An arm asks besides for its own terminal (`Ends`), each for another.
+// (In a file of its own, with the next: a struct with a ghost field imports each `ghost use` of its file.)
 #[derive(Clone, Copy, Drop)]
 pub struct Visit<'a> {
     pub table: Table<'a>,

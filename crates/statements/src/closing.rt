@@ -100,11 +100,7 @@ fn line_at(table: Table<'_>, frame: Frame) -> Option<Line>
 pub fn unschedule_if(entries: u32) -> Option<Change>
     ensures { result ≡ unschedule_if (eqb entries 0) }
 {
-    if entries == 0 {
-        None
-    } else {
-        Some(Change::Unschedule)
-    }
+    (entries != 0).then_some(Change::Unschedule)
 }
 
 // Takes one entry off the stack. With the last one the statement is complete. (`Closing` is asked for by this function alone.)

@@ -16,7 +16,7 @@ use table::terminals::Terminal;
 pub fn unless_taken(taken: bool, block: u32) -> Option<u32>
     ensures { result ≡ unless_taken taken block }
 {
-    if taken { None } else { Some(block) }
+    (!taken).then_some(block)
 }
 
 // The fallthrough as the statement's label: none where it is scheduled.
@@ -44,10 +44,7 @@ pub fn unless_unreachable(at: Visit<'_>, fallthrough: u32) -> Result<Option<u32>
 pub fn entries_of(label: Option<u32>) -> u32
     ensures { result ≡ entries_if label }
 {
-    match label {
-        None => 0,
-        Some(_) => 1,
-    }
+    u32::from(label.is_some())
 }
 
 // An If, Label or scope is on the stack only if it has a label; a Try too.
@@ -56,12 +53,11 @@ pub fn schedule_if(label: Option<u32>) -> Option<Change>
     requires { IfSome label (λ block. block ≤ 65535) }
     ensures { result ≡ schedule_if label }
 {
-    match label {
-        None => None,
-        Some(block) => Some(Change::Schedule(ControlFlowTarget::If {
+    label.map(|block| {
+        Change::Schedule(ControlFlowTarget::If {
             block: block_id(block),
-        })),
-    }
+        })
+    })
 }
 
 // The same of a Switch. (Not one function with the last: a variant that is handed in would be a closure with a contract of its own.)
@@ -69,27 +65,25 @@ pub fn schedule_switch(label: Option<u32>) -> Option<Change>
     requires { IfSome label (λ block. block ≤ 65535) }
     ensures { result ≡ schedule_switch label }
 {
-    match label {
-        None => None,
-        Some(block) => Some(Change::Schedule(ControlFlowTarget::Switch {
+    label.map(|block| {
+        Change::Schedule(ControlFlowTarget::Switch {
             block: block_id(block),
-        })),
-    }
+        })
+    })
 }
 
-// A statement with a label and one nested block that must not be scheduled: If's consequent, Label's and a scope's block.
-// `busy` says whether the block is scheduled before the label is.
+// A statement with a label and one nested block that must not be scheduled, nor be the label: If's consequent, Label's and a scope's block.
 pub fn enclose(
     at: Visit<'_>,
-    busy: bool,
     label: Option<u32>,
     block: u32,
     refusal: Refusal,
 ) -> Result<Plan, Refused>
     requires label_bound { IfSome label (λ block. block ≤ 65535) }
-    ensures { result ≡ enclosing (scheduled_with busy label block) at.entry.p label block refusal }
+    requires block_bound { block < 1024 }
+    ensures { result ≡ enclosing (scheduled_with (has at.entry.blocks.scheduled.now block || has at.entry.blocks.catch_handlers.now block) label block) at.entry.p label block refusal }
 {
-    if label == Some(block) || busy {
+    if label == Some(block) || at.blocks.is_scheduled(block) {
         return refuse(at.p, refusal);
     }
     let frame = frame_of(at.p, label, entries_of(label));

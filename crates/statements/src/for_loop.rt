@@ -1,8 +1,7 @@
 // The arm For.
-ghost use Rattle.std.specs.Prelude.{◌-◌, ◌<◌, Ok};
-ghost use Rattle.table.specs.Words.{block_count};
+ghost use Rattle.std.specs.Prelude.{◌-◌, Ok};
 ghost use Rattle.table.specs.Columns.{maybe_of};
-ghost use Rattle.table.specs.Promise.{BelowUnlessNone, Ends};
+ghost use Rattle.table.specs.Promise.{Ends};
 ghost use Rattle.table.specs.Table.{for};
 ghost use Rattle.statements.specs.Planned.{PlannedBare};
 ghost use Rattle.statements.specs.Loops.{for_values, Makes, MakesTested};
@@ -15,29 +14,20 @@ use table::terminals::For;
 use values::refusal::Refused;
 use values::result::Tally;
 
-fn init_and_test(at: Visit<'_>, tree: &mut [u32], init: u32, test: u32) -> Result<Tally, Refused>
-    requires init_bound { init < block_count at.table.words.now }
-    requires test_bound { test < block_count at.table.words.now }
-    ensures { MakesTested at.entry.table.words.now at.entry.p init test tree.old result tree.new }
+fn init_and_test(at: Visit<'_>, tree: &mut [u32], end: For) -> Result<Tally, Refused>
+    requires ends { Ends at.table.words.now at.p.block (for end.init end.test (maybe_of end.update) end.loop_block end.fallthrough) }
+    ensures { MakesTested at.entry.table.words.now at.entry.p end.init end.test tree.old result tree.new }
 {
-    let first = flat_value(at, tree, tally_of(at.p), init)?;
-    plain_value(at, tree, first, test)
+    let first = flat_value(at, tree, tally_of(at.p), end.init)?;
+    plain_value(at, tree, first, end.test)
 }
 
-pub fn for_values(
-    at: Visit<'_>,
-    tree: &mut [u32],
-    init: u32,
-    test: u32,
-    update: Option<u32>,
-) -> Result<Tally, Refused>
-    requires init_bound { init < block_count at.table.words.now }
-    requires test_bound { test < block_count at.table.words.now }
-    requires update_bound { BelowUnlessNone (block_count at.table.words.now) (maybe_of update) }
-    ensures { Makes at.entry.p (for_values at.entry.table.words.now at.entry.p init test update) tree.old result tree.new }
+pub fn for_values(at: Visit<'_>, tree: &mut [u32], end: For) -> Result<Tally, Refused>
+    requires ends { Ends at.table.words.now at.p.block (for end.init end.test (maybe_of end.update) end.loop_block end.fallthrough) }
+    ensures { Makes at.entry.p (for_values at.entry.table.words.now at.entry.p end.init end.test end.update) tree.old result tree.new }
 {
-    let tested = init_and_test(at, tree, init, test)?;
-    match update {
+    let tested = init_and_test(at, tree, end)?;
+    match end.update {
         None => Ok(tested),
         Some(update) => plain_value(at, tree, tested, update),
     }

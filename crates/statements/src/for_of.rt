@@ -1,6 +1,5 @@
 // The arm ForOf.
-ghost use Rattle.std.specs.Prelude.{◌-◌, ◌<◌, Ok};
-ghost use Rattle.table.specs.Words.{block_count};
+ghost use Rattle.std.specs.Prelude.{◌-◌, Ok};
 ghost use Rattle.table.specs.Promise.{Ends};
 ghost use Rattle.table.specs.Table.{for_of};
 ghost use Rattle.statements.specs.Planned.{PlannedBare};
@@ -15,18 +14,12 @@ use values::refusal::Refused;
 use values::result::Tally;
 
 // (Not one function with For's `init_and_test`, which goes on to the update and so promises what is spent: here the test is flattened too.)
-pub fn for_of_values(
-    at: Visit<'_>,
-    tree: &mut [u32],
-    init: u32,
-    test: u32,
-) -> Result<Tally, Refused>
-    requires init_bound { init < block_count at.table.words.now }
-    requires test_bound { test < block_count at.table.words.now }
-    ensures { Makes at.entry.p (for_of_values at.entry.table.words.now at.entry.p init test) tree.old result tree.new }
+pub fn for_of_values(at: Visit<'_>, tree: &mut [u32], end: ForOf) -> Result<Tally, Refused>
+    requires ends { Ends at.table.words.now at.p.block (for_of end.init end.test end.loop_block end.fallthrough) }
+    ensures { Makes at.entry.p (for_of_values at.entry.table.words.now at.entry.p end.init end.test) tree.old result tree.new }
 {
-    let first = flat_value(at, tree, tally_of(at.p), init)?;
-    flat_value(at, tree, first, test)
+    let first = flat_value(at, tree, tally_of(at.p), end.init)?;
+    flat_value(at, tree, first, end.test)
 }
 
 // An arm for each loop, as in the Rust: see do_while.rt.

@@ -18,9 +18,8 @@ pub fn visit_if(at: Visit<'_>, end: If) -> Result<Plan, Refused>
     ensures { PlannedBare at.entry.table.words.now at.entry.blocks.scheduled.now at.entry.blocks.catch_handlers.now at.entry.p result }
 {
     let label = unless_unreachable(at, end.fallthrough)?;
-    let busy = at.blocks.is_scheduled(end.consequent);
     let refusal = Refusal::ConsequentScheduled(end.consequent);
-    enclose(at, busy, label, end.consequent, refusal)
+    enclose(at, label, end.consequent, refusal)
 }
 
 pub fn resume_if(at: Resume<'_>, tree: &mut [u32], end: If) -> Result<Plan, Refused>

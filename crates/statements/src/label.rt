@@ -16,7 +16,6 @@ pub fn visit_label(at: Visit<'_>, end: Label) -> Result<Plan, Refused>
     ensures { PlannedBare at.entry.table.words.now at.entry.blocks.scheduled.now at.entry.blocks.catch_handlers.now at.entry.p result }
 {
     let label = unless_unreachable(at, end.fallthrough)?;
-    let busy = at.blocks.is_scheduled(end.block);
     let refusal = Refusal::LabelBlockScheduled(at.p.block);
-    enclose(at, busy, label, end.block, refusal)
+    enclose(at, label, end.block, refusal)
 }

@@ -1,4 +1,5 @@
-// The statement walk, a turn at a time: a file for each arm of the Rust's visit_block, in its order; before them what they share, after them the turn.
+// The statement walk, a turn at a time: a file for each arm of the Rust's visit_block, in its order; before them what they share, after them
+// the turn.
 #![tactic(auto)]
 
 // What the statement walk refuses.
@@ -55,5 +56,6 @@ mod visit;
 mod second_turn;
 // Where a nested list has ended: the arm's second half, the next case, or the closing row.
 mod resume;
-// A turn of the walk: the visit of a block, the end of a nested list, a Switch's next case, an entry that comes off the stack, or a statement's values.
+// A turn of the walk: the visit of a block, the end of a nested list, a Switch's next case, an entry that comes off the stack, or a statement's
+// values.
 pub mod turn;

@@ -5,8 +5,9 @@ ghost use Rattle.statements.specs.Plans.{advanced, going_on, no_frame, open_fram
 use crate::refusal::{Refusal, Refused};
 use control::ControlFlowTarget;
 
-// What the next turn does: visit a block, resume the statement whose list has ended, take a Switch's next case, take an entry off the stack, or make the
-// values of a statement that is scheduled. Values has the body of a loop, which is visited next: none where that body is taken, and at a value statement.
+// What the next turn does: visit a block, resume the statement whose list has ended, take a Switch's next case, take an entry off the stack, or
+// make the values of a statement that is scheduled. Values has the body of a loop, which is visited next: none where that body is taken, and at a
+// value statement.
 #[derive(Clone, Copy, Drop)]
 pub enum Stage {
     Visit,
@@ -17,9 +18,10 @@ pub enum Stage {
     Halt,
 }
 
-// Where the walk stands: under `depth` frames, with `count` statements of the list in hand and `rows` rows out. `block` is the one to be visited, and 0 at
-// any stage but Visit. (A field of its own, and not of Visit, since each arm reads it.)
-// (Rows and visits stay two numbers: most arms change the rows alone.)
+// Where the walk stands: under `depth` frames, with `count` statements of the list in hand and `rows` rows out. `block` is the one to be visited,
+// and 0 at any stage but Visit. (A field of its own, and not of Visit, since each arm reads it.)
+// (Rows and visits stay two fields, and no Tally as a value gives it back: each arm hands back the next rows, and only the visit of a block and the
+// values begin visits.)
 #[derive(Clone, Copy, Drop)]
 pub struct Position {
     pub block: u32,
@@ -32,6 +34,8 @@ pub struct Position {
 
 // A statement whose nested block is still being built. `label` is the fallthrough, if that was free. `entries` is how many entries of the stack
 // are its own. Its own rows begin at row `first`.
+// (`second` is an If's, a Branch's or a Try's, `left` and `built` are a Switch's: field by field the machine's Frame, machine/specs/Machine.antt. The
+// terminal is in the table, so an enum of them would say again which statement it is.)
 #[derive(Clone, Copy, Drop)]
 pub struct Frame {
     pub block: u32,
@@ -186,6 +190,8 @@ pub fn leave(
 }
 
 // A constructor for each stage, by the definition's name (`nesting`, `choosing_next`, ..): one for all would take seven parameters.
+// (Depth, rows and visits go in one by one. They are the next position's, which an arm hands back by value: the depth by its own rule, the rows as
+// `put` gave them, the visits as they were. A struct of the three would be built at each call.)
 
 // Into a block nested in the frame's statement. The frame becomes the innermost one at that depth.
 pub fn traverse_block(
@@ -251,7 +257,8 @@ pub fn pop(frame: Frame, depth: u32, rows: u32, visits: u32) -> Plan
     }
 }
 
-// The frame's statement is scheduled, and its values are made next; a loop makes them before its body. The frame becomes the innermost one at that depth.
+// The frame's statement is scheduled, and its values are made next; a loop makes them before its body. The frame becomes the innermost one at
+// that depth.
 pub fn make_values(
     body: Option<u32>,
     frame: Frame,

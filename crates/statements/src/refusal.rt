@@ -84,7 +84,8 @@ impl Refusal {
 }
 
 // A refusal, and the visits begun before it.
-// (Not one generic type with `values`': each signature would name its refusal twice, as `Refused<Refusal>`.)
+// (A type of this crate, and no alias of a generic one that `values` would have: `?` passes a value's refusal on by the `From` below, and Rust allows
+// that impl for a type of this crate alone.)
 #[derive(Clone, Copy, Debug, PartialEq, Eq, Drop)]
 pub struct Refused {
     pub refusal: Refusal,

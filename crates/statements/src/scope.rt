@@ -12,8 +12,7 @@ pub fn visit_scope(at: Visit<'_>, end: Scope) -> Result<Plan, Refused>
     ensures { PlannedBare at.entry.table.words.now at.entry.blocks.scheduled.now at.entry.blocks.catch_handlers.now at.entry.p result }
 {
     let label = unless_scheduled(at.blocks, end.fallthrough);
-    let busy = at.blocks.is_scheduled(end.block);
     let refusal = Refusal::ScopeBlockScheduled(at.p.block);
-    let plan = enclose(at, busy, label, end.block, refusal)?;
+    let plan = enclose(at, label, end.block, refusal)?;
     Ok(with_scope(plan, label))
 }

@@ -62,23 +62,17 @@ pub fn resolve(jump: Option<Jump>, found: Entry, top: bool, loops: u32) -> Optio
 pub fn asks_around(rule: Rule, found: Option<Resolution>) -> bool
     ensures { result ≡ asks_of (rule_of rule) (resolved_of found) }
 {
-    match found {
-        None => false,
-        Some(resolution) => {
-            !matches!(resolution.kind, ReactiveTerminalTargetKind::Implicit) && asks(rule, found)
-        }
-    }
+    found.is_some_and(|resolution| {
+        resolution.kind != ReactiveTerminalTargetKind::Implicit && asks(rule, found)
+    })
 }
 
 fn enough_in(found: Option<Resolution>, named: bool) -> bool
     ensures { result ≡ enough_in (resolved_of found) named }
 {
-    match found {
-        None => false,
-        Some(resolution) => {
-            matches!(resolution.kind, ReactiveTerminalTargetKind::Labeled) && named
-        }
-    }
+    found.is_some_and(|resolution| {
+        resolution.kind == ReactiveTerminalTargetKind::Labeled && named
+    })
 }
 
 // Whether a statement that was looked at tells all that the jump asks: a Labeled break asks only whether one of those around has its label.

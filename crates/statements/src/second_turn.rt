@@ -29,8 +29,8 @@ fn loop_values(
 {
     match terminal {
         Terminal::While(end) => plain_value(at, tree, tally_of(at.p), end.test),
-        Terminal::For(end) => for_values(at, tree, end.init, end.test, end.update),
-        Terminal::ForOf(end) => for_of_values(at, tree, end.init, end.test),
+        Terminal::For(end) => for_values(at, tree, end),
+        Terminal::ForOf(end) => for_of_values(at, tree, end),
         Terminal::ForIn(end) => flat_value(at, tree, tally_of(at.p), end.init),
         _ => Ok(tally_of(at.p)),
     }

@@ -1,4 +1,5 @@
-// A turn of the walk: the visit of a block, the end of a nested list, a Switch's next case, an entry that comes off the stack, or a statement's values.
+// A turn of the walk: the visit of a block, the end of a nested list, a Switch's next case, an entry that comes off the stack, or a statement's
+// values.
 ghost use Rattle.definition.specs.Around.{Around};
 ghost use Rattle.statements.specs.Turn.{Ready, Shown, PlannedTurn};
 
@@ -14,8 +15,8 @@ use control::around::Goal;
 use table::Table;
 
 // The stages are the states of the definition's machine, so a turn goes by the stage and takes no closure.
-// (`Ready` is a clause here, of `resume` and of `choose_case`, and no ghost field as in arm.rt: it goes by cases over the stage, so a ghost field of it would
-// need a proof that it is a proposition.)
+// (`Ready` is a clause of three functions, and no ghost field as in arm.rt. It goes by cases over the stage, so a field would hold it truncated, and
+// the promises hold rows, so they are no propositions for which it could be opened; or with a proof by the same cases, which saves three clauses.)
 pub fn plan_turn(
     table: Table<'_>,
     tree: &mut [u32],

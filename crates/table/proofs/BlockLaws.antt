@@ -9,7 +9,7 @@ use lib.Dec.{eqb}
 use lib.ListN.{length}
 use borrow.Author.Tests.{eqb-true, ne_eqb}
 use Rattle.table.specs.Words.{block_count, block_word}
-use Rattle.table.specs.Table.{Block, Variant, Try, goto, branch, table_of, block_of, terminal_of, terminal_at, block_at, instruction_rows_at, rows_from, code_of, variant_of, unless_none}
+use Rattle.table.specs.Table.{Block, Variant, Try, goto, branch, table_of, block_of, terminal_of, terminal_at, block_at, rows_from, code_of, variant_of, unless_none}
 use Rattle.table.specs.Promise.{Promise}
 use Rattle.table.proofs.TableLaws.{block_at_lem}
 use Rattle.table.proofs.RangeLaws.{code_known}
@@ -27,12 +27,9 @@ module _ (ws : List ℕ) (b : ℕ) (h : b < block_count ws) where
   unfolding block_of
   span_at = ap (λ (k : Block). k.span) (block_at_lem ws b h)
 
-  pub rows_at : instruction_rows_at (table_of ws) b ≡ rows_from (block_word ws b 0) (block_word ws b 1)
-  unfolding block_of
-  rows_at = ap (λ (k : Block). rows_from k.first k.count) (block_at_lem ws b h)
-
   -- the terminal, where the code is known
-  pub end_by : (code : ℕ) → block_word ws b 2 ≡ code → terminal_at (table_of ws) b ≡ terminal_of code (block_word ws b 3) (block_word ws b 4) (block_word ws b 5) (block_word ws b 6) (block_word ws b 7)
+  pub end_by : (code : ℕ) → block_word ws b 2 ≡ code
+      → terminal_at (table_of ws) b ≡ terminal_of code (block_word ws b 3) (block_word ws b 4) (block_word ws b 5) (block_word ws b 6) (block_word ws b 7)
   end_by code e = end_at ∙ ap (λ (z : ℕ). terminal_of z (block_word ws b 3) (block_word ws b 4) (block_word ws b 5) (block_word ws b 6) (block_word ws b 7)) e
 
   pub goto_at : block_word ws b 2 ≡ 4 → (v : Variant) → variant_of (block_word ws b 4) ≡ v → terminal_at (table_of ws) b ≡ goto (block_word ws b 3) v
@@ -75,7 +72,9 @@ unfolding terminal_of
 code_of_lem code a b c d e h = eqb-true _ _ (below 22 (λ k. eqb (code_of (terminal_of k a b c d e)) k) refl code (omega arith))
 
 pub code_at_lem : (ws : List ℕ) (b : ℕ) → Promise ws → b < block_count ws → code_of (terminal_at (table_of ws) b) ≡ block_word ws b 2
-code_at_lem ws b p h = ap code_of (end_at ws b h) ∙ code_of_lem (block_word ws b 2) (block_word ws b 3) (block_word ws b 4) (block_word ws b 5) (block_word ws b 6) (block_word ws b 7) (code_known ws p b h)
+code_at_lem ws b p h =
+    ap code_of (end_at ws b h)
+    ∙ code_of_lem (block_word ws b 2) (block_word ws b 3) (block_word ws b 4) (block_word ws b 5) (block_word ws b 6) (block_word ws b 7) (code_known ws p b h)
 
 -- ---- 65,535 is no number
 
@@ -86,6 +85,3 @@ no_number = refl
 pub some_number : (n : ℕ) → (n ≡ 65535 → ⊥) → unless_none n ≡ some n
 unfolding unless_none
 some_number n h = rw (ne_eqb n 65535 h, unless_none)
-
-pub low_number : (n : ℕ) → n < 65535 → unless_none n ≡ some n
-low_number n h = some_number n (λ e. omega arith)

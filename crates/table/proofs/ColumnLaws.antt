@@ -16,7 +16,8 @@ module _ {ws : List ℕ} {b : ℕ} where
   unfolding block_of
   spans p inside eb et = rw (block_at_lem ws b inside, eb, et)
 
-  pub heads : {first count id : ℕ} {span : Span} → Promise ws → b < block_count ws → first ≡ block_word ws b 0 → count ≡ block_word ws b 1 → id ≡ block_word ws b 8 → span ≡ (block_at (table_of ws) b).span
+  pub heads : {first count id : ℕ} {span : Span} → Promise ws → b < block_count ws
+      → first ≡ block_word ws b 0 → count ≡ block_word ws b 1 → id ≡ block_word ws b 8 → span ≡ (block_at (table_of ws) b).span
       → Heads ws b first count id span
   unfolding block_of
   heads p inside ef ec ei es =

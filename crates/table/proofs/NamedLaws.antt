@@ -10,7 +10,8 @@ use lib.Seq.{take-suc, get_or-drop}
 use Rattle.std.specs.Prelude.{Option, Some, None}
 use Rattle.table.proofs.TableLaws.{length_cases}
 use Rattle.table.specs.Words.{block_count, case_count}
-use Rattle.table.specs.Table.{Table, Case, Terminal, absent, unreachable, throw, return, goto, if, branch, switch, do_while, while, for, for_of, for_in, logical, ternary, optional, label, sequence, maybe_throw, try, scope, table_of}
+use Rattle.table.specs.Table.{Table, Case, Terminal, absent, unreachable, throw, return, goto, if, branch, switch, do_while, while, for, for_of, for_in}
+use Rattle.table.specs.Table.{logical, ternary, optional, label, sequence, maybe_throw, try, scope, table_of}
 use Rattle.table.specs.Promise.{Ends, Chooses}
 use Rattle.table.specs.Lines.{case_blocks, named_by}
 use Rattle.table.specs.Named.{AllBelow, Names, names_of, present}

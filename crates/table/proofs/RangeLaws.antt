@@ -131,7 +131,8 @@ module _ (ws : List ℕ) (p : Promise ws) (b : ℕ) (inside : b < block_count ws
   in_range_lem = subst (λ (x : Block). InRange (block_count ws) (place_count ws) (case_count ws) x.terminal) (sym (block_at_lem ws b inside))
       (terminal_in_range ws (block_word ws b 2) (block_word ws b 3) (block_word ws b 4) (block_word ws b 5) (block_word ws b 6) (block_word ws b 7) fitting)
     where
-      fitting : Fitting ws (block_word ws b 2) (block_word ws b 3) (block_word ws b 4) (block_word ws b 5) (block_word ws b 6) (block_word ws b 7) (terminal_rules ws (block_word ws b 2) (block_word ws b 4))
+      fitting : Fitting ws (block_word ws b 2) (block_word ws b 3) (block_word ws b 4) (block_word ws b 5) (block_word ws b 6) (block_word ws b 7)
+          (terminal_rules ws (block_word ws b 2) (block_word ws b 4))
       fitting = record {
         fit_a = terminal_fits 0 (omega arith);
         fit_b = terminal_fits 1 (omega arith);

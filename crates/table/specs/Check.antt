@@ -1,6 +1,7 @@
 -- Paper 01, "Whoever fills the words": refusals 1 to 4 with their places, in the paper's order.
 use Rattle.std.specs.Prelude.{ℕ, zero, suc, ◌+◌, List, [], ◌∷◌, Bool, true, false, ◌||◌, ◌&&◌, get_or, length, replicate, eqb, leb, ltb}
-use Rattle.table.specs.Words.{word, entry_word, block_count, instruction_count, case_count, place_count, identifier_count, blocks_begin, instructions_begin, cases_begin, places_begin, identifiers_begin, words_needed, block_word, instruction_word, largest}
+use Rattle.table.specs.Words.{word, entry_word, block_count, instruction_count, case_count, place_count, identifier_count}
+use Rattle.table.specs.Words.{blocks_begin, instructions_begin, cases_begin, places_begin, identifiers_begin, words_needed, block_word, instruction_word, largest}
 
 pub data Verdict : Type 0 where
   accepted : Verdict

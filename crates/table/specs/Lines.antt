@@ -1,7 +1,8 @@
 -- M-110: the lines of a table's graph, "one line .. for each time a present row names a block". M-111 walks along them.
 use Rattle.std.specs.Prelude.{ℕ, zero, suc, List, [], ◌∷◌, ◌++◌, length, take, drop}
 use Rattle.std.proofs.Math.Option.{Option, none, some}
-use Rattle.table.specs.Table.{Table, Case, Terminal, absent, unreachable, throw, return, goto, if, branch, switch, do_while, while, for, for_of, for_in, logical, ternary, optional, label, sequence, maybe_throw, try, scope, terminal_at}
+use Rattle.table.specs.Table.{Table, Case, Terminal, absent, unreachable, throw, return, goto, if, branch, switch, do_while, while, for, for_of, for_in}
+use Rattle.table.specs.Table.{logical, ternary, optional, label, sequence, maybe_throw, try, scope, terminal_at}
 
 abbrev pub case_blocks : List Case → List ℕ
 case_blocks [] = []

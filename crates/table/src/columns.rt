@@ -5,7 +5,7 @@ ghost use Rattle.table.specs.Table.{table_of, block_at, operation_of};
 ghost use Rattle.table.specs.Ending.{operating};
 ghost use Rattle.table.specs.Promise.{Heads, Instructs, Operates, Chooses};
 
-use crate::table::Table;
+use crate::checked::Table;
 use crate::words::Words;
 
 // Where a block's terminal or an instruction stands in the source. 0 and 0 is none.

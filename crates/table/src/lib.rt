@@ -1,16 +1,16 @@
 // The words of a table: the readers of its columns, which index the words by what the check promises (room `table_check`), and the check's answer.
 #![tactic(auto)]
 
+pub mod checked;
 pub mod columns;
 pub mod lines;
-pub mod table;
 pub mod terminals;
 pub mod words;
 
 ghost use Rattle.std.specs.Prelude.{◌≡◌};
 ghost use Rattle.table.specs.Answer.{refusal_code, refusal_place};
 
-pub use table::Table;
+pub use checked::Table;
 
 // Why words are no table. Paper 01's code and place of each: specs/Answer.antt.
 #[derive(Clone, Copy, Debug, PartialEq, Eq)]

@@ -4,7 +4,7 @@ ghost use Rattle.table.specs.Words.{block_count};
 ghost use Rattle.table.specs.Ending.{ending};
 ghost use Rattle.table.specs.Named.{Names, no_case, names_of};
 
-use crate::table::Table;
+use crate::checked::Table;
 use crate::terminals::Terminal;
 
 // Those of the `cases` case rows from `first_case` on, then these.

@@ -6,7 +6,7 @@ ghost use Rattle.table.specs.Columns.{goto_variant, maybe_of};
 ghost use Rattle.table.specs.Ending.{ending};
 ghost use Rattle.table.specs.Promise.{Ends};
 
-use crate::table::Table;
+use crate::checked::Table;
 use crate::words::Words;
 
 #[derive(Clone, Copy)]

@@ -5,7 +5,7 @@ use mathlib.Core.List.{List, [], ◌∷◌, ◌++◌}
 use mathlib.Core.Bool.{Bool, true, false}
 use native.Mathlib.Omega.{arith}
 use borrow.Author.Tests.{lt-ltb, le-ltb}
-use native.Mathlib.Nat.{zero-mul, one-mul, add-mul}
+use native.Mathlib.Nat.{one-mul, add-mul}
 use native.Mathlib.Numerals.{add-one}
 use lib.ListN.{length, get_or, drop, drop_of_length-le}
 use Rattle.std.proofs.Common.{drop-cons}
@@ -133,12 +133,6 @@ module _ (ws : List ℕ) (at : ℕ) where
 module _ {finds : (row : ℕ) → Option ℕ → Type 0} (ws : List ℕ) (rules : ℕ → List Rule) (begin width rows : ℕ) (f : Finds finds ws begin width rows rules) where
   abbrev pub left : ℕ → Verdict
   left row = rows_verdict ws rules (begin + row * width) row (rows - row)
-
-  pub rows_first : rows_verdict ws rules begin 0 rows ≡ left 0
-  rows_first =
-      let e : begin + 0 * width ≡ begin = omega (arith, zero-mul width) in
-      let f : rows - 0 ≡ rows = omega arith in
-      rw (e, f)
 
   pub rows_last : (row : ℕ) → rows ≤ row → left row ≡ accepted
   unfolding rows_verdict

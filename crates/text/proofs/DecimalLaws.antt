@@ -84,11 +84,3 @@ decimal_ten n p =
     let w₈ = within_more 10000000 7 (omega arith) w₇ in
     let w₉ = within_more 100000000 8 (omega arith) w₈ in
     within_more 1000000000 9 (omega arith) w₉ n (omega arith)
-
--- without its last digit, at most nine
-pub decimal_nine : (n : ℕ) → 10 ≤ n → n < 2 ^ 32 → length (decimal (n / 10)) ≤ 9
-decimal_nine n h p = omega (
-  arith,
-  decimal_ten n p,
-  ap (λ (l : List ℕ). length l) (decimal_more n h) ∙ length-append (decimal (n / 10)) ((48 + n % 10) ∷ []),
-)

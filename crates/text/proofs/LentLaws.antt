@@ -7,8 +7,8 @@ use native.Mathlib.Omega.{arith}
 use native.Mathlib.Nat.{sub-zero}
 use native.Mathlib.Numerals.{add-one}
 use lib.Dec.{ltb}
-use lib.ListN.{length, take, set, replicate, length-append, length-replicate, length-set}
-use lib.Seq.{length-take-le, take_all, take-suc-set, take-append-le, take-append_seam, take-take, set_out}
+use lib.ListN.{length, take, set, replicate, length-append, length-set}
+use lib.Seq.{take_all, take-suc-set, take-append-le, set_out}
 use borrow.Author.Tests.{ltb-true, ltb-false}
 use Rattle.text.specs.Lent.{Holds, padded}
 
@@ -35,22 +35,6 @@ module _ {A : Type 0} (b : List A) (n : ℕ) (v : A) (items : List A) (h : Holds
   holds_put = record {
     counted = length-append items (v ∷ []) ∙ ap (λ (k : ℕ). k + 1) h.counted;
     held = rw (add-one n) (put_by (ltb n (length b)) refl);
-  }
-
-module _ (b : List ℕ) (n : ℕ) where
-  some_by : (fits : Bool) → ltb n (length b) ≡ fits → take n b ≡ take (length b) (take n (b ++ replicate n 0))
-  some_by true e =
-      let p : n < length b = ltb-true n (length b) e in
-      rw (take-append-le n b (replicate n 0) (omega arith)) (sym (take_all (length b) (take n b) (omega (arith, length-take-le n b (omega arith)))))
-  some_by false e =
-      let p : length b ≤ n = ltb-false n (length b) e in
-      take_all n b p ∙ sym (take-take (length b) n (b ++ replicate n 0) p ∙ take-append_seam b (replicate n 0))
-
-  -- whatever the buffer and the count, there are items that it holds: what a contract says of all of these it says of some
-  pub holds_some : Holds b n (take n (b ++ replicate n 0))
-  holds_some = record {
-    counted = length-take-le n (b ++ replicate n 0) (omega (arith, length-append b (replicate n 0), length-replicate {A = ℕ} n 0));
-    held = some_by (ltb n (length b)) refl;
   }
 
 -- what is held, if it fits

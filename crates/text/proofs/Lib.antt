@@ -11,4 +11,5 @@ pub mod ReadingLaws
 pub mod NumberLaws
 pub mod ReadingSamples
 pub mod WriteLaws
+pub mod WriterLaws
 pub mod PrintsLaws

@@ -2,6 +2,7 @@
 use mathlib.Core.Path.{◌≡◌, sym, subst, ◌∙◌}
 use mathlib.Core.List.{List, [], ◌∷◌, ◌++◌, append_assoc}
 use Rattle.std.specs.Prelude.{Result, Ok, Err}
+use Rattle.std.specs.Borrow.{Bor}
 use Prim.Native.Nat.{ℕ, zero, suc, ◌+◌, ◌-◌, ◌≤◌, ◌<◌}
 use native.Mathlib.Omega.{arith}
 use lib.Dec.{eqb}
@@ -10,13 +11,13 @@ use lib.Seq.{take_all}
 use borrow.Author.Tests.{eq-eqb, ne_eqb}
 use Rattle.text.specs.Lent.{Holds}
 use Rattle.text.specs.Layout.{layout}
-use Rattle.text.specs.Form.{Form, field, literal, row, rows, tables, whole, finished, is_zero}
-use Rattle.text.specs.Steps.{Reached, Stopped, At, NamesEnd, NamesRead, PartEnd, PartRead, RowRead, HeadRead}
-use Rattle.text.specs.declared.parts.Cursor.{Cursor}
+use Rattle.text.specs.Form.{Form, field, literal, row, rows, tables, whole, finished, is_zero, Text}
+use Rattle.text.specs.Steps.{Reached, Stopped, At, ReaderAt, NamesEnd, NamesRead, PartEnd, PartRead, RowNumbers, HeadEnd}
+use Rattle.text.specs.declared.reader.Reader.{Reader}
 use Rattle.text.specs.declared.version.Version.{Version}
 use Rattle.text.specs.declared.version.Version.TheVariants.{New}
 use Rattle.text.proofs.LentLaws.{holds_none}
-use Rattle.text.proofs.StepLaws.{reached_none}
+use Rattle.text.proofs.StepLaws.{reached_none, finished_good}
 
 -- ---- a row
 
@@ -47,27 +48,25 @@ rows_done width count i next p = let e : count - i ≡ 0 = omega arith in rw e
 
 -- ---- one part after another
 
--- a line of names is a part that has no words
-pub names_then : {file names : List ℕ} {start at : ℕ} (count : ℕ) (second : Form → Form) (s : Result Cursor ℕ) (b b' : List ℕ) → NamesEnd file names start at
-    → PartRead file second (record { at = at; count = count }) b s b' → PartRead file (λ next. literal names (second next)) (record { at = start; count = count }) b s b'
-names_then count second (Ok r) b b' h k = record {
-  near = k.near;
-  reached = λ root words next a. k.reached root words next (record { reached = h.reached root words _ a.reached; holds = a.holds });
-}
-names_then count second (Err stop) b b' h k = λ root words next a. k root words next (record { reached = h.reached root words _ a.reached; holds = a.holds })
+-- a line of names, which has no words, and then a part
+module _ {names : List ℕ} (r r₁ : Reader) (file : r₁.file ≡ r.file) (words : r₁.words ≡ r.words) (count : r₁.count ≡ r.count) (h : NamesEnd r.file.now names r.at r₁.at) where
+  named : (root : Form) (read : List ℕ) (next : Form) → ReaderAt root r read (literal names next) → ReaderAt root r₁ read next
+  named root read next a = record { reached = rw file (h.reached root read next a.reached); holds = rw (words, count) a.holds }
 
-module _ {file : List ℕ} {first : Form → Form} {c : Cursor} {b b' : List ℕ} where
-  -- two parts, the second where the first ended
-  pub part_then : {r : Cursor} (second : Form → Form) (s : Result Cursor ℕ) (b'' : List ℕ) → PartEnd file first c b r b' → PartRead file second r b' s b''
-      → PartRead file (λ next. first (second next)) c b s b''
-  part_then second (Ok end) b'' h k = record {
-    near = k.near;
-    reached = λ root words next a.
-        let (new, a') = h.reached root words (second next) a in
-        let (more, a'') = k.reached root (words ++ new) next a' in
-        (new ++ more, rw (append_assoc words new more) at a'');
-  }
-  part_then second (Err stop) b'' h k = λ root words next a. let (new, a') = h.reached root words (second next) a in k root (words ++ new) next a'
+  pub names_then : (r' : Reader) (second : Form → Form) (s : Result (Unit {0}) ℕ) → PartRead second r₁ s r' → PartRead (λ next. literal names (second next)) r s r'
+  names_then r' second (Ok _) k = record { reached = λ root read next a. k.reached root read next (named root read (second next) a) }
+  names_then r' second (Err stop) k = λ root read next a. rw (← file) (k root read next (named root read (second next) a))
+
+-- two parts, the second where the first ended
+pub part_then : {first : Form → Form} {r r' : Reader} (r'' : Reader) (second : Form → Form) (s : Result (Unit {0}) ℕ) → r'.file ≡ r.file → PartEnd first r r'
+    → PartRead second r' s r'' → PartRead (λ next. first (second next)) r s r''
+part_then r'' second (Ok _) file h k = record {
+  reached = λ root words next a.
+      let (new, a') = h.reached root words (second next) a in
+      let (more, a'') = k.reached root (words ++ new) next a' in
+      (new ++ more, rw (append_assoc words new more) at a'');
+}
+part_then r'' second (Err stop) file h k = λ root words next a. let (new, a') = h.reached root words (second next) a in rw (← file) (k root (words ++ new) next a')
 
 -- ---- the head
 
@@ -95,23 +94,32 @@ six_words {root} {file} {at} {count} next head numbers p q a =
 pub head_stops : {file : List ℕ} (stop : ℕ) → NamesRead file head_names 0 (Err stop) → (version : Version) → Stopped (whole (layout version)) file stop
 head_stops {file} stop h version = h _ [] (headed version) (begun version file)
 
-pub head_row : {file : List ℕ} {at : ℕ} (r : Result Cursor ℕ) (head head' : List ℕ) → NamesEnd file head_names 0 at → length head' ≡ 6
-    → RowRead file 6 (record { at = at; count = 0 }) head r head' → HeadRead file r head'
-head_row {file} {at} r head head' h p = by r
-  where
-    named : (version : Version) → At (whole (layout version)) file head at 0 [] (headed version)
-    named version = record { reached = h.reached _ [] (headed version) (begun version file); holds = holds_none head }
+pub head_named : {file : List ℕ} {at : ℕ} (head : List ℕ) (version : Version) → NamesEnd file head_names 0 at
+    → At (whole (layout version)) file head at 0 [] (row 6 [] λ l. tables (layout version) l finished)
+head_named {file} head version h = record { reached = h.reached _ [] (headed version) (begun version file); holds = holds_none head }
 
-    by : (r : Result Cursor ℕ) → RowRead file 6 (record { at = at; count = 0 }) head r head' → HeadRead file r head'
-    by (Ok end) k = record {
-      near = k.near;
-      reached = λ version.
-          let w = k.reached _ [] (λ l. tables (layout version) l finished) (named version) in
-          six_words (λ l. tables (layout version) l finished) head' w.numbers p w.long w.at;
-    }
-    by (Err stop) k = λ version. k _ [] (λ l. tables (layout version) l finished) (named version)
+pub head_row : {file : List ℕ} (head : List ℕ) {at : ℕ} (r : Reader) → NamesEnd file head_names 0 at → length r.words.now ≡ 6 → r.file.now ≡ file
+    → ((root : Form) (words : List ℕ) (next : List ℕ → Form) → At root file head at 0 words (row 6 [] next) → RowNumbers root 6 words next r) → HeadEnd file r.at r.words.now
+head_row {file} head {at} r h p same k = record {
+  within = rw (← same) r.within;
+  few = omega (arith, r.few, (six New).1);
+  reached = λ version. (six version).0;
+}
+  where
+    six : (version : Version) → At (whole (layout version)) file r.words.now r.at 6 r.words.now (tables (layout version) r.words.now finished) × (r.count ≡ 6)
+    six version =
+        let w = k _ [] (λ l. tables (layout version) l finished) (head_named head version h) in
+        let count : r.count ≡ 6 = omega (arith, w.at.holds.counted, w.long) in
+        (rw (same, count) at (six_words (λ l. tables (layout version) l finished) r.words.now w.numbers p w.long w.at), count)
 
 -- the same words in another buffer
 pub stored_too : {root : Form} {file buffer : List ℕ} {at count : ℕ} {words : List ℕ} {next : Form} (buffer' : List ℕ) → At root file buffer at count words next → Holds buffer' (length words) words
     → At root file buffer' at count words next
 stored_too {words = words} buffer' a h = record { reached = a.reached; holds = subst (λ (k : ℕ). Holds buffer' k words) a.holds.counted h }
+
+-- a reader at the end of its file has read a good one: `left` is what it leaves in the buffer that it was lent
+pub read_done : {root : Form} {file : Bor (List ℕ)} {left words : List ℕ} (r : Reader) → r.file ≡ file → left ≡ r.words.now → length file.now ≤ r.at
+    → ReaderAt root r words finished → (all : List ℕ) × Text root file.now all × Holds left r.count all
+read_done {words = words} r file left p a =
+    let end : r.at ≡ length r.file.now = omega (arith, r.within, rw (← file) at p) in
+    (words, rw (← file) (finished_good _ _ _ a.reached end), rw left a.holds)

@@ -1,63 +1,66 @@
 -- From the text in the buffer to the answer of the entry that wrote it.
-use Rattle.std.specs.Prelude.{Ok, Err}
-use Prim.Native.Nat.{ℕ, ◌-◌, ◌≤◌, ◌<◌}
+use Rattle.std.specs.Prelude.{Result, Ok, Err}
+use Rattle.std.specs.Result.{is_err}
+use Prim.Native.Nat.{ℕ, ◌≤◌}
 use native.Mathlib.Omega.{arith}
-use mathlib.Core.Path.{◌≡◌, refl, sym, ap, ◌∙◌}
+use mathlib.Core.Path.{◌≡◌, refl, sym, ap, ap₂}
 use mathlib.Core.Bool.{Bool, true, false}
-use mathlib.Core.List.{List, [], ◌++◌}
+use mathlib.Core.List.{List, []}
 use native.Mathlib.Nat.{sub-zero}
 use lib.Dec.{leb}
 use lib.Seq.{take_at}
 use lib.ListN.{length, take, replicate}
-use borrow.Author.Tests.{leb-true, le-leb, lt-leb, eq-eqb, ne_eqb}
-use Rattle.text.specs.Lent.{Holds, padded}
-use Rattle.text.specs.Printed.{printed, Written, written_of, lent_of}
-use Rattle.text.specs.Placed.{Placing, refusal, placed, placing, finished, printed_placing, Holding}
+use borrow.Author.Tests.{leb-true, le-leb, eq-eqb, ne_eqb}
+use Rattle.text.specs.Decimal.{choose}
+use Rattle.text.specs.Lent.{padded}
+use Rattle.text.specs.Printed.{printed, Written, no_room, written_of, lent_of}
+use Rattle.text.specs.declared.write.NoRoom.{NoRoom}
+use Rattle.text.specs.Placed.{Placing, refusal, placed, placing, cleared, printed_placing, Holding}
 use Rattle.text.specs.Prints.{WrittenText}
-use Rattle.text.proofs.LentLaws.{cleared_zeros, cleared_padded}
 
 abbrev made : (code at length : ℕ) → List ℕ → Placing
 made code at length buffer = record { code = code; at = at; length = length; buffer = buffer }
 
--- the text up to its end, then zeros; or it does not fit
-pub finished_text : {E : Type 0} (code_of place_of : E → ℕ) (short : E) (buffer body : List ℕ) (end : ℕ) → place_of short ≡ 0 → Holds buffer end body
-    → finished code_of place_of short (Ok end) buffer ≡ placed (code_of short) (length buffer) body
-unfolding finished placed
-finished_text code_of place_of short buffer body end none h = by (leb end (length buffer)) refl
-  where
-    over : Placing
-    over = refusal (code_of short) 0 (length buffer)
+-- an answer, and what it leaves in the bytes
+module _ {E : Type 0} (code_of place_of : E → ℕ) where
+  pub cleared_ok : (answer : Result ℕ E) (buffer : List ℕ) → false ≡ is_err answer → placing code_of place_of answer buffer ≡ cleared code_of place_of answer buffer
+  unfolding cleared
+  cleared_ok (Ok end) buffer e = refl
+  cleared_ok (Err error) buffer e = cc
 
-    by : (fits : Bool) → leb end (length buffer) ≡ fits
-        → ◌≡◌ {A = Placing}
-        (elim fits [ true ↦ made 0 0 end (take end buffer ++ replicate (length buffer - end) 0) | false ↦ refusal (code_of short) (place_of short) (length buffer) ])
-        (elim (leb (length body) (length buffer)) [ true ↦ made 0 0 (length body) (padded (length buffer) body) | false ↦ over ])
-    by true e =
-        let p = leb-true end (length buffer) e in
-        let held : made 0 0 end (take end buffer ++ replicate (length buffer - end) 0) ≡ made 0 0 (length body) (padded (length buffer) body) =
-        rw (cleared_padded buffer _ body end (length buffer) refl h p refl) (ap (λ (n : ℕ). made 0 0 n (padded (length buffer) body)) (sym h.counted)) in
-        rw (h.counted, e) held
-    by false e = rw (h.counted, e, none)
+  pub cleared_error : (answer : Result ℕ E) (buffer : List ℕ) {buffer' : List ℕ} → true ≡ is_err answer → buffer' ≡ replicate (length buffer) 0
+      → placing code_of place_of answer buffer' ≡ cleared code_of place_of answer buffer
+  unfolding cleared refusal
+  cleared_error (Ok end) buffer e f = cc
+  cleared_error (Err error) buffer e f = ap (made (code_of error) (place_of error) 0) f
 
--- the answer that stands in the code, and what it leaves in the bytes
-module _ {E : Type 0} (code_of place_of : E → ℕ) (short : E) (buffer : List ℕ) where
-  abbrev kept : ℕ → List ℕ
-  kept end = take end buffer ++ replicate (length buffer - end) 0
+-- an answer of writing, taken apart
+count_of : {n m : ℕ} → ◌≡◌ {A = Written} (Ok n) (Ok m) → n ≡ m
+count_of e = cc
 
-  zeros : kept 0 ≡ replicate (length buffer) 0
-  zeros = cleared_zeros buffer (kept 0) (length buffer) refl refl
+ok_err : {n : ℕ} {none : NoRoom} → ◌≡◌ {A = Written} (Ok n) (Err none) → ⊥
+ok_err e = cc
 
-  pub finished_over : {end : ℕ} {buffer' : List ℕ} → length buffer < end → buffer' ≡ kept 0 → placing code_of place_of (Err short) buffer' ≡ finished code_of place_of short (Ok end) buffer
-  unfolding finished refusal
-  finished_over {end} p e = rw (lt-leb end (length buffer) p, finished) (ap (made (code_of short) (place_of short) 0) (e ∙ zeros))
+-- what a writer told at the end of a text, as the answer of its entry
+module _ {E : Type 0} (code_of place_of : E → ℕ) (text bytes : List ℕ) (room : ℕ) where
+  pub fits_placed : (short : ℕ) {end : ℕ} → Ok end ≡ written_of room text → bytes ≡ lent_of room text → cleared code_of place_of (Ok end) bytes ≡ placed short room text
+  unfolding cleared placed written_of lent_of
+  fits_placed short {end} e f = by (leb (length text) room) e f
+    where
+      by : (b : Bool) → Ok end ≡ choose b (λ _. Ok (length text)) (λ _. no_room) → bytes ≡ choose b (λ _. padded room text) (λ _. replicate room 0)
+          → made 0 0 end bytes ≡ elim b [ true ↦ made 0 0 (length text) (padded room text) | false ↦ refusal short 0 room ]
+      by true e f = ap₂ (made 0 0) (count_of e) f
+      by false e f = absurd (ok_err e)
 
-  pub finished_fits : {end : ℕ} {buffer' : List ℕ} → end ≤ length buffer → buffer' ≡ kept end → placing code_of place_of (Ok end) buffer' ≡ finished code_of place_of short (Ok end) buffer
-  unfolding finished
-  finished_fits {end} p e = rw (le-leb end (length buffer) p, finished) (ap (made 0 0 end) e)
-
-  pub finished_error : (error : E) {buffer' : List ℕ} → buffer' ≡ kept 0 → placing code_of place_of (Err error) buffer' ≡ finished code_of place_of short (Err error) buffer
-  unfolding finished refusal
-  finished_error error e = ap (made (code_of error) (place_of error) 0) (e ∙ zeros)
+  pub over_placed : (error : E) {none : NoRoom} → Err none ≡ written_of room text → place_of error ≡ 0 → length bytes ≡ room
+      → cleared code_of place_of (Err error) bytes ≡ placed (code_of error) room text
+  unfolding cleared placed written_of
+  over_placed error {none} e zero long = by (leb (length text) room) e
+    where
+      by : (b : Bool) → Err none ≡ choose b (λ _. Ok (length text)) (λ _. no_room)
+          → refusal (code_of error) (place_of error) (length bytes) ≡ elim b [ true ↦ made 0 0 (length text) (padded room text) | false ↦ refusal (code_of error) 0 room ]
+      by true e = absurd (ok_err (sym e))
+      by false e = rw (zero, long)
 
 -- where there is room
 pub placed_fits : (short lent : ℕ) (text : List ℕ) → length text ≤ lent

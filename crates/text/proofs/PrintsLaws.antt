@@ -4,7 +4,7 @@ use mathlib.Core.Path.{◌≡◌, refl, sym, ap, ap₂, ◌∙◌}
 use mathlib.Core.List.{List, []}
 use mathlib.Core.Logic.{⊎_elim, inl, inr}
 use Rattle.std.specs.Prelude.{Ok, Err}
-use Prim.Native.Nat.{ℕ, zero, suc, ◌^◌, ◌≤◌, ◌<◌}
+use Prim.Native.Nat.{ℕ, zero, suc, ◌≤◌}
 use native.Mathlib.Omega.{arith}
 use lib.ListN.{length, take, length-append, length-replicate}
 use lib.Seq.{take_at}
@@ -17,7 +17,6 @@ use Rattle.text.specs.declared.read.ReadError.{ReadError}
 use Rattle.text.specs.declared.read.ReadError.TheVariants.{TooLong, NotInForm, NoRoom}
 use Rattle.text.proofs.AnswerLaws.{good_one, refusal_accepted, refusal_one, room_enough}
 use Rattle.text.proofs.ReadingLaws.{Says, reading_says, accepted_reads, refusal_refuses}
-use Rattle.text.proofs.WriteLaws.{written_fits}
 
 -- ---- what was read
 
@@ -54,13 +53,9 @@ written_as {room = room} e p h = record {
   enough = λ q. h.enough (omega (arith, p, q)) ∙ ap (λ (text : List ℕ). Ok (length text)) e;
 }
 
-pub refusal_written : (code at : ℕ) (tree : List ℕ) {room : ℕ} {r : Written} {lent : List ℕ} → (code ≡ 0 → ⊥) → code < 2 ^ 32 → at < 2 ^ 32
-    → r ≡ written_of room (printed code at 0 0 tree) → lent ≡ lent_of room (printed code at 0 0 tree) → WrittenText 77 (printed code at 0 0 []) room r lent
-refusal_written code at tree {room} some p q answer bytes =
-    let same = refusal_lines code at 0 0 tree [] some in
-    let fits : 77 ≤ room → written_of room (printed code at 0 0 []) ≡ Ok (length (printed code at 0 0 [])) =
-    λ long. written_fits room code at 0 0 [] (p, (q, (omega arith, (omega arith, tt)))) (λ i. omega arith) (omega (arith, long)) in
-    record { answer = answer ∙ ap (written_of room) same; bytes = bytes ∙ ap (lent_of room) same; enough = λ long. answer ∙ ap (written_of room) same ∙ fits long }
+pub refusal_written : (code at : ℕ) (tree : List ℕ) {most room : ℕ} {r : Written} {lent : List ℕ} → (code ≡ 0 → ⊥) → most ≤ 77
+    → WrittenText most (printed code at 0 0 tree) room r lent → WrittenText 77 (printed code at 0 0 []) room r lent
+refusal_written code at tree some p h = written_as (refusal_lines code at 0 0 tree [] some) p h
 
 -- what was written of a text is what `printing` gives, in answer and bytes, and so many bytes are enough
 abbrev pub AsPrinted : (most : ℕ) → (text : List ℕ) → (room : ℕ) → Written → List ℕ → Type 0

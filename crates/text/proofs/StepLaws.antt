@@ -172,6 +172,3 @@ module _ {root : Form} (file : List ℕ) (at : ℕ) (words : List ℕ) (h : Reac
 
 pub true_false : true ≡ false → ⊥
 true_false e = let z : ◌≡◌ {A = ℕ} 0 1 = cc in omega arith
-
-pub false_true : false ≡ true → ⊥
-false_true e = true_false (sym e)

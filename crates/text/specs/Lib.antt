@@ -14,4 +14,5 @@ pub mod Reading
 pub mod Placed
 pub mod Printed
 pub mod Prints
+pub mod Writer
 pub mod Samples

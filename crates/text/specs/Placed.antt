@@ -1,5 +1,5 @@
 -- A text in a lent buffer, as paper 02's requests give it (M-110, M-112): "its text first in the lent buffer, then zeros", and its length.
-use Rattle.std.specs.Prelude.{ℕ, ◌-◌, ◌≤◌, ◌≡◌, List, [], ◌++◌, true, false, leb, eqb, length, take, replicate, Result, Ok, Err}
+use Rattle.std.specs.Prelude.{ℕ, ◌≤◌, ◌≡◌, List, [], true, false, leb, eqb, length, take, replicate, Result, Ok, Err}
 use Rattle.text.specs.Decimal.{choose}
 use Rattle.text.specs.Lent.{padded}
 use Rattle.text.specs.Printed.{printed}
@@ -38,14 +38,10 @@ module _ {E : Type 0} (code_of place_of : E → ℕ) where
   placing (Ok length) buffer = record { code = 0; at = 0; length = length; buffer = buffer }
   placing (Err error) buffer = record { code = code_of error; at = place_of error; length = 0; buffer = buffer }
 
-  -- what an entry answers that wrote a text up to `end`, or met an error: "its text first in the lent buffer, then zeros", or `short`
-  unfoldable pub finished : (short : E) → (written : Result ℕ E) → (buffer : List ℕ) → Placing
-  finished short (Ok end) buffer =
-      elim (leb end (length buffer)) [
-        | true ↦ record { code = 0; at = 0; length = end; buffer = take end buffer ++ replicate (length buffer - end) 0 }
-        | false ↦ refusal (code_of short) (place_of short) (length buffer)
-      ]
-  finished short (Err error) buffer = refusal (code_of error) (place_of error) (length buffer)
+  -- the same, where a refusal leaves zeros
+  unfoldable pub cleared : Result ℕ E → (buffer : List ℕ) → Placing
+  cleared (Ok length) buffer = record { code = 0; at = 0; length = length; buffer = buffer }
+  cleared (Err error) buffer = refusal (code_of error) (place_of error) (length buffer)
 
 -- ---- what a program prints of such an answer
 

@@ -1,9 +1,9 @@
 -- What is printed of a result (paper 01, "Samples").
-use Rattle.std.specs.Prelude.{◌≡◌, List, [], ◌∷◌, ◌++◌, ℕ, zero, suc, ◌+◌, ◌/◌, ◌≤◌, leb, length, take, drop, replicate, Result, Ok, Err}
+use Rattle.std.specs.Prelude.{List, [], ◌∷◌, ◌++◌, ℕ, zero, suc, ◌/◌, leb, length, take, drop, replicate, Result, Ok, Err}
 use Rattle.text.specs.Ascii.{ascii}
 use Rattle.text.specs.Decimal.{choose}
 use Rattle.text.specs.Line.{line, lines}
-use Rattle.text.specs.Lent.{padded, Holds}
+use Rattle.text.specs.Lent.{padded}
 use Rattle.text.specs.declared.write.NoRoom.{NoRoom}
 
 abbrev pub result_names : List ℕ
@@ -38,22 +38,3 @@ written_of room text = choose (leb (length text) room) (λ _. Ok (length text)) 
 
 unfoldable pub lent_of : ℕ → List ℕ → List ℕ
 lent_of room text = choose (leb (length text) room) (λ _. padded room text) (λ _. replicate room 0)
-
--- ---- the contracts of the functions below `write`
-
--- items, as a text's bytes, were written from `start` on, after whatever was there
-pub record Wrote {A : Type 0} (buffer : List A) (start : ℕ) (text buffer' : List A) (end : ℕ) : Type 0 where
-  pub long : end ≡ start + length text
-  pub holds : (before : List A) → Holds buffer start before → Holds buffer' end (before ++ text)
-
--- a first part of the text was written, and all of it if the end is within the buffer
-pub record Held (all buffer : List ℕ) (end : ℕ) : Type 0 where
-  pub held : List ℕ
-  pub rest : List ℕ
-  pub split : all ≡ held ++ rest
-  pub holds : Holds buffer end held
-  pub whole : end ≤ length buffer → rest ≡ []
-
--- the same, or less where the buffer is full
-abbrev pub WroteSome : List ℕ → ℕ → List ℕ → List ℕ → ℕ → Type 0
-WroteSome buffer start text buffer' end = (before : List ℕ) → Holds buffer start before → Held (before ++ text) buffer' end

@@ -5,7 +5,7 @@ use Rattle.text.specs.Layout.{Columns, Layout, layout}
 use Rattle.text.specs.Form.{Form, field, finished, literal, row, tables, whole, Text}
 use Rattle.text.specs.Answer.{Answer, Accepted, Fails}
 use Rattle.text.specs.Reading.{is_digit, may_follow}
-use Rattle.text.specs.declared.parts.Cursor.{Cursor}
+use Rattle.text.specs.declared.reader.Reader.{Reader}
 use Rattle.text.specs.declared.version.Version.{Version}
 use Rattle.text.specs.declared.version.Columns as code
 use Rattle.text.specs.declared.number.Number.{Number}
@@ -49,25 +49,22 @@ NumberRead file at last (Err stop) = (root : Form) (words : List ℕ) (next : �
 abbrev pub columns_of : code.Columns → Columns
 columns_of columns = record { names = columns.names.now; width = columns.width }
 
--- within the file, with no more words than bytes
-pub record Near (file : List ℕ) (c : Cursor) : Type 0 where
-  pub within : c.at ≤ length file
-  pub few : c.count ≤ c.at
-
 -- the reading has come so far, and the words are in the buffer
 pub record At (root : Form) (file buffer : List ℕ) (at count : ℕ) (words : List ℕ) (next : Form) : Type 0 where
   pub reached : Reached root file at words next
   pub holds : Holds buffer count words
 
--- a part of the file was read, from the cursor c on, whatever comes after the part
-pub record PartEnd (file : List ℕ) (part : Form → Form) (c : Cursor) (buffer : List ℕ) (r : Cursor) (buffer' : List ℕ) : Type 0 where
-  pub near : Near file r
-  pub reached : (root : Form) (words : List ℕ) (next : Form) → At root file buffer c.at c.count words (part next)
-      → (new : List ℕ) × At root file buffer' r.at r.count (words ++ new) next
+-- so far of the reader's file, with the words in its buffer
+abbrev pub ReaderAt : (root : Form) → Reader → (words : List ℕ) → (next : Form) → Type 0
+ReaderAt root r words next = At root r.file.now r.words.now r.at r.count words next
 
-abbrev pub PartRead : (file : List ℕ) → (part : Form → Form) → (c : Cursor) → (buffer : List ℕ) → Result Cursor ℕ → (buffer' : List ℕ) → Type 0
-PartRead file part c buffer (Ok r) buffer' = PartEnd file part c buffer r buffer'
-PartRead file part c buffer (Err stop) buffer' = (root : Form) (words : List ℕ) (next : Form) → At root file buffer c.at c.count words (part next) → Stopped root file stop
+-- a part of the file was read, whatever comes after the part
+pub record PartEnd (part : Form → Form) (r r' : Reader) : Type 0 where
+  pub reached : (root : Form) (words : List ℕ) (next : Form) → ReaderAt root r words (part next) → (new : List ℕ) × ReaderAt root r' (words ++ new) next
+
+abbrev pub PartRead : (part : Form → Form) → (r : Reader) → Result (Unit {0}) ℕ → (r' : Reader) → Type 0
+PartRead part r (Ok _) r' = PartEnd part r r'
+PartRead part r (Err stop) r' = (root : Form) (words : List ℕ) (next : Form) → ReaderAt root r words (part next) → Stopped root r.file.now stop
 
 -- a line of names was read
 pub record NamesEnd (file names : List ℕ) (at end : ℕ) : Type 0 where
@@ -80,28 +77,27 @@ NamesRead file names at (Ok end) = NamesEnd file names at end
 NamesRead file names at (Err stop) = (root : Form) (words : List ℕ) (next : Form) → Reached root file at words (literal names next) → Stopped root file stop
 
 -- the numbers of a row that was read
-pub record RowNumbers (root : Form) (file : List ℕ) (width : ℕ) (words : List ℕ) (next : List ℕ → Form) (r : Cursor) (buffer : List ℕ) : Type 0 where
+pub record RowNumbers (root : Form) (width : ℕ) (words : List ℕ) (next : List ℕ → Form) (r : Reader) : Type 0 where
   pub numbers : List ℕ
   pub long : length numbers ≡ width
-  pub at : At root file buffer r.at r.count (words ++ numbers) (next numbers)
+  pub at : ReaderAt root r (words ++ numbers) (next numbers)
 
 -- a row was read: its numbers decide what comes next
-pub record RowEnd (file : List ℕ) (width : ℕ) (c : Cursor) (buffer : List ℕ) (r : Cursor) (buffer' : List ℕ) : Type 0 where
-  pub near : Near file r
-  pub reached : (root : Form) (words : List ℕ) (next : List ℕ → Form) → At root file buffer c.at c.count words (row width [] next)
-      → RowNumbers root file width words next r buffer'
+pub record RowEnd (width : ℕ) (r r' : Reader) : Type 0 where
+  pub reached : (root : Form) (words : List ℕ) (next : List ℕ → Form) → ReaderAt root r words (row width [] next) → RowNumbers root width words next r'
 
-abbrev pub RowRead : (file : List ℕ) → (width : ℕ) → (c : Cursor) → (buffer : List ℕ) → Result Cursor ℕ → (buffer' : List ℕ) → Type 0
-RowRead file width c buffer (Ok r) buffer' = RowEnd file width c buffer r buffer'
-RowRead file width c buffer (Err stop) buffer' = (root : Form) (words : List ℕ) (next : List ℕ → Form) → At root file buffer c.at c.count words (row width [] next) → Stopped root file stop
+abbrev pub RowRead : (width : ℕ) → (r : Reader) → Result (Unit {0}) ℕ → (r' : Reader) → Type 0
+RowRead width r (Ok _) r' = RowEnd width r r'
+RowRead width r (Err stop) r' = (root : Form) (words : List ℕ) (next : List ℕ → Form) → ReaderAt root r words (row width [] next) → Stopped root r.file.now stop
 
 -- the head was read into six words, the same in either form: they are its numbers
-pub record HeadEnd (file : List ℕ) (r : Cursor) (head : List ℕ) : Type 0 where
-  pub near : Near file r
-  pub reached : (version : Version) → At (whole (layout version)) file head r.at r.count head (tables (layout version) head finished)
+pub record HeadEnd (file : List ℕ) (at : ℕ) (head : List ℕ) : Type 0 where
+  pub within : at ≤ length file
+  pub few : 6 ≤ at
+  pub reached : (version : Version) → At (whole (layout version)) file head at 6 head (tables (layout version) head finished)
 
-abbrev pub HeadRead : (file : List ℕ) → Result Cursor ℕ → (head : List ℕ) → Type 0
-HeadRead file (Ok r) head = HeadEnd file r head
+abbrev pub HeadRead : (file : List ℕ) → Result ℕ ℕ → (head : List ℕ) → Type 0
+HeadRead file (Ok at) head = HeadEnd file at head
 HeadRead file (Err stop) head = (version : Version) → Stopped (whole (layout version)) file stop
 
 -- what reading the whole file gives

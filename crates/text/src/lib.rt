@@ -7,5 +7,6 @@ pub mod number;
 mod parts;
 pub mod placed;
 pub mod read;
+mod reader;
 pub mod version;
 pub mod write;

@@ -1,9 +1,9 @@
 // A text in a lent buffer: the answer of an entry that writes one.
 ghost use Rattle.std.specs.Prelude.{◌≡◌, List, ℕ, length};
-ghost use Rattle.text.specs.Placed.{answer_code, answer_place, placing, finished, printed_placing, Holding};
-ghost use Rattle.text.specs.Prints.{WrittenText};
+ghost use Rattle.text.specs.Placed.{answer_code, answer_place, placing, cleared, printed_placing, Holding};
+ghost use Rattle.text.specs.Prints.{refusal_text, WrittenText};
 
-use crate::write::{NoRoom, write};
+use crate::write::{NoRoom, Numbers, write};
 
 // An error with a code and a place of the papers.
 pub trait Coded {
@@ -18,20 +18,13 @@ pub trait Coded {
         ensures { result ≡ place_of self };
 }
 
-// The answer of an entry that wrote a text up to an end, which may lie past the lent bytes: the text stands in them, then zeros.
-// "A refusal leaves zeros", and a text that does not fit is refused.
-pub fn finish<E: Coded + Copy>(
-    written: Result<usize, E>,
-    text: &mut [u8],
-    no_room: E,
-) -> Result<usize, E>
-    ensures { placing E.code_of E.place_of result text.new ≡ finished E.code_of E.place_of no_room written text.old }
+// An entry's answer. "A refusal leaves zeros."
+pub fn finish<E: Coded + Copy>(answer: Result<usize, E>, text: &mut [u8]) -> Result<usize, E>
+    ensures { placing E.code_of E.place_of result text.new ≡ cleared E.code_of E.place_of answer text.old }
 {
-    let answer = match written {
-        Ok(end) if text.len() < end => Err(no_room),
-        _ => written,
-    };
-    text[answer.unwrap_or(0)..].fill(0);
+    if answer.is_err() {
+        text.fill(0);
+    }
     answer
 }
 
@@ -60,8 +53,21 @@ pub fn tell<E: Coded + Copy>(answer: Result<usize, E>, at: &mut u32, size: &mut 
     tell_code(answer, at)
 }
 
+// The two lines of a refusal: 77 bytes are enough. Code 0 says accepted, so no error may have it.
+pub fn write_refusal<E: Coded + Copy>(out: &mut [u8], error: E) -> Result<usize, NoRoom>
+    requires { E.code_of error ≡ 0 → ⊥ }
+    ensures { WrittenText 77 (refusal_text (E.code_of error) (E.place_of error)) (length out.old) result out.new }
+{
+    let numbers = Numbers {
+        code: error.code(),
+        at: error.place(),
+        rows: 0,
+        visits: 0,
+    };
+    write(out, numbers, &[])
+}
+
 // What is printed of an answer: the text, which stands in the bytes already, or the two lines of a refusal.
-// Code 0 says accepted, so no error may have it.
 pub fn print<E: Coded + Copy>(answer: Result<usize, E>, out: &mut [u8]) -> Result<usize, NoRoom>
     requires nonzero { (error : E) → E.code_of error ≡ 0 → ⊥ }
     requires holding { Holding (length out.old) (placing E.code_of E.place_of answer out.old) }
@@ -69,6 +75,6 @@ pub fn print<E: Coded + Copy>(answer: Result<usize, E>, out: &mut [u8]) -> Resul
 {
     match answer {
         Ok(length) => Ok(length),
-        Err(error) => write(out, error.code(), error.place(), 0, 0, &[]),
+        Err(error) => write_refusal(out, error),
     }
 }

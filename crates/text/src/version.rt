@@ -39,19 +39,33 @@ pub const IDENTIFIERS: Columns<'static> = Columns {
     width: 1,
 };
 
+pub const OLD_BLOCKS: Columns<'static> = Columns {
+    names: b"first count code a b c d e id span\n",
+    width: 10,
+};
+
+pub const BLOCKS: Columns<'static> = Columns {
+    names: b"first count code a b c d e id from to\n",
+    width: 11,
+};
+
+pub const OLD_INSTRUCTIONS: Columns<'static> = Columns {
+    names: b"id lvalue code p q span\n",
+    width: 6,
+};
+
+pub const INSTRUCTIONS: Columns<'static> = Columns {
+    names: b"id lvalue code p q from to\n",
+    width: 7,
+};
+
 impl Version {
     pub fn block_columns(self) -> Columns<'static>
         ensures { columns_of result ≡ block_columns self }
     {
         match self {
-            Version::Old => Columns {
-                names: b"first count code a b c d e id span\n",
-                width: 10,
-            },
-            Version::New => Columns {
-                names: b"first count code a b c d e id from to\n",
-                width: 11,
-            },
+            Version::Old => OLD_BLOCKS,
+            Version::New => BLOCKS,
         }
     }
 
@@ -59,14 +73,8 @@ impl Version {
         ensures { columns_of result ≡ instruction_columns self }
     {
         match self {
-            Version::Old => Columns {
-                names: b"id lvalue code p q span\n",
-                width: 6,
-            },
-            Version::New => Columns {
-                names: b"id lvalue code p q from to\n",
-                width: 7,
-            },
+            Version::Old => OLD_INSTRUCTIONS,
+            Version::New => INSTRUCTIONS,
         }
     }
 }

@@ -1,107 +1,126 @@
-ghost use Rattle.std.specs.Prelude.{◌≡◌, List, ℕ, ◌+◌, ◌*◌, ◌^◌, ◌/◌, ◌<◌, length};
+// A text, and a result's lines, into lent bytes.
+ghost use Rattle.std.specs.Prelude.{◌≡◌, ◌+◌, ◌*◌, ◌/◌, length};
 ghost use Rattle.text.specs.Decimal.{decimal};
-ghost use Rattle.text.specs.Line.{line, lines};
-ghost use Rattle.text.specs.Printed.{printed, rows_of, written_of, lent_of, Wrote, Held, WroteSome};
+ghost use Rattle.text.specs.Line.{line};
+ghost use Rattle.text.specs.Printed.{printed};
+ghost use Rattle.text.specs.Prints.{WrittenText};
+ghost use Rattle.text.specs.Writer.{opened, byte_at, written, closed};
 
-use crate::lent::{put, put_all};
 use crate::number::ending_byte;
 
 // A text has more bytes than were lent.
 #[derive(Clone, Copy, Debug, PartialEq, Eq)]
 pub struct NoRoom;
 
-// Writes a number in decimal.
-// By hand: Display writes into a String or a stream, and a lent buffer counts on past its end.
-pub fn write_number(out: &mut [u8], start: usize, n: u32) -> usize
-    requires { start + 10 < 2 ^ 64 }
-    ensures { Wrote out.old start (decimal n) out.new result }
-{
-    if n < 10 {
-        put(out, start, 48 + n as u8);
-        return start + 1;
+// The four numbers of a result, in the order that they are printed.
+#[derive(Clone, Copy)]
+pub struct Numbers {
+    pub code: u32,
+    pub at: u32,
+    pub rows: u32,
+    pub visits: u32,
+}
+
+// Writes into lent bytes from their begin on. Once a byte finds no place there is no end any more, nothing else is written, and `finish` says
+// so; a writer is not Drop, so that it is finished. (No Result at each step: a text is many steps, and its caller asks once. No `fmt::Write`:
+// where `write!` fails its contract says nothing of what was written, and here it says just which texts fit.)
+pub struct Writer<'a> {
+    out: &'a mut [u8],
+    end: Option<usize>,
+}
+
+impl<'a> Writer<'a> {
+    pub fn new(out: &'a mut [u8]) -> Writer<'a>
+        ensures { result ≡ opened out.entry }
+    {
+        Writer { out, end: Some(0) }
     }
-    let at = write_number(out, start, n / 10);
-    put(out, at, 48 + (n % 10) as u8);
-    at + 1
-}
 
-// Writes a line of numbers.
-pub fn write_line(out: &mut [u8], start: usize, numbers: &[u32]) -> usize
-    requires { start + length numbers.now * 11 < 2 ^ 64 }
-    ensures { Wrote out.old start (line numbers.now) out.new result }
-{
-    let mut at = start;
-    for (i, number) in numbers.iter().enumerate() {
-        let end = write_number(out, at, *number);
-        put(out, end, ending_byte(i + 1 == numbers.len()));
-        at = end + 1;
+    fn byte(&mut self, byte: u8)
+        ensures { self.new ≡ byte_at self.old.end self.old byte }
+    {
+        self.end = match self.end {
+            Some(end) if end < self.out.len() => {
+                self.out[end] = byte;
+                Some(end + 1)
+            }
+            _ => None,
+        };
     }
-    at
-}
 
-// Writes a line of names.
-pub fn write_names(out: &mut [u8], start: usize, names: &[u8]) -> usize
-    requires { start + length names.now < 2 ^ 64 }
-    ensures { Wrote out.old start names.now out.new result }
-{
-    put_all(out, start, names)
-}
-
-// Writes a line for each whole row of six words, until the buffer is full.
-fn write_rows(out: &mut [u8], start: usize, tree: &[u32]) -> usize
-    ensures { WroteSome out.old start (lines (rows_of (length tree.now / 6) tree.now)) out.new result }
-{
-    let mut at = start;
-    for row in tree.chunks_exact(6) {
-        if out.len() < at {
-            break;
+    pub fn bytes(&mut self, bytes: &[u8])
+        ensures { self.new ≡ written self.old bytes.now }
+    {
+        for byte in bytes {
+            self.byte(*byte);
         }
-        at = write_line(out, at, row);
     }
-    at
+
+    // A number in decimal.
+    pub fn number(&mut self, n: u32)
+        ensures { self.new ≡ written self.old (decimal n) }
+    {
+        if n >= 10 {
+            self.number(n / 10);
+        }
+        self.byte(b'0' + (n % 10) as u8);
+    }
+
+    // A line of numbers.
+    pub fn line(&mut self, numbers: &[u32])
+        ensures { self.new ≡ written self.old (line numbers.now) }
+    {
+        for (i, number) in numbers.iter().enumerate() {
+            self.number(*number);
+            self.byte(ending_byte(i + 1 == numbers.len()));
+        }
+    }
+
+    // Ends the text with zeros; or there are zeros alone, if it did not fit.
+    pub fn finish(self) -> Result<usize, NoRoom>
+        ensures { record { answer = result; bytes = self.exit.0.now } ≡ closed self.entry.end self.entry.out.now }
+    {
+        let Writer { out, end } = self;
+        match end {
+            Some(end) if end <= out.len() => {
+                out[end..].fill(0);
+                Ok(end)
+            }
+            _ => {
+                out.fill(0);
+                Err(NoRoom)
+            }
+        }
+    }
 }
 
-// Writes the lines of a result, until the buffer is full.
-// (A code, not a Result: the five numbers are the printed line's, and each program has another error type.)
-fn write_result(out: &mut [u8], code: u32, at: u32, rows: u32, visits: u32, tree: &[u32]) -> usize
-    ensures { WroteSome out.old 0 (printed code at rows visits tree.now) out.new result }
+// The lines of a result.
+fn write_result(writer: &mut Writer<'_>, numbers: Numbers, tree: &[u32])
+    ensures { writer.new ≡ written writer.old (printed numbers.code numbers.at numbers.rows numbers.visits tree.now) }
 {
-    let names = write_names(out, 0, b"code at rows visits\n");
-    let numbers = [code, at, rows, visits];
-    let head = write_line(out, names, &numbers);
+    let Numbers {
+        code,
+        at,
+        rows,
+        visits,
+    } = numbers;
+    writer.bytes(b"code at rows visits\n");
+    writer.line(&[code, at, rows, visits]);
     if code != 0 {
-        return head;
+        return;
     }
-    let tree_names = write_names(out, head, b"op a b c d e\n");
-    write_rows(out, tree_names, tree)
-}
-
-// The text up to `end`, then zeros; zeros alone, if it does not fit.
-pub fn finish_text(out: &mut [u8], end: usize) -> Result<usize, NoRoom>
-    ensures by_index { (text : List ℕ) → Held text out.old end → result ≡ written_of (length out.old) text }
-    ensures by_index_2 { (text : List ℕ) → Held text out.old end → out.new ≡ lent_of (length out.old) text }
-{
-    if out.len() < end {
-        out.fill(0);
-        return Err(NoRoom);
+    writer.bytes(b"op a b c d e\n");
+    for row in tree.chunks_exact(6) {
+        writer.line(row);
     }
-    out[end..].fill(0);
-    Ok(end)
 }
 
 // Writes a result: its numbers, and if the code says accepted a line for each whole row of six words of the tree. The lent bytes hold the
-// lines and then zeros; zeros alone, if the lines do not fit.
-pub fn write(
-    out: &mut [u8],
-    code: u32,
-    at: u32,
-    rows: u32,
-    visits: u32,
-    tree: &[u32],
-) -> Result<usize, NoRoom>
-    ensures value { result ≡ written_of (length out.old) (printed code at rows visits tree.now) }
-    ensures out_after { out.new ≡ lent_of (length out.old) (printed code at rows visits tree.now) }
+// lines and then zeros; zeros alone, if the lines do not fit. 77 bytes, and 66 for each row, are always enough.
+pub fn write(out: &mut [u8], numbers: Numbers, tree: &[u32]) -> Result<usize, NoRoom>
+    ensures { WrittenText (77 + length tree.now / 6 * 66) (printed numbers.code numbers.at numbers.rows numbers.visits tree.now) (length out.old) result out.new }
 {
-    let end = write_result(out, code, at, rows, visits, tree);
-    finish_text(out, end)
+    let mut writer = Writer::new(out);
+    write_result(&mut writer, numbers, tree);
+    writer.finish()
 }

@@ -9,6 +9,7 @@ use std::rt::Files;
 use text::lent::zeros;
 use text::placed::Coded;
 use text::read::ReadError;
+use text::write::{Numbers, write};
 
 // 1 if a word is not zero.
 fn soiled(words: &[u32]) -> u32 {
@@ -29,16 +30,9 @@ fn send(rt: &impl Print, out: &[u8], n: usize) -> io::Result<()> {
     rt.write_all(&out[..n.min(out.len())])
 }
 
-fn print(
-    rt: &impl Print,
-    code: u32,
-    at: u32,
-    count: u32,
-    stale: u32,
-    words: &[u32],
-) -> io::Result<()> {
+fn print(rt: &impl Print, numbers: Numbers, words: &[u32]) -> io::Result<()> {
     let mut out = [0u8; 512];
-    match text::write::write(&mut out, code, at, count, stale, words) {
+    match write(&mut out, numbers, words) {
         Ok(n) => send(rt, &out, n),
         Err(_) => send(rt, b"no room\n", 8),
     }
@@ -48,17 +42,26 @@ fn show(rt: &impl Print, answer: Result<usize, ReadError>, words: &[u32]) -> io:
     match answer {
         Ok(n) => {
             let (read, rest) = words.split_at(n.min(words.len()));
-            print(
-                rt,
-                0,
-                0,
-                narrow(n),
-                soiled(rest),
-                &read[..read.len().min(24)],
-            )
+            let numbers = Numbers {
+                code: 0,
+                at: 0,
+                rows: narrow(n),
+                visits: soiled(rest),
+            };
+            print(rt, numbers, &read[..read.len().min(24)])
         }
-        Err(ReadError::NoRoom) => print(rt, 99, 0, 0, soiled(words), words),
-        Err(error) => print(rt, error.code(), error.place(), 0, soiled(words), words),
+        Err(error) => {
+            let numbers = Numbers {
+                code: match error {
+                    ReadError::NoRoom => 99,
+                    _ => error.code(),
+                },
+                at: error.place(),
+                rows: 0,
+                visits: soiled(words),
+            };
+            print(rt, numbers, words)
+        }
     }
 }
 
@@ -92,12 +95,11 @@ fn main(rt: HostRuntime) -> io::Result<()> {
     let mut enough = [0u32; 19];
     run_named(&rt, "00", &mut enough)?;
     // Numbers at the ends of their range.
-    print(
-        &rt,
-        0,
-        4294967295,
-        0,
-        4294967295,
-        &[4294967295, 0, 10, 99, 100, 1000000000],
-    )
+    let numbers = Numbers {
+        code: 0,
+        at: 4294967295,
+        rows: 0,
+        visits: 4294967295,
+    };
+    print(&rt, numbers, &[4294967295, 0, 10, 99, 100, 1000000000])
 }

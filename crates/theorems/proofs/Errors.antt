@@ -262,7 +262,8 @@ blocked_code_gives_the_definition κs before after code learnt = learnt
 
 -- ---- words or a table that the walk refuses: rows and visits too
 
-pub the_methods_of_walk_error_meet_their_contracts : {M : Type 1} → walk_error_code_stated.statement M × walk_error_place_stated.statement M × walk_error_rows_stated.statement M × walk_error_visits_stated.statement M
+pub the_methods_of_walk_error_meet_their_contracts : {M : Type 1}
+    → walk_error_code_stated.statement M × walk_error_place_stated.statement M × walk_error_rows_stated.statement M × walk_error_visits_stated.statement M
 the_methods_of_walk_error_meet_their_contracts = (walk_error_code_proved.met, walk_error_place_proved.met, walk_error_rows_proved.met, walk_error_visits_proved.met)
 
 pub the_methods_of_walk_error_ask_nothing : (κs : Lfts 0) (before : WalkError × Unit {0})
@@ -287,7 +288,8 @@ walk_error_visits_gives_the_definition κs before after visits learnt = learnt
 
 -- ---- a build that is refused
 
-pub the_methods_of_build_error_meet_their_contracts : {M : Type 1} → build_error_code_stated.statement M × build_error_place_stated.statement M × build_error_rows_stated.statement M × build_error_visits_stated.statement M
+pub the_methods_of_build_error_meet_their_contracts : {M : Type 1}
+    → build_error_code_stated.statement M × build_error_place_stated.statement M × build_error_rows_stated.statement M × build_error_visits_stated.statement M
 the_methods_of_build_error_meet_their_contracts = (build_error_code_proved.met, build_error_place_proved.met, build_error_rows_proved.met, build_error_visits_proved.met)
 
 pub the_methods_of_build_error_ask_nothing : (κs : Lfts 0) (before : BuildError × Unit {0})

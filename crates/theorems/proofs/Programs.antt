@@ -14,6 +14,7 @@ use Rattle.text.specs.Reading.{reading, read_into}
 use Rattle.text.specs.Printed.{printed, Written, written_of, lent_of}
 use Rattle.text.specs.Prints.{printing}
 use Rattle.text.specs.declared.version.Version.{Version}
+use Rattle.text.specs.declared.write.Numbers.{Numbers}
 use Rattle.text.specs.declared.version.Version.TheVariants.{New}
 use Rattle.text.proofs.AnswerLaws.{answered_one}
 use Rattle.text.proofs.ReadingLaws.{is_answered}
@@ -110,12 +111,12 @@ a_reading_has_one_answer = answered_one
 
 -- ---- the writer of a result
 
--- the lent bytes, code, at, rows, visits and the tree
+-- the lent bytes, the four numbers and the tree
 abbrev pub Result : Type 0
-Result = MutBor (List ℕ) × (ℕ × (ℕ × (ℕ × (ℕ × (Bor (List ℕ) × Unit {0})))))
+Result = MutBor (List ℕ) × (Numbers × (Bor (List ℕ) × Unit {0}))
 
 abbrev pub result_text : Result → List ℕ
-result_text before = printed before.1.0 before.1.1.0 before.1.1.1.0 before.1.1.1.1.0 before.1.1.1.1.1.0.now
+result_text before = let n = before.1.0 in printed n.code n.at n.rows n.visits before.1.1.0.now
 
 pub write_meets_its_contract : {M : Type 1} → write_stated.statement M
 write_meets_its_contract = write_proved.met
@@ -125,7 +126,7 @@ write_asks_nothing κs before = tt
 
 pub write_gives_the_definition : (κs : Lfts 2) (before after : Result) (answer : Written) → write_entry.Learnt κs before answer after
     → (answer ≡ written_of (length before.0.now) (result_text before)) × (after.0.now ≡ lent_of (length before.0.now) (result_text before))
-write_gives_the_definition κs before after answer learnt = learnt
+write_gives_the_definition κs before after answer learnt = (learnt.answer, learnt.bytes)
 
 -- ---- treebuild and treebuild_language: build_file, by either rule
 

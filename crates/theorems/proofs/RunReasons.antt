@@ -10,7 +10,8 @@ use lib.ListN.{length, get_or}
 use lib.Dec.{leb}
 use Rattle.definition.specs.Tree.{Value, PLAIN, LOAD, UNDEF, SEQ, LOGICAL, COND, OPTIONAL, Instructions, no_instructions, instruction, Statement, INSTR, IF}
 use Rattle.definition.specs.Tree.{SWITCH, DOWHILE, WHILE, FOR, FOROF, FORIN, LABEL, TRY, SCOPE, RETURN, THROW, BREAK, CONTINUE, Statements, done, ◌▸◌, Cases}
-use Rattle.definition.specs.Tree.{no_cases, CASE, Kind, implicit, labeled, unlabeled, Row, row, rows, value_rows, instructions_rows, update_rows, statement_rows, statements_rows, block_rows, cases_rows}
+use Rattle.definition.specs.Tree.{no_cases, CASE, Kind, implicit, labeled, unlabeled, Row, row}
+use Rattle.definition.specs.Tree.{rows, value_rows, instructions_rows, update_rows, statement_rows, statements_rows, block_rows, cases_rows}
 use Rattle.definition.specs.Run.{Answers, Reason, returned, threw, no_answer_left, not_plain, no_target, end_of_tree, no_such_case, Run, unfinished, stopped}
 use Rattle.definition.specs.Completion.{Completion, normal, break, continue, stop, label_set, contains, loop_continues, breakable, labelled}
 use Rattle.definition.specs.TreeRun.{Completed, completed, completing, prefix, then_on, then, choose, performs, performs_update, jump_completion, after_body}

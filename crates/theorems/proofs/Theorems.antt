@@ -14,7 +14,7 @@ use Rattle.table.specs.Check.{accepted, checked}
 use Rattle.table.specs.Table.{Table, table_of}
 use Rattle.table.specs.Answer as table
 use Rattle.table.specs.declared.Refusal.{Refusal}
-use Rattle.table.specs.declared.table.Table.{Table as CheckedTable}
+use Rattle.table.specs.declared.checked.Table.{Table as CheckedTable}
 use Rattle.table.proofs.PromiseLaws.{promised}
 use Rattle.table.proofs.Refusal.code.Statement as code_stated
 use Rattle.table.proofs.Refusal.code.Met as code_proved
@@ -496,7 +496,8 @@ the_star_samples = the_samples
 -- the sample file prints the sample's output
 pub the_sample_file_prints_its_output :
     Prints rust
-    (ascii "entry blocks instructions cases places identifiers\n0 1 0 0 1 1\nfirst count code a b c d e id from to\n0 0 3 0 0 0 0 0 7 0 0\nid lvalue code p q from to\ntest block\nidentifier\n0\nnamed\n1\n")
+    (ascii
+    "entry blocks instructions cases places identifiers\n0 1 0 0 1 1\nfirst count code a b c d e id from to\n0 0 3 0 0 0 0 0 7 0 0\nid lvalue code p q from to\ntest block\nidentifier\n0\nnamed\n1\n")
     (ascii "code at rows visits\n0 0 2 1\nop a b c d e\n22 0 7 0 0 0\n9 1 0 0 0 0\n")
 the_sample_file_prints_its_output = sample_prints
 

@@ -106,7 +106,8 @@ module _ (words : List ℕ) (ok : checked words ≡ accepted) where
       ≡ record { code = 0; at = 0; table = words }
   the_inverse_restores_the_first_table = round_trip words ok
 
-  -- "in either entry, with buffers of the same lengths, building the rearranged table gives the same rows, code and visits with every block number renamed, and `at` renamed where it is a block"; and the same lines
+  -- "in either entry, with buffers of the same lengths, building the rearranged table gives the same rows, code and visits
+  -- with every block number renamed, and `at` renamed where it is a block"; and the same lines
   pub the_rearranged_table_builds_the_same : (rule : Rule) (lent lent_index : ℕ)
       → built rule (rearranged words) lent lent_index ≡ renamed_outcome (new_number (walking_order (table_of words))) (built rule words lent lent_index)
   the_rearranged_table_builds_the_same = rearranged_built words ok

@@ -12,6 +12,8 @@ use lib.Dec.{eqb}
 use borrow.Author.Tests.{eq-eqb, ne_eqb, eqb-true, eqb-false, le-leb, lt-leb}
 use Rattle.std.specs.Prelude.{Option, None, Some, is_some, ok_or, Ok, Err, nat_eq}
 use Rattle.std.specs.List.{take_while, zip}
+use Rattle.std.specs.Borrow.{Bor}
+use Rattle.std.specs.Slice.{IsGetRangeResult}
 use Rattle.std.proofs.lemmas.List.Sums.{take_while-cons}
 use Rattle.text.specs.Form.{ending}
 use Rattle.text.specs.Reading.{is_digit, may_follow}
@@ -39,7 +41,8 @@ alike_most [] file = (omega arith, omega arith)
 alike_most (name ∷ names) [] = (omega arith, omega arith)
 alike_most (name ∷ names) (byte ∷ file) = by (alike_most names file) (eqb byte name)
   where
-    by : (alike names file ≤ length names) × (alike names file ≤ length file) → (y : Bool) → (cond y (suc (alike names file)) 0 ≤ suc (length names)) × (cond y (suc (alike names file)) 0 ≤ suc (length file))
+    by : (alike names file ≤ length names) × (alike names file ≤ length file)
+        → (y : Bool) → (cond y (suc (alike names file)) 0 ≤ suc (length names)) × (cond y (suc (alike names file)) 0 ≤ suc (length file))
     by m true = (omega (arith, m.0), omega (arith, m.1))
     by m false = (omega arith, omega arith)
 
@@ -211,6 +214,25 @@ module _ (names : List ℕ) (last : ℕ) (file : List ℕ) where
       scan_ends q e z = record { list = s.items; is = all ∙ rw (sym q ∙ e, z, append-nil s.items); held = s.holds; few = omega (arith, s.few, s.within) }
 
 -- ---- the check of the words
+
+take_range : (lent : List ℕ) (count : ℕ) → take (count - 0) lent ≡ take count lent
+take_range lent count = ap (λ (n : ℕ). take n lent) (omega arith)
+
+-- the first `count` of the words lent, which are fewer where there is no such part
+module _ {E : Type 0} (lent : List ℕ) (count : ℕ) (part : Option (Bor (List ℕ))) (got : IsGetRangeResult lent 0 count part) (refused : E) where
+  pub no_part : {error : E} → Err error ≡ ok_or part refused → (error ≡ refused) × (length lent < count)
+  no_part {error} told = by part got told
+    where
+      by : (o : Option (Bor (List ℕ))) → IsGetRangeResult lent 0 count o → Err error ≡ ok_or o refused → (error ≡ refused) × (length lent < count)
+      by None g q = elim g.0 [ inl h ↦ absurd (omega (arith, h)) | inr h ↦ (cc, h) ]
+      by (Some x) g q = cc
+
+  pub part_held : {words : Bor (List ℕ)} → Ok words ≡ ok_or part refused → (count ≤ length lent) × (words.now ≡ take count lent)
+  part_held {words} told = by part got told
+    where
+      by : (o : Option (Bor (List ℕ))) → IsGetRangeResult lent 0 count o → Ok words ≡ ok_or o refused → (count ≤ length lent) × (words.now ≡ take count lent)
+      by None g q = cc
+      by (Some x) g q = let z : words ≡ x = cc in (g.0.1, rw z (g.0.2 ∙ take_range lent count))
 
 module _ {lent : List ℕ} (room : length lent ≡ 12288) {count : ℕ} {list : List ℕ} (h : Holds lent count list) where
   pub too_many_words : length lent < count → checked_as list (record { code = 62; at = 0 })

@@ -362,7 +362,8 @@ alike_taken [] file = refl
 alike_taken (name ∷ names) [] = refl
 alike_taken (name ∷ names) (byte ∷ file) = by (alike_taken names file) (eqb byte name) refl
   where
-    by : take (alike names file) file ++ drop (alike names file) names ≡ names → (y : Bool) → eqb byte name ≡ y → take (cond y (suc (alike names file)) 0) (byte ∷ file) ++ drop (cond y (suc (alike names file)) 0) (name ∷ names) ≡ name ∷ names
+    by : take (alike names file) file ++ drop (alike names file) names ≡ names
+        → (y : Bool) → eqb byte name ≡ y → take (cond y (suc (alike names file)) 0) (byte ∷ file) ++ drop (cond y (suc (alike names file)) 0) (name ∷ names) ≡ name ∷ names
     by on true e = rw (eqb-true byte name e) (ap (λ (z : List ℕ). name ∷ z) on)
     by on false e = refl
 
@@ -373,7 +374,8 @@ alike_all [] file e = refl
 alike_all (name ∷ names) [] e = absurd (omega (arith, e))
 alike_all (name ∷ names) (byte ∷ file) e = by (λ q. alike_all names file q) (eqb byte name) refl e
   where
-    by : (alike names file ≡ length names → file ≡ names ++ drop (length names) file) → (y : Bool) → eqb byte name ≡ y → cond y (suc (alike names file)) 0 ≡ suc (length names) → byte ∷ file ≡ name ∷ (names ++ drop (length names) file)
+    by : (alike names file ≡ length names → file ≡ names ++ drop (length names) file)
+        → (y : Bool) → eqb byte name ≡ y → cond y (suc (alike names file)) 0 ≡ suc (length names) → byte ∷ file ≡ name ∷ (names ++ drop (length names) file)
     by on true p q = rw (eqb-true byte name p) (ap (λ (z : List ℕ). name ∷ z) (on (omega (arith, q))))
     by on false p q = absurd (omega (arith, q))
 
@@ -384,7 +386,8 @@ alike_stops [] file rest h l = absurd (omega (arith, h))
 alike_stops (name ∷ names) [] rest h l = absurd (omega (arith, l))
 alike_stops (name ∷ names) (byte ∷ file) rest h l = by (λ p q. alike_stops names file rest p q) (eqb byte name) refl h l
   where
-    by : (alike names file < length names → alike names file < length file → alike names (take (suc (alike names file)) file ++ rest) ≡ alike names file) → (y : Bool) → eqb byte name ≡ y → cond y (suc (alike names file)) 0 < suc (length names) → cond y (suc (alike names file)) 0 < suc (length file)
+    by : (alike names file < length names → alike names file < length file → alike names (take (suc (alike names file)) file ++ rest) ≡ alike names file)
+        → (y : Bool) → eqb byte name ≡ y → cond y (suc (alike names file)) 0 < suc (length names) → cond y (suc (alike names file)) 0 < suc (length file)
         → alike (name ∷ names) (take (suc (cond y (suc (alike names file)) 0)) (byte ∷ file) ++ rest) ≡ cond y (suc (alike names file)) 0
     by on true p h l = rw p (ap suc (on (omega (arith, h)) (omega (arith, l))))
     by on false p h l = rw p

@@ -72,7 +72,9 @@ module _ (words begins : List ℕ) where
       → parts_begin words begins (many n sort tail) at ≡ and_then (parts_begin words begins (many n sort []) at) (parts_begin words begins tail)
   unfolding parts_begin
   parts_then sort tail zero at = refl
-  parts_then sort tail (suc n) at = part_then sort (many n sort tail) at ∙ (by (parts_begin words begins (sort ∷ []) at) (parts_then sort tail n) ∙ ap (λ (o : Option ℕ). and_then o (parts_begin words begins tail)) (sym (part_then sort (many n sort []) at)))
+  parts_then sort tail (suc n) at =
+      part_then sort (many n sort tail) at ∙ (by (parts_begin words begins (sort ∷ []) at) (parts_then sort tail n)
+      ∙ ap (λ (o : Option ℕ). and_then o (parts_begin words begins tail)) (sym (part_then sort (many n sort []) at)))
     where
       by : (o : Option ℕ) → ((at : ℕ) → parts_begin words begins (many n sort tail) at ≡ and_then (parts_begin words begins (many n sort []) at) (parts_begin words begins tail))
           → and_then o (parts_begin words begins (many n sort tail)) ≡ and_then (and_then o (parts_begin words begins (many n sort []))) (parts_begin words begins tail)

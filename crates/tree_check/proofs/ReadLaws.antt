@@ -75,8 +75,11 @@ module _ (words begins : List ℕ) (rows row : ℕ) where
       unfolding read_from
       row_missing {error} q = by found parts q
         where
-          by : (o : Option ℕ) → o ≡ parts_begin words begins (parts_of (row_at words row)) row → Err error ≡ ok_or o (PartsMissing row) → record { answer = Err error; begin = begins } ≡ read_from words no_begins 0 rows
-          by None p q = let z : error ≡ PartsMissing row = cc in ap (λ (e : TreeError). record { answer = Err e; begin = begins }) z ∙ sym (r.rest ∙ (ap (read_from words begins row) one_more ∙ rw (in_range_lem, ← p, read_from)))
+          by : (o : Option ℕ) → o ≡ parts_begin words begins (parts_of (row_at words row)) row
+              → Err error ≡ ok_or o (PartsMissing row) → record { answer = Err error; begin = begins } ≡ read_from words no_begins 0 rows
+          by None p q =
+              let z : error ≡ PartsMissing row = cc in
+              ap (λ (e : TreeError). record { answer = Err e; begin = begins }) z ∙ sym (r.rest ∙ (ap (read_from words begins row) one_more ∙ rw (in_range_lem, ← p, read_from)))
           by (Some first) p q = cc
 
       pub row_on : rows ≤ 2048 → length words ≡ rows * 6 → {first : ℕ} → Ok first ≡ ok_or found (PartsMissing row) → Reading words (set begins row first) rows (row + 1)

@@ -1,18 +1,17 @@
 // The program treecheck as a function: a file's bytes in, the bytes that are printed of it out.
-ghost use Rattle.std.specs.Prelude.{◌≡◌, List, ℕ, ◌+◌, ◌≤◌, ◌<◌, length, Ok};
-ghost use Rattle.text.specs.Lent.{Holds};
+ghost use Rattle.std.specs.Prelude.{◌≡◌, ◌-◌, ◌≤◌, length, Ok};
 ghost use Rattle.text.specs.Prints.{printing, WrittenText};
 ghost use Rattle.tree_check.specs.declared.file.FileError.TheVariants.{NotInForm, Refused};
-ghost use Rattle.tree_check.specs.Found.{checked_of};
 ghost use Rattle.tree_check.specs.Prints.{file_code, file_at, file_answer, file_checked, printed_check, check_text};
-ghost use Rattle.tree_check.specs.Read.{RowsRead, checked_as};
+ghost use Rattle.tree_check.specs.Read.{RowsRead};
 
 use crate::scan::Scan;
 use crate::{TreeError, check_tree};
 use text::lent::put;
 use text::names::names_end;
 use text::placed::Coded;
-use text::write::{NoRoom, finish_text, write_line, write_names};
+use text::version::Columns;
+use text::write::{NoRoom, Writer};
 
 // No good file could have this byte here; or the file is short, and this is its length.
 #[derive(Clone, Copy, Debug, PartialEq, Eq)]
@@ -67,15 +66,24 @@ impl<E: Coded> Coded for FileError<E> {
     }
 }
 
-// Reads the words of a table's file into the lent ones, and gives their number. The table is its line of names, then lines of `last` + 1 numbers.
-pub fn read_table(file: &[u8], names: &[u8], last: u32, words: &mut [u32]) -> Result<usize, BadByte>
+// The rows of a tree.
+pub const ROWS: Columns<'static> = Columns {
+    names: b"op a b c d e\n",
+    width: 6,
+};
+
+// Reads the words of a table's file into the lent ones, and gives their number.
+// (Not text's `read_rows`: that one is told how many lines there are, and these go on to the file's end.)
+pub fn read_table(file: &[u8], columns: Columns<'_>, words: &mut [u32]) -> Result<usize, BadByte>
     requires { length file.now ≤ 262144 }
-    ensures { RowsRead names.now last file.now words.new result }
+    ensures { RowsRead columns.entry.names.now (columns.entry.width - 1) file.now words.new result }
 {
-    let start = names_end(file, names);
-    if start != names.len() {
+    let start = names_end(file, columns.names);
+    if start != columns.names.len() {
         return Err(BadByte { at: start as u32 });
     }
+    // (Saturating, so that no clause has to ask for a column.)
+    let last = columns.width.saturating_sub(1);
     let mut scan = Scan {
         column: 0,
         number: None,
@@ -97,18 +105,6 @@ pub fn read_table(file: &[u8], names: &[u8], last: u32, words: &mut [u32]) -> Re
     Ok(count)
 }
 
-// The check of `count` words. Words past the places lent make the list too long.
-// (No slice: `count` may be beyond the words that were lent.)
-fn check_words(words: &[u32], count: usize) -> Result<(), TreeError>
-    requires { length words.now ≡ 12288 }
-    ensures { (list : List ℕ) → Holds words.now count list → checked_as list (checked_of result) }
-{
-    if count > words.len() {
-        return Err(TreeError::NotOneTree);
-    }
-    check_tree(&words[..count])
-}
-
 // Whether a file is one of rows that are a tree.
 fn check_rows(file: &[u8]) -> Result<(), FileError<TreeError>>
     ensures { file_answer result ≡ file_checked file.now }
@@ -117,18 +113,20 @@ fn check_rows(file: &[u8]) -> Result<(), FileError<TreeError>>
         return Err(FileError::TooLong);
     }
     let mut words = [0u32; 12288];
-    let count = read_table(file, b"op a b c d e\n", 5, &mut words)?;
-    check_words(&words, count)?;
+    let count = read_table(file, ROWS, &mut words)?;
+    // A file may have more words than were lent: too many for a tree.
+    check_tree(words.get(..count).ok_or(TreeError::NotOneTree)?)?;
     Ok(())
 }
 
+// Two lines: 30 bytes are always enough.
 fn write_check(out: &mut [u8], code: u32, at: u32) -> Result<usize, NoRoom>
     ensures { WrittenText 30 (printed_check (record { code = code; at = at })) (length out.old) result out.new }
 {
-    let names = write_names(out, 0, b"code at\n");
-    let numbers = [code, at];
-    let end = write_line(out, names, &numbers);
-    finish_text(out, end)
+    let mut writer = Writer::new(out);
+    writer.bytes(b"code at\n");
+    writer.line(&[code, at]);
+    writer.finish()
 }
 
 // Reads a file of rows, checks them and writes the answer; 30 bytes are enough.

@@ -2,6 +2,7 @@
 #![tactic(auto)]
 
 pub mod file;
+pub mod ops;
 mod parts;
 mod ranges;
 mod scan;
@@ -11,6 +12,7 @@ ghost use Rattle.std.specs.Prelude.{◌≡◌, ◌*◌, ◌≤◌, length};
 ghost use Rattle.tree_grammar.specs.Needs.{code_of, at_of};
 ghost use Rattle.tree_check.specs.Found.{verdict_of, checked_of, one_root, no_begins, read_from, tree_read, tree_checked};
 
+use crate::ops::BLOCK;
 use crate::ranges::in_range;
 use crate::words::{Rows, read_so_far, word};
 use text::placed::{Coded, tell_code};
@@ -39,22 +41,20 @@ impl Coded for TreeError {
     // M-100: "At is the row, or 0 for 62".
     fn place(self) -> u32 {
         match self {
-            TreeError::RowOutOfRange(row) => row,
-            TreeError::PartsMissing(row) => row,
+            TreeError::RowOutOfRange(row) | TreeError::PartsMissing(row) => row,
             TreeError::NotOneTree => 0,
         }
     }
 }
 
 // Whether just one BLOCK is left.
-// 9 is BLOCK: the op of a lent row is a word (see parts.rt).
 #[tactic(auto, unfolding(crate::specs::Found::one_root))]
 fn one_root(rows: Rows<'_>) -> bool
     requires { 1 ≤ rows.count }
     ensures { result ≡ one_root rows.entry.words.now rows.entry.begin.now rows.entry.count }
 {
     let last = rows.count - 1;
-    rows.begin[last as usize] == 0 && word(rows.words, last, 0) == 9
+    rows.begin[last as usize] == 0 && word(rows.words, last, 0) == BLOCK
 }
 
 // Checks the rows one by one, and both of a row's faults before the next row. The beginnings are lent, since a Result that holds the array is

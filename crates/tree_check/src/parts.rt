@@ -4,6 +4,10 @@ ghost use Rattle.tree_grammar.specs.Needs.{a_value, a_block, serves, made_by, ma
 ghost use Rattle.tree_check.specs.Takes.{sort_of, parts_taken};
 ghost use Rattle.tree_check.specs.Found.{row_at, parts_begin};
 
+use crate::ops::{
+    BLOCK, CASE, COND, DOWHILE, FOR, FORIN, FOROF, IF, INSTR, LABEL, LOGICAL, OPTIONAL, PRUNED,
+    SCOPE, SEQ, SWITCH, TRY, WHILE,
+};
 use crate::words::{Rows, word};
 
 // A part: what a row leaves for a later one to take.
@@ -27,16 +31,15 @@ pub struct Takes {
 }
 
 // What a row leaves. Paper 01: "values ops 1 to 3 and 5 to 8, statements 4, 10 and 12 to 25".
-// Over numbers, as `row_takes`.
 #[tactic(auto, using(crate::proofs::SortLaws::value_made, crate::proofs::SortLaws::statement_made), unfolding(tree_grammar::specs::Needs::made_by))]
 fn made_by(op: u32) -> Part
     ensures { sort_of result ≡ made_by op }
 {
     match op {
-        4 => Part::Instr,
-        0..=8 => Part::Value,
-        9 => Part::Block,
-        11 => Part::Case,
+        INSTR => Part::Instr,
+        0..=OPTIONAL => Part::Value,
+        BLOCK => Part::Block,
+        CASE => Part::Case,
         _ => Part::Statement,
     }
 }
@@ -82,30 +85,24 @@ fn for_values(update: u32) -> u32
     if update == 0 { 2 } else { 3 }
 }
 
-// The parts of a row, by its op: paper 01, "Parts come first (..), then the closing row." The op is any word of a lent row: a match over
-// paper 01's numbers. An enum of ops is no plainer, since it takes one more match with an arm for each op.
+// The parts of a row, by its op: paper 01, "Parts come first (..), then the closing row."
 fn row_takes(op: u32, a: u32, b: u32, c: u32) -> Takes
     ensures { parts_taken result ≡ get_or (needs_by_op a b c) op [] }
 {
     match op {
-        4 => one_sort(1, Part::Value), // INSTR
-        5 => two_sorts(1, Part::Value, a, Part::Instr), // SEQ
-        6 => one_sort(2, Part::Value), // LOGICAL
-        7 => one_sort(3, Part::Value), // COND
-        8 => one_sort(1, Part::Value), // OPTIONAL
-        9 => one_sort(a, Part::Statement), // BLOCK
-        10 => one_sort(if_blocks(b), Part::Block), // IF
-        11 => one_sort(1, Part::Block), // CASE
-        12 => one_sort(b, Part::Case), // SWITCH
-        13 => two_sorts(1, Part::Value, 1, Part::Block), // DOWHILE
-        14 => two_sorts(1, Part::Block, 1, Part::Value), // WHILE
-        15 => two_sorts(1, Part::Block, for_values(c), Part::Value), // FOR
-        16 => two_sorts(1, Part::Block, 2, Part::Value), // FOROF
-        17 => two_sorts(1, Part::Block, 1, Part::Value), // FORIN
-        18 => one_sort(1, Part::Block), // LABEL
-        19 => one_sort(2, Part::Block), // TRY
-        20 => one_sort(1, Part::Block), // SCOPE
-        21 => one_sort(1, Part::Block), // PRUNED
+        INSTR | OPTIONAL => one_sort(1, Part::Value),
+        SEQ => two_sorts(1, Part::Value, a, Part::Instr),
+        LOGICAL => one_sort(2, Part::Value),
+        COND => one_sort(3, Part::Value),
+        BLOCK => one_sort(a, Part::Statement),
+        IF => one_sort(if_blocks(b), Part::Block),
+        CASE | LABEL | SCOPE | PRUNED => one_sort(1, Part::Block),
+        SWITCH => one_sort(b, Part::Case),
+        DOWHILE => two_sorts(1, Part::Value, 1, Part::Block),
+        WHILE | FORIN => two_sorts(1, Part::Block, 1, Part::Value),
+        FOR => two_sorts(1, Part::Block, for_values(c), Part::Value),
+        FOROF => two_sorts(1, Part::Block, 2, Part::Value),
+        TRY => one_sort(2, Part::Block),
         _ => one_sort(0, Part::Value), // PLAIN, LOAD, UNDEF, RETURN, THROW, BREAK, CONTINUE
     }
 }

@@ -5,56 +5,59 @@ ghost use Rattle.tree_grammar.specs.Ranges.{in_range};
 ghost use Rattle.tree_check.specs.Takes.{limits_of};
 ghost use Rattle.tree_check.specs.Found.{row_at};
 
+use crate::ops::{
+    BLOCK, BREAK, CASE, COND, CONTINUE, DOWHILE, FOR, FORIN, FOROF, IF, INSTR, LABEL, LOAD,
+    LOGICAL, OPTIONAL, PLAIN, PRUNED, RETURN, SCOPE, SEQ, SWITCH, THROW, TRY, UNDEF, WHILE,
+};
 use crate::words::word;
 use table_check::limits::{ANY, CHOICE, FLAG, UNUSED, row_or_none};
 
 // More loops than a jump can cross.
 const CROSSED: u32 = 129;
 
-const BLOCK: u32 = 1024;
+const BLOCKS: u32 = 1024;
 
-const COUNT: u32 = 2048;
+const COUNTS: u32 = 2048;
 
-const INSTRUCTION: u32 = 4096;
+const INSTRUCTIONS: u32 = 4096;
 
-const PLACE: u32 = 4096;
+const PLACES: u32 = 4096;
 
-// The limits by op: M-100, "blocks are below 1,024 (a label may be none), ..". The op is any word of a lent row: a match over paper 01's
-// numbers. An enum of ops is no plainer, since it takes one more match with an arm for each op.
+// The limits by op, a line for each: M-100, "blocks are below 1,024 (a label may be none), ..".
 #[tactic(auto, unfolding(tree_grammar::specs::Ranges::row_rules))]
 fn row_limits(op: u32, a: u32, b: u32, c: u32, d: u32) -> [u32; 4]
     ensures { result ≡ limits_of op a b c d }
 {
-    let test = row_or_none(PLACE, a);
-    let label = row_or_none(BLOCK, b);
-    let binding = row_or_none(PLACE, c);
-    let label_d = row_or_none(BLOCK, d);
+    let test = row_or_none(PLACES, a);
+    let label = row_or_none(BLOCKS, b);
+    let binding = row_or_none(PLACES, c);
+    let label_d = row_or_none(BLOCKS, d);
     match op {
-        1 => [INSTRUCTION, UNUSED, UNUSED, UNUSED], // PLAIN
-        2 => [PLACE, UNUSED, UNUSED, UNUSED], // LOAD
-        3 => [ANY, ANY, UNUSED, UNUSED], // UNDEF
-        4 => [ANY, PLACE, ANY, ANY], // INSTR
-        5 => [COUNT, ANY, UNUSED, UNUSED], // SEQ
-        6 => [CHOICE, UNUSED, UNUSED, UNUSED], // LOGICAL
-        7 => [UNUSED; 4], // COND
-        8 => [FLAG, UNUSED, UNUSED, UNUSED], // OPTIONAL
-        9 => [COUNT, UNUSED, UNUSED, UNUSED], // BLOCK
-        10 => [PLACE, FLAG, ANY, label_d], // IF
-        11 => [test, UNUSED, UNUSED, UNUSED], // CASE
-        12 => [PLACE, COUNT, ANY, label_d], // SWITCH
-        13 => [ANY, label, UNUSED, UNUSED], // DOWHILE
-        14 => [ANY, label, UNUSED, UNUSED], // WHILE
-        15 => [ANY, label, FLAG, UNUSED], // FOR
-        16 => [ANY, label, ANY, ANY], // FOROF
-        17 => [ANY, label, ANY, ANY], // FORIN
-        18 => [ANY, label, UNUSED, UNUSED], // LABEL
-        19 => [ANY, label, binding, UNUSED], // TRY
-        20 => [ANY, UNUSED, UNUSED, UNUSED], // SCOPE
-        21 => [ANY, UNUSED, UNUSED, UNUSED], // PRUNED
-        22 => [PLACE, ANY, UNUSED, UNUSED], // RETURN
-        23 => [PLACE, ANY, UNUSED, UNUSED], // THROW
-        24 => [BLOCK, ANY, CHOICE, CROSSED], // BREAK
-        25 => [BLOCK, ANY, CHOICE, CROSSED], // CONTINUE
+        PLAIN => [INSTRUCTIONS, UNUSED, UNUSED, UNUSED],
+        LOAD => [PLACES, UNUSED, UNUSED, UNUSED],
+        UNDEF => [ANY, ANY, UNUSED, UNUSED],
+        INSTR => [ANY, PLACES, ANY, ANY],
+        SEQ => [COUNTS, ANY, UNUSED, UNUSED],
+        LOGICAL => [CHOICE, UNUSED, UNUSED, UNUSED],
+        COND => [UNUSED; 4],
+        OPTIONAL => [FLAG, UNUSED, UNUSED, UNUSED],
+        BLOCK => [COUNTS, UNUSED, UNUSED, UNUSED],
+        IF => [PLACES, FLAG, ANY, label_d],
+        CASE => [test, UNUSED, UNUSED, UNUSED],
+        SWITCH => [PLACES, COUNTS, ANY, label_d],
+        DOWHILE => [ANY, label, UNUSED, UNUSED],
+        WHILE => [ANY, label, UNUSED, UNUSED],
+        FOR => [ANY, label, FLAG, UNUSED],
+        FOROF => [ANY, label, ANY, ANY],
+        FORIN => [ANY, label, ANY, ANY],
+        LABEL => [ANY, label, UNUSED, UNUSED],
+        TRY => [ANY, label, binding, UNUSED],
+        SCOPE => [ANY, UNUSED, UNUSED, UNUSED],
+        PRUNED => [ANY, UNUSED, UNUSED, UNUSED],
+        RETURN => [PLACES, ANY, UNUSED, UNUSED],
+        THROW => [PLACES, ANY, UNUSED, UNUSED],
+        BREAK => [BLOCKS, ANY, CHOICE, CROSSED],
+        CONTINUE => [BLOCKS, ANY, CHOICE, CROSSED],
         _ => [UNUSED; 4],
     }
 }

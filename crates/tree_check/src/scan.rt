@@ -7,7 +7,7 @@ use text::number::{digit_value, ending_byte, extended};
 // How far a line has come: the column, and the value so far of the number in it, once it has a digit.
 #[derive(Clone, Copy, Debug, PartialEq, Eq)]
 pub struct Scan {
-    pub column: u32,
+    pub column: usize,
     pub number: Option<u32>,
 }
 
@@ -18,14 +18,14 @@ pub struct Step {
     pub ended: Option<u32>,
 }
 
-fn next_column(last: u32, column: u32) -> u32
+fn next_column(last: usize, column: usize) -> usize
     requires { column ≤ last }
     ensures { result ≡ next_column last column }
 {
     if column == last { 0 } else { column + 1 }
 }
 
-fn going_on(column: u32, value: u32) -> Step
+fn going_on(column: usize, value: u32) -> Step
     ensures { result ≡ going_on column value }
 {
     Step {
@@ -38,7 +38,7 @@ fn going_on(column: u32, value: u32) -> Step
 }
 
 #[tactic(auto, unfolding(crate::specs::Scan::first_digit))]
-fn first_digit(column: u32, byte: u8) -> Option<Step>
+fn first_digit(column: usize, byte: u8) -> Option<Step>
     ensures { result ≡ first_digit column byte }
 {
     let value = digit_value(byte)?;
@@ -46,7 +46,7 @@ fn first_digit(column: u32, byte: u8) -> Option<Step>
 }
 
 #[tactic(auto, unfolding(crate::specs::Scan::in_number))]
-fn in_number(last: u32, column: u32, value: u32, byte: u8) -> Option<Step>
+fn in_number(last: usize, column: usize, value: u32, byte: u8) -> Option<Step>
     requires { column ≤ last }
     ensures { result ≡ in_number last column value byte }
 {
@@ -66,7 +66,7 @@ fn in_number(last: u32, column: u32, value: u32, byte: u8) -> Option<Step>
 impl Scan {
     // None where no good file has this byte.
     #[tactic(auto, unfolding(crate::specs::Scan::stepped))]
-    pub fn step(self, last: u32, byte: u8) -> Option<Step>
+    pub fn step(self, last: usize, byte: u8) -> Option<Step>
         requires { self.column ≤ last }
         ensures { result ≡ stepped last self byte }
     {

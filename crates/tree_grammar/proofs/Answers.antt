@@ -132,7 +132,8 @@ module _ (list : List Row) where
       by (one_block b e) = subst (λ (Z : Forest). Answered (goal.remainder (sorts_of Z))) (sym e) (one_tree (record { ranged = h; root = b; reading = forest_tree b (subst (ReadAsForest list) e p) }))
       by (other_parts e f) = subst Answered (sym e) (remainder h (record { forest = S; reading = p }) (whole S p f))
 
-  answers : (rest : List Row) (i : ℕ) (S : Forest) → drop i list ≡ rest → i ≤ length list → ReadAsForest (take i list) S → all_in_range (take i list) ≡ true → Answered (rows_verdict rest i (sorts_of S))
+  answers : (rest : List Row) (i : ℕ) (S : Forest) → drop i list ≡ rest → i ≤ length list → ReadAsForest (take i list) S
+      → all_in_range (take i list) ≡ true → Answered (rows_verdict rest i (sorts_of S))
   answers [] i S e l p h =
       let z : take i list ≡ list = take_all i list (omega (arith, length-drop i list, ap length e)) in
       at_end i S (subst (λ (k : List Row). ReadAsForest k S) z p) (subst (λ (k : List Row). all_in_range k ≡ true) z h)

@@ -217,7 +217,8 @@ module _ (t : Table) (nb np ni nc : ℕ) (k : Bounded t nb np ni nc) where
   unfolding visit_value_block VisitRanged
   visit_ranged zero b f span v h = tt
   visit_ranged (suc d) b f span v h =
-      good_bind Any VB _ _ (good_any (begin_visit t b v)) (λ begun _. good_unless VB _ 23 b begun _ (λ _. at_good (visit_value_block t d) (visit_ranged d) (terminal_at t b) b f span begun (k.ends b) h))
+      good_bind Any VB _ _ (good_any (begin_visit t b v))
+      (λ begun _. good_unless VB _ 23 b begun _ (λ _. at_good (visit_value_block t d) (visit_ranged d) (terminal_at t b) b f span begun (k.ends b) h))
 
   -- ---- flattening
 

@@ -277,7 +277,8 @@ module _ (a b c d e : ℕ) where
   sound_16 : ClosesWell 16
   unfolding closings WellFormed
   sound_16 f = sound_block _ _ (λ s w. sound_value _ _ (λ t. sound_value _ _ (λ n.
-      sound_push _ (statement (FOROF a (unless_none b) (record { from = c; to = d }) n t s)) (λ after. ap (λ (k : Row). value_rows n (value_rows t (block_rows s (k ∷ after)))) (spanned 16 (e0 f.fit_e)))
+      sound_push _ (statement (FOROF a (unless_none b) (record { from = c; to = d }) n t s))
+      (λ after. ap (λ (k : Row). value_rows n (value_rows t (block_rows s (k ∷ after)))) (spanned 16 (e0 f.fit_e)))
       (below_none 1024 b (omega arith) f.fit_b, w))))
 
   sound_17 : ClosesWell 17

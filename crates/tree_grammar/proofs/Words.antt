@@ -33,7 +33,8 @@ back_words (op ∷ a ∷ b ∷ c ∷ []) list e = absurd (none_some e)
 back_words (op ∷ a ∷ b ∷ c ∷ d ∷ []) list e = absurd (none_some e)
 back_words (op ∷ a ∷ b ∷ c ∷ d ∷ f ∷ words) list e = by (rows_of_words words) refl e (λ l q. back_words words l q)
   where
-    by : (o : Option (List Row)) → rows_of_words words ≡ o → elim o [ none ↦ none | some l ↦ some (row op a b c d f ∷ l) ] ≡ some list → ((l : List Row) → rows_of_words words ≡ some l → words_of l ≡ words)
+    by : (o : Option (List Row)) → rows_of_words words ≡ o → elim o [ none ↦ none | some l ↦ some (row op a b c d f ∷ l) ] ≡ some list
+        → ((l : List Row) → rows_of_words words ≡ some l → words_of l ≡ words)
         → words_of list ≡ op ∷ a ∷ b ∷ c ∷ d ∷ f ∷ words
     by none o e q = absurd (none_some e)
     by (some l) o e q = let z : row op a b c d f ∷ l ≡ list = cc e in ap words_of (sym z) ∙ ap (λ (k : List ℕ). op ∷ a ∷ b ∷ c ∷ d ∷ f ∷ k) (q l o)

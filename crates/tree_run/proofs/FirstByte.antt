@@ -272,7 +272,8 @@ module _ (file : List ℕ) where
           let cut : take k file ≡ before ++ take (suc m) behind = let z : k ≡ from + suc m = omega arith in ap (λ (n : ℕ). take n file) z ∙ take-add from (suc m) file in
           let text : take k file ++ rest ≡ before ++ (take (suc m) behind ++ rest) = ap (λ (z : List ℕ). z ++ rest) cut ∙ append_assoc before (take (suc m) behind) rest in
           let second : g.second ≡ take (suc m) behind ++ rest =
-          sym (second_is g) ∙ (ap (λ (n : ℕ). drop n (take k file ++ rest)) (place_same k rest g beyond there) ∙ (ap (drop from) text ∙ drop_at before (take (suc m) behind ++ rest) from before_long)) in
+          sym (second_is g) ∙ (ap (λ (n : ℕ). drop n (take k file ++ rest)) (place_same k rest g beyond there)
+          ∙ (ap (drop from) text ∙ drop_at before (take (suc m) behind ++ rest) from before_long)) in
           answers_refused.no_further (omega (arith, l, behind_long)) rest (subst (TableFile answer_names 0) second g.answers);
       not_good = not_good all;
     }

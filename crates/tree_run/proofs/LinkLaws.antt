@@ -139,7 +139,8 @@ module _ (words begin : List ℕ) where
       by true q on = omega (arith, on q, low last)
       by false q on = absurd (none_some q)
 
-  part_served : (sort : Sort) (wanted : List Sort) (last first : ℕ) → parts_begin words begin (sort ∷ wanted) (suc last) ≡ Some first → parts_begin words begin wanted (get_or begin last 0) ≡ Some first
+  part_served : (sort : Sort) (wanted : List Sort) (last first : ℕ)
+      → parts_begin words begin (sort ∷ wanted) (suc last) ≡ Some first → parts_begin words begin wanted (get_or begin last 0) ≡ Some first
   unfolding parts_begin
   part_served sort wanted last first e = by (serves sort (made_by (word_at words last 0))) e
     where

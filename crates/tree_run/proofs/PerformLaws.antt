@@ -90,9 +90,6 @@ module _ (words : List ℕ) where
     pub held : (reached : List ℕ) → Held words before.rows.now before.number reached
         → (so_far : List ℕ) × (Held words now.rows.now now.number so_far) × (reached ++ plains (row_at words) from to ≡ so_far ++ plains (row_at words) row to)
 
-  pub performing_start : (done : Performed) (from to : ℕ) → Performing done done from to from
-  performing_start done from to = record { same = refl; long = refl; held = λ reached h. (reached, h, refl) }
-
   plains_next : (row to : ℕ) → row < to → plains (row_at words) row to ≡ plains_from (row_at words) row 1 ++ plains (row_at words) (row + 1) to
   unfolding plains_from
   plains_next row to h =

@@ -2,16 +2,19 @@
 use mathlib.Core.Path.{◌≡◌, refl, sym, ap, ◌∙◌, subst}
 use Prim.Native.Nat.{ℕ, zero, suc, ◌+◌, ◌*◌, ◌≤◌}
 use native.Mathlib.Omega.{arith}
-use mathlib.Core.List.{List, [], ◌∷◌, ◌++◌, append-nil}
+use mathlib.Core.List.{List, [], ◌∷◌, ◌++◌}
 use mathlib.Core.Option.{Option, none, some}
 use mathlib.Core.Bool.{Bool, true, false}
 use lib.ListN.{length, get_or, take, drop, length-append, length-take}
 use lib.Dec.{leb}
 use Rattle.text.specs.Line.{line, lines}
 use Rattle.text.specs.File.{Words}
-use Rattle.text.specs.Printed.{Written, written_of, lent_of, Wrote}
+use Rattle.text.specs.Printed.{Written, written_of, lent_of}
+use Rattle.text.specs.Writer.{written}
+use Rattle.text.specs.declared.write.Writer.{Writer}
 use Rattle.text.proofs.PrintsLaws.{AsPrinted, as_printed}
-use Rattle.text.proofs.WriteLaws.{Narrow, narrow_words, narrow_take, narrow_drop, line_most, text_fits, wrote_then}
+use Rattle.text.proofs.WriteLaws.{Narrow, narrow_words, narrow_take, narrow_drop, line_most, text_fits}
+use Rattle.text.proofs.WriterLaws.{written_append}
 use Rattle.convert.specs.Cut.{cut}
 use Rattle.definition.specs.Tree.{Statements, rows}
 use Rattle.definition.specs.Run.{Answers, Reason, returned, threw, no_answer_left, not_plain, no_target, end_of_tree, no_such_case, Run, unfinished, stopped}
@@ -31,7 +34,7 @@ use Rattle.tree_run.specs.declared.RunError.{RunError}
 use Rattle.tree_run.specs.declared.RunError.TheVariants.{NotATree, NoTarget, NotRun, NoRoom}
 use Rattle.tree_check.specs.declared.TreeError.TheVariants.{RowOutOfRange, PartsMissing, NotOneTree}
 use Rattle.tree_run.specs.Answer.{file_code}
-use Rattle.tree_run.specs.Prints.{file_outcome, run_names, instruction_names, performed_lines, printed_run, most_printed, lent_rows, run_text}
+use Rattle.tree_run.specs.Prints.{file_outcome, run_names, performed_lines, printed_run, most_printed, lent_rows, run_text}
 
 -- ---- the number of rows
 
@@ -98,32 +101,27 @@ told_buffer (Ok run) buffer = refl
 told_buffer (Err error) buffer = refl
 
 -- no more rows are told than the buffer has words
-pub number_within : (file : List ℕ) (lent : ℕ) (r : Result told.Run (FileError RunError)) (buffer : List ℕ) → file_outcome r buffer ≡ file_run file lent → (file_outcome r buffer).number ≤ length buffer
+pub number_within : (file : List ℕ) (lent : ℕ) (r : Result told.Run (FileError RunError)) (buffer : List ℕ)
+    → file_outcome r buffer ≡ file_run file lent → (file_outcome r buffer).number ≤ length buffer
 number_within file lent r buffer e =
     subst (λ (b : List ℕ). (file_outcome r buffer).number ≤ length b) (told_buffer r buffer) (subst Within (sym e) (file_within file lent))
 
 -- ---- the lines
 
-refused_lines : (code number : ℕ) (buffer : List ℕ) → (code ≡ 0 → ⊥) → performed_lines code number buffer ≡ []
-unfolding performed_lines
-refused_lines zero number buffer f = absurd (f refl)
-refused_lines (suc code) number buffer f = refl
+-- the two lines that are always there, then those of the rows performed
+pub lines_written : (w : Writer) (o : Outcome)
+    → written w (printed_run o) ≡ written (written (written w run_names) (line (o.code ∷ o.at ∷ o.number ∷ o.reason ∷ []))) (performed_lines o.code o.number o.buffer)
+unfolding printed_run
+lines_written w o =
+    let numbers : List ℕ = o.code ∷ o.at ∷ o.number ∷ o.reason ∷ [] in
+    let rows : List ℕ = performed_lines o.code o.number o.buffer in
+    written_append w run_names (line numbers ++ rows) ∙ written_append (written w run_names) (line numbers) rows
 
-run_lines : (code number : ℕ) (buffer : List ℕ) → code ≡ 0 → performed_lines code number buffer ≡ instruction_names ++ lines (cut 1 1 number buffer)
-unfolding performed_lines
-run_lines zero number buffer e = refl
-run_lines (suc code) number buffer e = absurd (omega (arith, e))
-
-module _ (code at number reason : ℕ) (buffer : List ℕ) {b b' b'' : List ℕ} {names head : ℕ}
-    (n : Wrote b 0 run_names b' names) (l : Wrote b' names (line (code ∷ at ∷ number ∷ reason ∷ [])) b'' head) where
-  pub refusal_wrote : (code ≡ 0 → ⊥) → Wrote b 0 (printed_run (record { code = code; at = at; number = number; reason = reason; buffer = buffer })) b'' head
-  unfolding printed_run
-  refusal_wrote f = rw (refused_lines code number buffer f, append-nil (line (code ∷ at ∷ number ∷ reason ∷ []))) (wrote_then n l)
-
-  pub run_wrote : {b''' : List ℕ} {end : ℕ} → code ≡ 0 → Wrote b'' head (instruction_names ++ lines (cut 1 1 number buffer)) b''' end
-      → Wrote b 0 (printed_run (record { code = code; at = at; number = number; reason = reason; buffer = buffer })) b''' end
-  unfolding printed_run
-  run_wrote e p = rw (run_lines code number buffer e) (wrote_then n (wrote_then l p))
+-- a refusal has no more
+pub refused_lines : (w : Writer) (code number : ℕ) (buffer : List ℕ) → (code ≡ 0 → ⊥) → written w (performed_lines code number buffer) ≡ w
+unfolding performed_lines written
+refused_lines w zero number buffer f = absurd (f refl)
+refused_lines w (suc code) number buffer f = refl
 
 -- a refusal has a code
 pub no_code : (error : FileError RunError) → file_code error ≡ 0 → ⊥

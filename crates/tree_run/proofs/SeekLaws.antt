@@ -1,43 +1,42 @@
 -- The first row that is not run; a refusal.
-use mathlib.Core.Path.{◌≡◌, sym, ap, ◌∙◌}
-use Prim.Native.Nat.{ℕ, suc, ◌+◌, ◌-◌, ◌<◌, ◌≤◌}
+use mathlib.Core.Path.{◌≡◌, refl, sym, ap}
+use Prim.Native.Nat.{ℕ, zero, suc, ◌+◌, ◌<◌, ◌≤◌}
 use native.Mathlib.Omega.{arith}
-use native.Mathlib.Numerals.{add-one}
 use mathlib.Core.List.{List}
 use mathlib.Core.Bool.{Bool, true, false}
-use Rattle.std.specs.Prelude.{Some, None}
+use lib.Dec.{eqb}
+use borrow.Author.Tests.{eqb-true, eqb-false}
+use Rattle.std.specs.Prelude.{Option, Some, None, MatchOption}
 use Rattle.tree_check.specs.Found.{word_at}
 use Rattle.tree_runs.specs.Ran.{not_run}
 use Rattle.tree_run.specs.Holds.{not_run_from}
 
-module _ (words : List ℕ) (rows : ℕ) where
-  -- what is left to look at gives what all rows give
-  pub record Seeking (row : ℕ) : Type 0 where
-    pub rest : not_run_from words 0 rows ≡ not_run_from words row (rows - row)
-    pub most : row ≤ rows
+module _ (words : List ℕ) where
+  abbrev pub Runs : ℕ → Type 0
+  Runs row = false ≡ not_run (word_at words row 0)
 
-  pub seek_start : Seeking 0
-  seek_start = let z : rows ≡ rows - 0 = omega arith in record { rest = ap (not_run_from words 0) z; most = omega arith }
+  abbrev pub Stops : ℕ → Type 0
+  Stops row = true ≡ not_run (word_at words row 0)
 
-  module _ (row : ℕ) (s : Seeking row) where
-    one_more : row < rows → rows - row ≡ suc (rows - (row + 1))
-    one_more h = omega arith
+  none_stops : (i count : ℕ) → ((k : ℕ) → i ≤ k → k < i + count → Runs k) → None ≡ not_run_from words i count
+  unfolding not_run_from
+  none_stops i zero h = refl
+  none_stops i (suc count) h = rw (← h i (omega arith) (omega arith), not_run_from) (none_stops (suc i) count (λ k a b. h k (omega (arith, a)) (omega (arith, b))))
 
-    module _ (h : row < rows) {op : ℕ} {yes_no : Bool} (is : op ≡ word_at words row 0) (asked : yes_no ≡ not_run op) where
-      here : (y : Bool) → yes_no ≡ y → not_run_from words 0 rows ≡ elim y [ true ↦ Some row | false ↦ not_run_from words (suc row) (rows - (row + 1)) ]
-      here y e =
-          s.rest
-          ∙ (ap (not_run_from words row) (one_more h)
-          ∙ (unfold not_run_from in ap (λ (z : Bool). elim z [ true ↦ Some row | false ↦ not_run_from words (suc row) (rows - (row + 1)) ]) (sym (asked ∙ ap not_run is) ∙ e)))
+  first_stops : (i count row : ℕ) → i ≤ row → row < i + count → Stops row → ((k : ℕ) → i ≤ k → k < row → Runs k) → Some row ≡ not_run_from words i count
+  unfolding not_run_from
+  first_stops i zero row a b s h = absurd (omega (arith, a, b))
+  first_stops i (suc count) row a b s h = by (λ l. first_stops (suc i) count row l (omega (arith, b)) s (λ k c d. h k (omega (arith, c)) d)) (eqb i row) refl
+    where
+      by : (suc i ≤ row → Some row ≡ not_run_from words (suc i) count) → (y : Bool) → eqb i row ≡ y → Some row ≡ not_run_from words i (suc count)
+      by later true e =
+          let z : i ≡ row = eqb-true i row e in
+          let here : Stops i = rw z s in
+          rw (← here, not_run_from) (ap Some (sym z))
+      by later false e = let l : suc i ≤ row = omega (arith, a, eqb-false i row e) in rw (← h i (omega arith) l, not_run_from) (later l)
 
-      pub seek_found : yes_no ≡ true → Some row ≡ not_run_from words 0 rows
-      seek_found e = sym (here true e)
-
-      pub seek_on : yes_no ≡ false → Seeking (row + 1)
-      seek_on e = record { rest = here false e ∙ ap (λ (r : ℕ). not_run_from words r (rows - (row + 1))) (sym (add-one row)); most = omega arith }
-
-    pub seek_end : rows ≤ row → None ≡ not_run_from words 0 rows
-    unfolding not_run_from
-    seek_end h =
-        let n : rows - row ≡ 0 = omega arith in
-        sym (s.rest ∙ ap (not_run_from words row) n)
+  pub sought : (rows : ℕ) (found : Option ℕ)
+      → MatchOption found ((k : ℕ) → 0 ≤ k → k < rows → Runs k) (λ i. (0 ≤ i) × (i < rows) × Stops i × ((k : ℕ) → 0 ≤ k → k < i → Runs k))
+      → found ≡ not_run_from words 0 rows
+  sought rows None h = none_stops 0 rows (λ k a b. h k a (omega (arith, b)))
+  sought rows (Some row) h = first_stops 0 rows row h.0 (omega (arith, h.1)) h.2 h.3

@@ -1,11 +1,9 @@
 -- What treerun prints of a file: `code at number reason` and the four numbers; of a run then `instruction` and the rows performed, one a line.
 use Rattle.std.specs.Prelude.{◌≡◌, ℕ, zero, suc, ◌≤◌, List, [], ◌∷◌, ◌++◌, length, Result, Ok, Err}
 use Rattle.text.specs.Ascii.{ascii}
-use Rattle.text.specs.Lent.{Holds}
 use Rattle.text.specs.Line.{line, lines}
 use Rattle.convert.specs.Cut.{cut}
 use Rattle.tree_runs.specs.Ran.{Outcome}
-use Rattle.tree_runs.specs.Given.{run_of}
 use Rattle.tree_run.specs.declared.Run.{Run}
 use Rattle.tree_run.specs.declared.RunError.{RunError}
 use Rattle.tree_check.specs.declared.file.FileError.{FileError}
@@ -51,7 +49,3 @@ file_outcome (Err error) buffer = record { code = file_code error; at = file_at 
 pub record AnswersAt (file : List ℕ) (r : ℕ) : Type 0 where
   pub is : r ≡ answers_from 0 file
   pub within : r ≤ length file
-
--- the run of a number of words; words past the places lent make the list too long
-abbrev pub RunsWords : (words : List ℕ) → (count : ℕ) → (answers : List ℕ) → (lent : ℕ) → Result Run RunError → (performed : List ℕ) → Type 0
-RunsWords words count answers lent r performed = (list : List ℕ) → Holds words count list → outcome_of r performed ≡ run_of list answers lent

@@ -1,20 +1,30 @@
 // The program treerun as a function: a file's bytes in, the bytes that are printed of it out.
 ghost use Rattle.std.specs.Prelude.{◌≡◌, ◌≤◌, length, Ok};
-ghost use Rattle.text.specs.Printed.{Wrote};
 ghost use Rattle.text.specs.Prints.{printing};
+ghost use Rattle.text.specs.Writer.{written};
 ghost use Rattle.tree_check.specs.declared.file.FileError.TheVariants.{Refused};
-ghost use Rattle.tree_run.specs.Given.{opens_answers, file_run};
-ghost use Rattle.tree_run.specs.Prints.{file_outcome, printed_run, most_printed, run_text, AnswersAt, RunsWords};
+ghost use Rattle.tree_run.specs.Given.{file_run};
+ghost use Rattle.tree_run.specs.Prints.{file_outcome, printed_run, most_printed, run_text, AnswersAt};
 
 use crate::{Run, RunError, run_tree};
 use convert::written_tables::write_part;
 use text::lent::zeros;
 use text::placed::Coded;
 use text::version::Columns;
-use text::write::{NoRoom, finish_text, write_line, write_names};
+use text::write::{NoRoom, Writer};
 use tree_check::TreeError;
-use tree_check::file::{BadByte, FileError, read_table};
+use tree_check::file::{BadByte, FileError, ROWS, read_table};
 use values::rows::clear;
+
+const ANSWERS: Columns<'static> = Columns {
+    names: b"answer\n",
+    width: 1,
+};
+
+const PERFORMED: Columns<'static> = Columns {
+    names: b"instruction\n",
+    width: 1,
+};
 
 impl From<RunError> for FileError<RunError> {
     ghost from_gives = { λ refused error. error ≡ Refused refused };
@@ -24,41 +34,13 @@ impl From<RunError> for FileError<RunError> {
     }
 }
 
-// Whether the answers begin at this byte.
-fn opens_answers(at: usize, byte: u8) -> bool
-    ensures { result ≡ opens_answers at byte }
-{
-    13 <= at && byte == b'a'
-}
-
-// The byte that the answers begin at, or the file's length.
+// The byte that the answers begin at, or the file's length: an `a` behind the rows' line of names, which has 13 bytes. No row has one.
 fn answers_at(file: &[u8]) -> usize
     ensures { AnswersAt file.now result }
 {
-    for (at, byte) in file.iter().enumerate() {
-        if opens_answers(at, *byte) {
-            return at;
-        }
-    }
-    file.len()
-}
-
-// The run of `count` words.
-// (No slice: `count` may be beyond the words that were lent.)
-fn run_words(
-    words: &[u32],
-    count: usize,
-    answers: &[u32],
-    performed: &mut [u32],
-) -> Result<Run, RunError>
-    requires { length words.now ≡ 12288 }
-    ensures { RunsWords words.now count answers.now (length performed.old) result performed.new }
-{
-    if count > words.len() {
-        clear(performed, 0);
-        return Err(RunError::NotATree(TreeError::NotOneTree));
-    }
-    run_tree(&words[..count], answers, performed)
+    (13..file.len())
+        .find(|at| file[*at] == b'a')
+        .unwrap_or(file.len())
 }
 
 // The run of a file: 51, 50, or what its rows and answers give.
@@ -72,38 +54,33 @@ fn run_bytes(file: &[u8], performed: &mut [u32]) -> Result<Run, FileError<RunErr
     let from = answers_at(file);
     // 2,048 rows of six words, and fewer answers than bytes.
     let mut words = zeros::<u32, 12288>();
-    let count = read_table(&file[..from], b"op a b c d e\n", 5, &mut words)?;
+    let count = read_table(&file[..from], ROWS, &mut words)?;
     let mut answers = zeros::<u32, 262144>();
-    let given = match read_table(&file[from..], b"answer\n", 0, &mut answers) {
-        Ok(given) => given,
-        Err(bad) => {
-            let at = from as u32 + bad.at;
-            return Err(FileError::NotInForm(BadByte { at }));
-        }
-    };
-    let run = run_words(&words, count, &answers[..given], performed)?;
+    let given = read_table(&file[from..], ANSWERS, &mut answers).map_err(|bad| BadByte {
+        at: from as u32 + bad.at,
+    })?;
+    // A file may have more words than were lent: too many for a tree.
+    let rows = words
+        .get(..count)
+        .ok_or(RunError::NotATree(TreeError::NotOneTree))?;
+    let run = run_tree(rows, &answers[..given], performed)?;
     Ok(run)
 }
 
 // The lines of what a run gave.
-fn write_lines(out: &mut [u8], ran: Result<Run, FileError<RunError>>, performed: &[u32]) -> usize
+fn write_lines(writer: &mut Writer<'_>, ran: Result<Run, FileError<RunError>>, performed: &[u32])
     requires number_in_bounds { (file_outcome ran performed.now).number ≤ length performed.now }
     requires number_bound { (file_outcome ran performed.now).number ≤ 65536 }
-    ensures wrote { Wrote out.old 0 (printed_run (file_outcome ran performed.now)) out.new result }
-    ensures most { result ≤ most_printed }
+    ensures wrote { writer.new ≡ written writer.old (printed_run (file_outcome ran performed.now)) }
+    ensures most { length (printed_run (file_outcome ran performed.now)) ≤ most_printed }
 {
-    let names = write_names(out, 0, b"code at number reason\n");
+    writer.bytes(b"code at number reason\n");
     match ran {
         Ok(run) => {
-            let number = run.number as u32;
-            let head = write_line(out, names, &[0, 0, number, run.reason.number()]);
-            let columns = Columns {
-                names: b"instruction\n",
-                width: 1,
-            };
-            write_part(out, head, columns, &performed[..run.number], 1)
+            writer.line(&[0, 0, run.number as u32, run.reason.number()]);
+            write_part(writer, PERFORMED, &performed[..run.number], 1);
         }
-        Err(error) => write_line(out, names, &[error.code(), error.place(), 0, 0]),
+        Err(error) => writer.line(&[error.code(), error.place(), 0, 0]),
     }
 }
 
@@ -114,6 +91,7 @@ pub fn run_file(file: &[u8], out: &mut [u8]) -> Result<usize, NoRoom>
 {
     let mut performed = zeros::<u32, 65536>();
     let ran = run_bytes(file, &mut performed);
-    let end = write_lines(out, ran, &performed);
-    finish_text(out, end)
+    let mut writer = Writer::new(out);
+    write_lines(&mut writer, ran, &performed);
+    writer.finish()
 }

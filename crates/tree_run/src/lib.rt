@@ -4,7 +4,6 @@
 mod completions;
 pub mod file;
 mod links;
-mod ops;
 mod performed;
 mod row_walk;
 mod rows;
@@ -18,32 +17,27 @@ ghost use Rattle.tree_run.specs.Answer.{reason_number, code_of, at_of};
 ghost use Rattle.tree_run.specs.Holds.{not_run_from, kept, number_of, outcome_of};
 
 use crate::links::{Link, link_rows};
-use crate::ops::{COND, FORIN, FOROF, LOGICAL, OPTIONAL, TRY};
 use crate::row_walk::walk;
 use crate::rows::{Tree, word};
-use text::placed::Coded;
+use text::placed::{Coded, tell_code};
+use tree_check::ops::{COND, FORIN, FOROF, LOGICAL, OPTIONAL, TRY};
 use tree_check::{TreeError, read_tree};
 use values::rows::clear;
 
 // Why a run stopped.
 #[derive(Clone, Copy, Debug, PartialEq, Eq)]
 pub enum Reason {
-    Return,
-    Throw,
-    End,
-    NoAnswer,
+    Return = 1,
+    Throw = 2,
+    End = 3,
+    NoAnswer = 4,
 }
 
 impl Reason {
     pub fn number(self) -> u32
         ensures { result ≡ reason_number self }
     {
-        match self {
-            Reason::Return => 1,
-            Reason::Throw => 2,
-            Reason::End => 3,
-            Reason::NoAnswer => 4,
-        }
+        self as u32
     }
 }
 
@@ -88,9 +82,7 @@ impl Coded for RunError {
     fn place(self) -> u32 {
         match self {
             RunError::NotATree(error) => error.place(),
-            RunError::NoTarget(row) => row,
-            RunError::NotRun(row) => row,
-            RunError::NoRoom(row) => row,
+            RunError::NoTarget(row) | RunError::NotRun(row) | RunError::NoRoom(row) => row,
         }
     }
 }
@@ -105,12 +97,7 @@ fn not_run(op: u32) -> bool
 fn first_not_run(tree: &[u32], rows: u32) -> Option<u32>
     ensures { result ≡ not_run_from tree.now 0 rows }
 {
-    for row in 0..rows {
-        if not_run(word(tree, row, 0)) {
-            return Some(row);
-        }
-    }
-    None
+    (0..rows).find(|row| not_run(word(tree, *row, 0)))
 }
 
 // The run, before what is left of the buffer is cleared.
@@ -141,10 +128,7 @@ pub fn run_tree(tree: &[u32], answers: &[u32], performed: &mut [u32]) -> Result<
     ensures { outcome_of result performed.new ≡ run_of tree.now answers.now (length performed.old) }
 {
     let ran = run_rows(tree, answers, performed);
-    let number = match ran {
-        Ok(run) => run.number,
-        Err(_) => 0,
-    };
+    let number = ran.map_or(0, |run| run.number);
     clear(performed, number);
     ran
 }
@@ -160,18 +144,8 @@ pub fn tree_run(
 ) -> u32
     ensures { record { code = result; at = at.new; number = number.new; reason = reason.new; buffer = performed.new } ≡ run_of tree.now answers.now (length performed.old) }
 {
-    match run_tree(tree, answers, performed) {
-        Ok(run) => {
-            *at = 0;
-            *number = run.number;
-            *reason = run.reason.number();
-            0
-        }
-        Err(error) => {
-            *at = error.place();
-            *number = 0;
-            *reason = 0;
-            error.code()
-        }
-    }
+    let ran = run_tree(tree, answers, performed);
+    *number = ran.map_or(0, |run| run.number);
+    *reason = ran.map_or(0, |run| run.reason.number());
+    tell_code(ran, at)
 }

@@ -5,10 +5,10 @@ ghost use Rattle.tree_runs.specs.Links.{plains, plains_from};
 ghost use Rattle.tree_run.specs.Holds.{Performs};
 
 use crate::RunError;
-use crate::ops::PLAIN;
 use crate::rows::Tree;
 use crate::turns::Turn;
 use std::ops::Range;
+use tree_check::ops::PLAIN;
 
 // The first `number` words of the lent buffer are the instructions of the rows performed so far.
 // (No Model: its view would hide the reference, and a caller could not tell what is left in its buffer.)

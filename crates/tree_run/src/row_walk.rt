@@ -8,11 +8,11 @@ ghost use Rattle.tree_run.specs.Abstraction.{completion_of, place_of, links_in, 
 ghost use Rattle.tree_run.specs.Holds.{back_by, Instructs, After, Ends, Walks, told};
 
 use crate::completions::Completion;
-use crate::ops::{BLOCK, INSTR};
 use crate::performed::Performed;
 use crate::rows::Tree;
 use crate::turns::{Place, Then, Turn, down, up};
 use crate::{Reason, Run, RunError};
+use tree_check::ops::{BLOCK, INSTR};
 
 // The case at a place in source order: so many cases back from the row `last`.
 fn case_at(tree: &Tree, last: u32, place: u32) -> u32

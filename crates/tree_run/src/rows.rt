@@ -1,5 +1,5 @@
-// The rows of a tree, where the part that closes at each begins, and what lies ahead of it. Beyond their end all read as 0, so that no function over them has a
-// precondition.
+// The rows of a tree, where the part that closes at each begins, and what lies ahead of it. Beyond their end all read as 0, so that no function
+// over them has a precondition.
 ghost use Rattle.std.specs.Prelude.{◌≡◌, ◌+◌, eqb, get_or};
 ghost use Rattle.table.specs.Table.{unless_none};
 ghost use Rattle.tree_check.specs.Found.{word_at};

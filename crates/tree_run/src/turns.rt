@@ -10,12 +10,12 @@ ghost use Rattle.tree_runs.specs.Acts.{act, go, ask, act_down, act_up, round_aga
 ghost use Rattle.tree_run.specs.Abstraction.{if_any, completion_of, links_in, begin_in, node_in, then_of, act_of};
 
 use crate::completions::{Completion, loop_continues};
-use crate::ops::{
+use crate::rows::Tree;
+use std::ops::Range;
+use tree_check::ops::{
     BLOCK, BREAK, CASE, CONTINUE, DOWHILE, FOR, IF, INSTR, LABEL, PRUNED, RETURN, SCOPE, SWITCH,
     THROW, WHILE,
 };
-use crate::rows::Tree;
-use std::ops::Range;
 
 // Into a row, or out of it with a completion.
 #[derive(Clone, Copy, Debug, Drop, PartialEq, Eq)]

@@ -280,7 +280,8 @@ module _ (Im : List ℕ → List ℕ → Type 0) (im_none : Im [] []) (im_both :
       cases_alike (CASE x b r) f after (wb, wr) h k k' q es es' p =
           let entry : AlikeRuns Im (λ z. then (run_statements b z) k) (λ z. then (run_statements (numbered f b) z) k')
           = λ z. then_alike (run_statements b z) (run_statements (numbered f b) z) k k' (tree_alike b f (row 11 x 0 0 0 0 ∷ cases_rows r after) wb h z) q in
-          cases_alike r (suc (suc (end_statements f b))) after wr (step (suc (end_statements f b)) (row 11 x 0 0 0 0) (cases_rows r after) (after_block b f (row 11 x 0 0 0 0 ∷ cases_rows r after) wb h))
+          cases_alike r (suc (suc (end_statements f b))) after wr
+          (step (suc (end_statements f b)) (row 11 x 0 0 0 0) (cases_rows r after) (after_block b f (row 11 x 0 0 0 0 ∷ cases_rows r after) wb h))
           (λ z. then (run_statements b z) k) (λ z. then (run_statements (numbered f b) z) k') entry ((λ z. then (run_statements b z) k) ∷ es)
           ((λ z. then (run_statements (numbered f b) z) k') ∷ es') (entry, p)
 
@@ -309,7 +310,8 @@ module _ (row_at : ℕ → Row) (t : Links) (number : ℕ) where
     value_image (UNDEF n) f after h = image_none
     value_image (SEQ is i v) f after h =
         image_both (instructions_image is f (value_rows v (row 5 (count_instructions is) i 0 0 0 ∷ after)) h)
-        (value_image v (end_instructions f is) (row 5 (count_instructions is) i 0 0 0 ∷ after) (instructions_at row_at t number is f (value_rows v (row 5 (count_instructions is) i 0 0 0 ∷ after)) h).rest)
+        (value_image v (end_instructions f is) (row 5 (count_instructions is) i 0 0 0 ∷ after)
+        (instructions_at row_at t number is f (value_rows v (row 5 (count_instructions is) i 0 0 0 ∷ after)) h).rest)
     value_image (LOGICAL o l r) f after h =
         image_both (value_image l f (value_rows r (row 6 o 0 0 0 0 ∷ after)) h)
         (value_image r (suc (close_value f l)) (row 6 o 0 0 0 0 ∷ after) (value_at row_at t number l f (value_rows r (row 6 o 0 0 0 0 ∷ after)) h).rest)

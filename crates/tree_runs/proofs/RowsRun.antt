@@ -31,7 +31,8 @@ rows_run row_at t number root w h answers =
     walk_runs (layout_of row_at t number) (numbered 0 root) (end_statements 0 root) p.0 p.1 (suc (3 * number)) (omega (arith, q, e)) answers
 
 -- and where no row is refused 64, the outcome is what that end gives
-pub rows_ran : (row_at : ℕ → Row) (t : Links) (number : ℕ) (root : Statements) → WellFormed root → Stand row_at t number 0 (rows root) → first_not_run (rows root) 0 ≡ none → (answers : Answers) (lent : ℕ)
+pub rows_ran : (row_at : ℕ → Row) (t : Links) (number : ℕ) (root : Statements) → WellFormed root → Stand row_at t number 0 (rows root)
+    → first_not_run (rows root) 0 ≡ none → (answers : Answers) (lent : ℕ)
     → ran root answers lent
     ≡ from_reached (instruction_at row_at t number) lent (run_statements (numbered 0 root) answers).rows (reason_of (run_statements (numbered 0 root) answers).completion)
 unfolding ran tree_run from_reached after_sorts given

@@ -72,7 +72,8 @@ mutual
   statement_turns (FOROF i l s n t b) f =
       let q : f ≤ close_value f n = value_up n f in
       let r : suc (close_value f n) ≤ close_value (suc (close_value f n)) t = value_up t (suc (close_value f n)) in
-      let p : turns_in (numbered (suc (close_value (suc (close_value f n)) t)) b) + 3 * suc (close_value (suc (close_value f n)) t) ≤ 3 * suc (end_statements (suc (close_value (suc (close_value f n)) t)) b)
+      let p : turns_in (numbered (suc (close_value (suc (close_value f n)) t)) b) + 3 * suc (close_value (suc (close_value f n)) t)
+      ≤ 3 * suc (end_statements (suc (close_value (suc (close_value f n)) t)) b)
       = block_turns b (suc (close_value (suc (close_value f n)) t)) in
       omega (arith, p, q, r)
   statement_turns (FORIN i l s n b) f =

@@ -54,7 +54,8 @@ module _ (L : Layout) where
   halt_going e = let z : ◌≡◌ {A = ℕ} 0 1 = cc in omega arith
 
   -- where the run stops does not matter
-  stopped_on : (k p : ℕ) (r : Reason) (P : List ℕ) (a : Answers) (x y : ℕ) → y ≤ x → (end : Completed) → Completes L y (state (leave p (stop r)) P a) end → Completes L x (state (leave k (stop r)) P a) end
+  stopped_on : (k p : ℕ) (r : Reason) (P : List ℕ) (a : Answers) (x y : ℕ) → y ≤ x → (end : Completed)
+      → Completes L y (state (leave p (stop r)) P a) end → Completes L x (state (leave k (stop r)) P a) end
   unfolding step leaving
   stopped_on k p r P a x y h end (halts e) = more_turns (halts (ap (λ (z : Completed). halt z) (halt_is e))) x h
   stopped_on k p r P a x y h end (goes e g) = absurd (halt_going e)

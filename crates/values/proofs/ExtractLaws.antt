@@ -7,7 +7,7 @@ use native.Mathlib.Omega.{arith}
 use lib.Dec.{eqb}
 use borrow.Author.Tests.{ne_eqb, eqb-true, eqb-false}
 use Rattle.table.specs.declared.columns.Span.{Span}
-use Rattle.table.specs.Words.{place_count, identifier_count, place_word, identifier_word}
+use Rattle.table.specs.Words.{place_count, place_word, identifier_word}
 use Rattle.table.specs.Table.{Operation, other, load_local, store_local, table_of, Variant, goto, terminal_at, block_at, instruction_at, instruction_rows_at, rows_from, is_goto}
 use Rattle.table.specs.Promise as table
 use Rattle.table.specs.Promise.{Promise, Heads, Instructs, Operates, OperandsInRange}
@@ -24,7 +24,8 @@ use Rattle.values.proofs.EndingLaws.{no_goto}
 use Rattle.std.specs.Bool.{then_some}
 use Rattle.definition.specs.Result.{Result, ok, refused}
 use Rattle.definition.specs.Tree.{PLAIN, LOAD}
-use Rattle.definition.specs.Value.{ValueBlockResult, wrap_with_sequence, final_value, final_place, stored_to_named, all_but_last, last, extract_value_block_result, extract_or_refuse, branch_value, is_empty, is_empty_goto}
+use Rattle.definition.specs.Value.{ValueBlockResult, wrap_with_sequence, final_value, final_place, stored_to_named, all_but_last}
+use Rattle.definition.specs.Value.{last, extract_value_block_result, extract_or_refuse, branch_value, is_empty, is_empty_goto}
 use Rattle.values.specs.Met.{loads, Ends, UnnamedStore}
 use Rattle.values.proofs.MetLaws.{wrap}
 
@@ -45,9 +46,6 @@ plain_place l (store_local p q) zero f = absurd (f refl)
 plain_place l (store_local p q) (suc n) f = refl
 
 module _ {ws : List ℕ} (p : Promise ws) {to value identifier : ℕ} (inside : OperandsInRange (place_count ws) (store_local to value)) (e : identifier ≡ place_word ws to) where
-  pub place_identifier : identifier < identifier_count ws
-  place_identifier = rw e (p.place to inside.0)
-
   -- the name of what a StoreLocal stores to
   name_is : stored_to_named (table_of ws) (store_local to value) ≡ identifier_word ws identifier
   unfolding stored_to_named
@@ -56,7 +54,8 @@ module _ {ws : List ℕ} (p : Promise ws) {to value identifier : ℕ} (inside : 
   pub stores_unnamed : {named : Bool} → named ≡ not (eqb (identifier_word ws identifier) 0) → UnnamedStore ws (store_local to value) (then_some (not named) (to, value))
   stores_unnamed {named = named} n = by (eqb (identifier_word ws identifier) 0) refl named n
     where
-      by : (y : Bool) → eqb (identifier_word ws identifier) 0 ≡ y → (named : Bool) → named ≡ not (eqb (identifier_word ws identifier) 0) → UnnamedStore ws (store_local to value) (then_some (not named) (to, value))
+      by : (y : Bool) → eqb (identifier_word ws identifier) 0 ≡ y → (named : Bool) → named ≡ not (eqb (identifier_word ws identifier) 0)
+          → UnnamedStore ws (store_local to value) (then_some (not named) (to, value))
       by true e named q = rw (q, e) (refl, name_is ∙ eqb-true _ 0 e)
       by false e named q = rw (q, e) (λ z. eqb-false _ 0 e (sym name_is ∙ z))
 
@@ -77,7 +76,9 @@ module _ {ws : List ℕ} {i id lvalue : ℕ} {span : Span} (head : Instructs ws 
   pub extract_plain : (stored_to_named (table_of ws) o ≡ 0 → ⊥)
       → extract_value_block_result (table_of ws) block i [] visits ≡ record { block = block; place = lvalue; value = PLAIN i; id = id; visits = visits }
   unfolding extract_value_block_result last all_but_last wrap_with_sequence
-  extract_plain f = rw is (rw (plain_value i o (stored_to_named (table_of ws) o) f, plain_place (instruction_at (table_of ws) i).lvalue o (stored_to_named (table_of ws) o) f, head.is_id, head.is_lvalue))
+  extract_plain f =
+      let named : ℕ = stored_to_named (table_of ws) o in
+      rw is (rw (plain_value i o named f, plain_place (instruction_at (table_of ws) i).lvalue o named f, head.is_id, head.is_lvalue))
 
 -- ---- several instructions
 

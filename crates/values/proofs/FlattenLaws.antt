@@ -63,7 +63,8 @@ holds_open b (COND x y z) n below h = record { count = omega (arith, h.count); r
 holds_open b (OPTIONAL f v) n below h = record { count = omega (arith, h.count); rows = h.rows }
 
 -- a load is one row
-pub holds_load : (t : Table) (b : List ℕ) (place : ℕ) (v : Value) (n : ℕ) (below : List Row) → same_identifier t place (loaded_place t v) ≡ true → Holds b n (push_value v below) → Holds b (n - 1) below
+pub holds_load : (t : Table) (b : List ℕ) (place : ℕ) (v : Value) (n : ℕ) (below : List Row) → same_identifier t place (loaded_place t v) ≡ true
+    → Holds b n (push_value v below) → Holds b (n - 1) below
 unfolding push_value same_identifier
 holds_load t b place (PLAIN r) n below e h = holds_pop b n _ below h
 holds_load t b place (LOAD p) n below e h = holds_pop b n _ below h

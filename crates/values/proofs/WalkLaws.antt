@@ -18,7 +18,9 @@ use Rattle.table.specs.Promise.{Ends, Heads}
 use Rattle.table.proofs.ColumnLaws.{head_rows}
 use Rattle.definition.specs.Result.{Result, ok, refused, ◌>>=◌, refuse_if}
 use Rattle.definition.specs.Value as definition
-use Rattle.definition.specs.Value.{ValueTerminalResult, TestBlockResult, VisitValueBlock, visit_value_block, visit_value_block_at, visit_value_block_terminal, then_fallthrough, begin_visit, extract_or_refuse, branch_value, maybe_throw_value, is_empty_goto, is_fallthrough, Ways, branch_ways, test_block_ended}
+use Rattle.definition.specs.Value.{ValueTerminalResult, TestBlockResult, VisitValueBlock, visit_value_block, visit_value_block_at}
+use Rattle.definition.specs.Value.{visit_value_block_terminal, then_fallthrough, begin_visit, extract_or_refuse, branch_value}
+use Rattle.definition.specs.Value.{maybe_throw_value, is_empty_goto, is_fallthrough, Ways, branch_ways, test_block_ended}
 use Rattle.values.specs.declared.result.Tally.{Tally}
 use Rattle.values.specs.declared.result.ValueBlockResult.{ValueBlockResult}
 use Rattle.values.specs.declared.refusal.Refusal.TheVariants.{TooManyVisits}

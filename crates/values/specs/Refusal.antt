@@ -2,7 +2,8 @@
 use Rattle.std.specs.Prelude.{ℕ}
 use Rattle.definition.specs.Result.{Result, refused, maybe_throw_in_value_terminal}
 use Rattle.values.specs.declared.refusal.Refusal.{Refusal}
-use Rattle.values.specs.declared.refusal.Refusal.TheVariants.{MissingBlock, FallthroughReached, EmptyGoto, TestNotEndedByBranch, LabelInValueBlock, OtherKindInValueBlock, NoInstruction, TooDeep, TooManyVisits, MaybeThrowInValueTerminal}
+use Rattle.values.specs.declared.refusal.Refusal.TheVariants.{MissingBlock, FallthroughReached, EmptyGoto, TestNotEndedByBranch, LabelInValueBlock}
+use Rattle.values.specs.declared.refusal.Refusal.TheVariants.{OtherKindInValueBlock, NoInstruction, TooDeep, TooManyVisits, MaybeThrowInValueTerminal}
 use Rattle.values.specs.declared.refusal.Refused.{Refused}
 
 -- "10 missing block (named); 23 value fallthrough reached (named); 24 empty Goto value block (named); 25 test not ended by Branch; 26 Label, 27 another

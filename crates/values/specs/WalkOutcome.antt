@@ -4,7 +4,8 @@ use Rattle.std.specs.Prelude as std
 use Rattle.table.specs.declared.columns.Span.{Span}
 use Rattle.table.specs.Table.{table_of, terminal_at, block_at}
 use Rattle.definition.specs.Result.{Result}
-use Rattle.definition.specs.Value.{ValueBlockResult, ValueTerminalResult, TestBlockResult, VisitValueBlock, visit_value_block, visit_value_block_at, visit_value_block_terminal, visit_test_block, then_fallthrough}
+use Rattle.definition.specs.Value.{ValueBlockResult, ValueTerminalResult, TestBlockResult, VisitValueBlock, visit_value_block}
+use Rattle.definition.specs.Value.{visit_value_block_at, visit_value_block_terminal, visit_test_block, then_fallthrough}
 use Rattle.table.specs.Columns.{maybe_of}
 
 -- the value walk with a number of levels of depth left

@@ -1,5 +1,5 @@
-// What a value walk refuses, with the place of each: the block that paper 01 names, at 30 and 31 the block not visited, else the innermost block still being
-// visited.
+// What a value walk refuses, with the place of each: the block that paper 01 names, at 30 and 31 the block not visited, else the innermost block
+// still being visited.
 ghost use Rattle.std.specs.Prelude.{◌≡◌};
 ghost use Rattle.values.specs.Refusal.{code_of, place_of, refused_after};
 

@@ -7,7 +7,8 @@ ghost use Rattle.values.specs.Rows.{placed, Written};
 use crate::op::Op;
 
 // Writes a row at the place n, if the buffer has it whole.
-// (The buffer is lent, by C too, and rows are counted on past its end, for 40: so they are two, and no Vec.)
+// (The buffer is lent, by C too, and rows are counted on past its end, for 40: so no Vec. And no struct of the two with `&mut self`: the count is a
+// field of the walk's position, which a turn takes and hands back by value, as paper 01's steps do; a value's is in its Tally in the same way.)
 fn put_at(buffer: &mut [u32], n: usize, op: u32, a: u32, b: u32, c: u32, d: u32, e: u32)
     ensures { buffer.new ≡ placed buffer.old n (row op a b c d e) }
 {
@@ -22,7 +23,8 @@ fn put_at(buffer: &mut [u32], n: usize, op: u32, a: u32, b: u32, c: u32, d: u32,
     }
 }
 
-// Writes the next row, if it fits, and counts it. (Six words and no array: `[op, n, id, 0, 0, 0]` at a call is no plainer, and a call stores them in place.)
+// Writes the next row, if it fits, and counts it.
+// (Six words and no array: `[op, n, id, 0, 0, 0]` at a call is no plainer, and a call stores them in place.)
 pub fn put_words(
     buffer: &mut [u32],
     rows: u32,
@@ -49,6 +51,7 @@ pub fn put(buffer: &mut [u32], rows: u32, op: Op, a: u32, b: u32, c: u32, d: u32
 }
 
 // Clears the words from an index on.
+// (std's `fill`, as a function by itself: its contract says in paper 01's terms which words are kept and which are zeros, and the entries cite that.)
 pub fn clear(buffer: &mut [u32], from: usize)
     requires { from ≤ length buffer.old }
     ensures { buffer.new ≡ take from buffer.old ++ replicate (length buffer.old - from) 0 }

@@ -25,8 +25,8 @@ fn loads_same_identifier(table: Table<'_>, place: u32, loaded: Option<u32>) -> b
 }
 
 // The Rust's value_block_result_to_sequence, for a value whose rows are the last in the buffer. It takes back the closing SEQ rows. It takes
-// back the innermost value too, if that loads the result's own identifier; else the value becomes an instruction. UNDEF and one SEQ row over all follow.
-// Gives the number of rows that are out.
+// back the innermost value too, if that loads the result's own identifier; else the value becomes an instruction. UNDEF and one SEQ row over
+// all follow. Gives the number of rows that are out.
 pub fn value_block_result_to_sequence(
     table: Table<'_>,
     buffer: &mut [u32],

@@ -1,6 +1,7 @@
 // The walk: value blocks, test blocks and value terminals call one another, each value visit one deeper.
 // `levels` is the number of levels of depth that are left, 128 minus the depth. It falls with each call.
-// Table, buffer, tally and levels stay four parameters: the buffer is lent anew at each call and the tally differs, so a struct would be built at each.
+// Table, buffer, tally and levels stay four parameters. The tally is the state: it goes in by value, and the next one comes back in the result. The
+// levels are the measure. So of a struct of the four, two fields would be new at each call.
 // `Fit` is of the tally and the block of one call, so it stands in the contracts and not in a struct.
 ghost use Rattle.table.specs.Columns.{maybe_of};
 ghost use Rattle.table.specs.Promise.{Ends};

@@ -89,7 +89,8 @@ impl Answer {
     }
 }
 
-// Builds the table in the first `count` words, with `lent` words lent. The index has room for the lines of any table (M-101): the Rust has none to compare.
+// Builds the table in the first `count` words, with `lent` words lent. The index has room for the lines of any table (M-101): the Rust has
+// none to compare.
 fn build_part(
     words: &[u32],
     count: u32,
@@ -103,11 +104,11 @@ fn build_part(
     build_reactive_function(&words[..end], &mut tree[..room], &mut index)
 }
 
-// Whether the first `count` words are the same.
-// (No slices: the number is the file's, which may be beyond both.)
+// Whether both have `count` words, and the first `count` are the same.
 fn same_words(left: &[u32], right: &[u32], count: u32) -> bool {
     let count = count as usize;
-    count <= left.len() && count <= right.len() && left[..count] == right[..count]
+    left.get(..count)
+        .is_some_and(|words| right.get(..count) == Some(words))
 }
 
 // Whether the next vector comes out as it should.

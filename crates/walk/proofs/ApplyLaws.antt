@@ -173,7 +173,8 @@ pub marks : (visited handler fallthrough : std.Option ℕ) (cx : Context) (visit
     → context_of visits (with_marks visited handler fallthrough cx) ≡ scoped (maybe_of fallthrough) (handled (maybe_of handler) (emitted (maybe_of visited) (context_of visits cx)))
 marks visited handler fallthrough cx visits = marks_by (maybe_of visited) (maybe_of handler) (maybe_of fallthrough) cx visits
 
-pub changeable_marked : (change : std.Option Change) (visited handler fallthrough : std.Option ℕ) (cx : Context) → Changeable change cx → Changeable change (with_marks visited handler fallthrough cx)
+pub changeable_marked : (change : std.Option Change) (visited handler fallthrough : std.Option ℕ) (cx : Context) → Changeable change cx
+    → Changeable change (with_marks visited handler fallthrough cx)
 changeable_marked None visited handler fallthrough cx h = tt
 changeable_marked (Some (Schedule target)) visited handler fallthrough cx (n, r) = (n, record { len = r.len; id = r.id })
 changeable_marked (Some Unschedule) visited handler fallthrough cx h = h

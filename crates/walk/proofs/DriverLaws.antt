@@ -8,8 +8,8 @@ use mathlib.Core.Bool.{Bool, true, false}
 use mathlib.Core.List.{List, [], ◌∷◌, ◌++◌}
 use mathlib.Core.Option.{Option}
 use lib.Dec.{eqb}
-use lib.ListN.{length, drop, get_or, set, length-set, length-replicate}
-use lib.Seq.{get_or-set_same, get_or-set_other}
+use lib.ListN.{length, take, drop, get_or, set, length-set, length-replicate}
+use lib.Seq.{get_or-set_same, get_or-set_other, get_or-take, length-take-le}
 use borrow.Author.Tests.{eqb-true, eqb-false}
 use Rattle.table.specs.Words.{block_count, entry_word}
 use Rattle.table.specs.Promise.{Promise}
@@ -68,6 +68,17 @@ unfolding frames_of
 frames_above A zero k f h = refl
 frames_above A (suc n) k f h = rw (get_or-set_other A k n f no_frame (omega arith), frames_above A n k f (omega arith))
 
+frames_taken : (A : List Frame) (n k : ℕ) → k ≤ n → frames_of (take n A) k ≡ frames_of A k
+unfolding frames_of
+frames_taken A n zero h = refl
+frames_taken A n (suc k) h = rw (get_or-take n A k no_frame (omega arith), frames_taken A n k (omega arith))
+
+-- the slice of those in use
+pub frames_slice : (A : List Frame) (n : ℕ) → n ≤ 128 → length A ≡ 129 → frames_of (take n A) (length (take n A)) ≡ frames_of A n
+frames_slice A n few full =
+    let e : length (take n A) ≡ n = length-take-le n A (omega (arith, few, full)) in
+    rw e (frames_taken A n n (omega arith))
+
 frames_length : (A : List Frame) (n : ℕ) → length (frames_of A n) ≡ n
 unfolding frames_of
 frames_length A zero = refl
@@ -87,7 +98,8 @@ abbrev pub stored_by : std.Option Frame → (depth : ℕ) → List Frame → Lis
 stored_by None depth frames = frames
 stored_by (Some frame) depth frames = set frames (depth - 1) frame
 
-pub stored_kept : (kept : std.Option Frame) (i depth : ℕ) (frame : Frame) (A frames : List Frame) → kept ≡ Some frame → i ≡ depth - 1 → frames ≡ set A i frame → frames ≡ stored_by kept depth A
+pub stored_kept : (kept : std.Option Frame) (i depth : ℕ) (frame : Frame) (A frames : List Frame)
+    → kept ≡ Some frame → i ≡ depth - 1 → frames ≡ set A i frame → frames ≡ stored_by kept depth A
 stored_kept kept i depth frame A frames k e s = s ∙ rw (e, k) refl
 
 pub stored_not : (kept : std.Option Frame) (depth : ℕ) (A frames : List Frame) → kept ≡ None → frames ≡ A → frames ≡ stored_by kept depth A
@@ -104,7 +116,8 @@ unfolding frames_of
 frames_kept A n zero (Some f) deep next room = absurd (let z : 1 ≤ 0 = deep refl in omega arith)
 frames_kept A n (suc d) (Some f) deep next room =
     let e : suc d - 1 ≡ d = omega arith in
-    rw (e, frames_within A n d (omega arith), get_or-set_same A d f no_frame (omega arith)) (ap {B = List machine.Frame} (λ (F : List machine.Frame). frame_of f ∷ F) (sym (frames_above A d (suc d - 1) f (omega arith))))
+    rw (e, frames_within A n d (omega arith), get_or-set_same A d f no_frame (omega arith))
+    (ap {B = List machine.Frame} (λ (F : List machine.Frame). frame_of f ∷ F) (sym (frames_above A d (suc d - 1) f (omega arith))))
 frames_kept A n d None deep next room = frames_within A n d next
 
 kept_length : (A : List Frame) (n d : ℕ) (o : std.Option Frame) → (is_some o ≡ true → 1 ≤ d) → d ≤ deepest o n → length (kept o d (frames_of A n)) ≡ d
@@ -260,7 +273,8 @@ found_jump rule w cx A p jump aim S R e =
 
 module _ (rule : Rule) (w : List ℕ) (pr : Promise w) (ck : Checked (table_of w)) where
   -- where the loop begins
-  pub walking_start : (buffer : Lent) → buffer.lines ≡ 0 → (cx : Context) (A : List Frame) (p : Position) → Created cx → length A ≡ 129 → p ≡ starting_at (entry_word w) → Walking rule w buffer cx A p
+  pub walking_start : (buffer : Lent) → buffer.lines ≡ 0 → (cx : Context) (A : List Frame) (p : Position)
+      → Created cx → length A ≡ 129 → p ≡ starting_at (entry_word w) → Walking rule w buffer cx A p
   unfolding frames_of pushed
   walking_start buffer none_out cx A p new l q = rw q (record {
     out = no_output;
@@ -280,7 +294,8 @@ module _ (rule : Rule) (w : List ℕ) (pr : Promise w) (ck : Checked (table_of w
       flags : length cx.scheduled ≡ 1024
       flags = scheduled_start cx new.context
 
-  frame_fits : (chosen over n rows : ℕ) (A : List Frame) (F : List machine.Frame) (R : Output) (m : ℕ) (C : definition.Context) (f : Frame) → f ≡ get_or A (suc n - 1) no_frame → length R.rows ≡ rows
+  frame_fits : (chosen over n rows : ℕ) (A : List Frame) (F : List machine.Frame) (R : Output) (m : ℕ) (C : definition.Context) (f : Frame)
+      → f ≡ get_or A (suc n - 1) no_frame → length R.rows ≡ rows
       → Framed (table_of w) chosen (frame_of (get_or A n no_frame)) → invariant.Holds over (frame_of (get_or A n no_frame) ∷ F) R m C → FrameFits w chosen rows f
   frame_fits chosen over n rows A F R m C f e l o h =
       let q : suc n - 1 ≡ n = omega arith in
@@ -557,7 +572,8 @@ module _ (rule : Rule) (w : List ℕ) (pr : Promise w) (ck : Checked (table_of w
               pop_same [] h = absurd (omega arith)
               pop_same (g ∷ F) h = refl
 
-              values_same : (body : std.Option ℕ) (F : List machine.Frame) → 1 ≤ length F → state_at (Values body) 0 F after 0 D ≡ state_at (Values body) plan.position.block F after plan.position.count D
+              values_same : (body : std.Option ℕ) (F : List machine.Frame) → 1 ≤ length F
+                  → state_at (Values body) 0 F after 0 D ≡ state_at (Values body) plan.position.block F after plan.position.count D
               values_same body [] h = absurd (omega arith)
               values_same body (g ∷ F) h = refl
 

@@ -65,7 +65,8 @@ module _ (index : List ℕ) (n label first closing : ℕ) where
       ∙ take_at (take (n * 3) index ++ words) (drop (n * 3 + 3) index) ((n + 1) * 3)
       (omega (arith, length-append (take (n * 3) index) words, length-take-le (n * 3) index (omega (arith, h))))
 
-  line_held : (lines : List Line) → HoldsLines index n lines → HoldsLines (line_placed index n label first closing) (n + 1) (lines ++ (record { label = label; first = first; closing = closing } ∷ []))
+  line_held : (lines : List Line) → HoldsLines index n lines
+      → HoldsLines (line_placed index n label first closing) (n + 1) (lines ++ (record { label = label; first = first; closing = closing } ∷ []))
   unfolding line_words
   line_held lines h = record {
     count = length-append lines (record { label = label; first = first; closing = closing } ∷ []) ∙ omega (arith, h.count);

@@ -1,5 +1,5 @@
 // Where a jump goes, by the statements around it (M-102). In the language entry the code passes over them, from the innermost.
-ghost use Rattle.std.specs.Prelude.{◌≡◌, ℕ, ◌≤◌, ◌<◌, get_or};
+ghost use Rattle.std.specs.Prelude.{◌≡◌, ℕ, ◌<◌, get_or, length};
 ghost use Rattle.table.specs.Words.{block_count};
 ghost use Rattle.table.specs.Table.{table_of};
 ghost use Rattle.machine.specs.Machine.{around_of};
@@ -24,22 +24,19 @@ fn likely_owner(at: usize, depth: usize) -> usize
 }
 
 // The search ended at the entry `at`. A Labeled break asks only whether a statement around has its label: the code looks at the likely one first.
-// Seven parameters: the walk calls it once, and no other function takes these together.
-// (The array with `depth` beside, and no slice of it: `frames_of` takes both, as the machine's frames are counted.)
+// `frames` are those of the statements around, the innermost last.
 pub fn aim_around(
     rule: Rule,
     table: Table<'_>,
-    frames: &[Frame; 129],
-    depth: u32,
+    frames: &[Frame],
     at: usize,
     jump: Option<Jump>,
     found: Option<Resolution>,
 ) -> Option<Goal>
-    requires depth_bound { depth ≤ 128 }
-    requires by_index { (k : ℕ) → k < depth → (get_or frames.now k no_frame).block < block_count table.words.now }
-    ensures { aim_of result ≡ goal_by jump (around_of (rule_of rule) (table_of table.entry.words.now) (frames_of frames.now depth)) (resolved_of found) }
+    requires { (k : ℕ) → k < length frames.now → (get_or frames.now k no_frame).block < block_count table.words.now }
+    ensures { aim_of result ≡ goal_by jump (around_of (rule_of rule) (table_of table.entry.words.now) (frames_of frames.now (length frames.now))) (resolved_of found) }
 {
-    let left = pass_from(asks_around(rule, found), depth);
+    let left = pass_from(asks_around(rule, found), frames.len());
     let mut seen = unseen(found);
     if left == 0 {
         return aim_at(rule, jump, found, seen); // none is asked

@@ -4,7 +4,8 @@ ghost use Rattle.walk.specs.Lined.{line_placed, LinePut};
 
 use statements::plan::Line;
 
-// (Lent by C and counted on past its end, for 41, as the rows.)
+// (Lent by C and counted on past its end, for 41, as the rows. The count goes in and comes back by value like theirs, and is handed out with them in
+// `Walked`: a struct of index and count would have this one method.)
 fn write_line(index: &mut [u32], lines: u32, label: u32, first: u32, closing: u32)
     ensures { index.new ≡ line_placed index.old lines label first closing }
 {

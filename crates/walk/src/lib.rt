@@ -97,8 +97,8 @@ fn innermost(depth: u32) -> usize
     depth.saturating_sub(1) as usize
 }
 
-// Plans each turn and applies its plan. The search of the stack (the Rust's `get_break_target` and `get_continue_target`) and the store of an entry stand
-// here, since a function that is handed the Context by value and indexes its entries copies it, 18 KB a turn (docs/PERFORMANCE.md).
+// Plans each turn and applies its plan. The search of the stack (the Rust's `get_break_target` and `get_continue_target`) and the store of an
+// entry stand here, since a function that is handed the Context by value and indexes its entries copies it, 18 KB a turn (docs/PERFORMANCE.md).
 fn walk_table(
     rule: Rule,
     table: Table<'_>,
@@ -133,7 +133,8 @@ fn walk_table(
             }
             loops = count_loop(loops, entry.target);
         };
-        let aim = aim_around(rule, table, &frames, p.depth, at, jump, found);
+        let around = &frames[..p.depth as usize];
+        let aim = aim_around(rule, table, around, at, jump, found);
         let blocks = Blocks {
             scheduled: &cx.scheduled,
             catch_handlers: &cx.catch_handlers,
@@ -173,8 +174,8 @@ fn walk_table(
     }
 }
 
-// The walk of the table in the words, which may be any words. It fills the buffers as far as they have room, and goes on counting: nobody has tested yet whether
-// the rows and the lines fit.
+// The walk of the table in the words, which may be any words. It fills the buffers as far as they have room, and goes on counting: nobody has
+// tested yet whether the rows and the lines fit.
 pub fn walk(
     rule: Rule,
     words: &[u32],

@@ -24,5 +24,6 @@ rearrange_checked-requires c = record { new_words_len = rw c.in_ok-table.ensures
 
 pub returns : goal.returns
 returns c =
-    rearrangement_given _ (promised _ (sym c.in_ok-table.ensures.verdict)) _ _ c.if-new_words-words.false (c.if-old_numbers-block_count.false ∙ rw c.in_ok-table.ensures.same at c.block_count.ensures)
+    rearrangement_given _ (promised _ (sym c.in_ok-table.ensures.verdict)) _ _ c.if-new_words-words.false
+    (c.if-old_numbers-block_count.false ∙ rw c.in_ok-table.ensures.same at c.block_count.ensures)
     (rw c.in_ok-table.ensures.same at c.rearrange_checked.ensures.new_words_after) (rw c.in_ok-table.ensures.same at c.rearrange_checked.ensures.old_numbers_after)

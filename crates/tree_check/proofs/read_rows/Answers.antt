@@ -14,15 +14,21 @@ pub returns-in_err-first : goal.returns-in_err-first
 returns-in_err-first c =
     let p = err_from_is_err_and c.from_residual.result c.from_residual.ensures.1 in
     rw (p.1, p.2)
-    (row_missing _ _ _ _ c.loop-row.invariant c.loop-row-test.true c.in_range.ensures (not-false _ (ap not c.if-not-in_range.false)) (next_of_read c.read_so_far.ensures.words c.read_so_far.ensures.begin c.read_so_far.ensures.count c.next_begin.ensures) c.in_err-first.ensures.value)
+    (row_missing _ _ _ _ c.loop-row.invariant c.loop-row-test.true c.in_range.ensures (not-false _ (ap not c.if-not-in_range.false))
+    (next_of_read c.read_so_far.ensures.words c.read_so_far.ensures.begin c.read_so_far.ensures.count c.next_begin.ensures) c.in_err-first.ensures.value)
 
 pub loop-row-preserved : goal.loop-row-preserved
 loop-row-preserved c =
-    row_on _ _ _ _ c.loop-row.invariant c.loop-row-test.true c.in_range.ensures (not-false _ (ap not c.if-not-in_range.false)) (next_of_read c.read_so_far.ensures.words c.read_so_far.ensures.begin c.read_so_far.ensures.count c.next_begin.ensures)
+    row_on _ _ _ _ c.loop-row.invariant c.loop-row-test.true c.in_range.ensures (not-false _ (ap not c.if-not-in_range.false))
+    (next_of_read c.read_so_far.ensures.words c.read_so_far.ensures.begin c.read_so_far.ensures.count c.next_begin.ensures)
     c.requires.rows_bound c.requires.tree_len c.in_ok-first.ensures.value
 
 pub returns-then-one_root : goal.returns-then-one_root
-returns-then-one_root c = rows_read _ _ _ _ c.loop-row.invariant c.loop-row-test.false (root_of_read c.read_so_far-2.ensures.words c.read_so_far-2.ensures.begin c.read_so_far-2.ensures.count c.if-one_root.ensures)
+returns-then-one_root c =
+    rows_read _ _ _ _ c.loop-row.invariant c.loop-row-test.false
+    (root_of_read c.read_so_far-2.ensures.words c.read_so_far-2.ensures.begin c.read_so_far-2.ensures.count c.if-one_root.ensures)
 
 pub returns-else-one_root : goal.returns-else-one_root
-returns-else-one_root c = rows_read _ _ _ _ c.loop-row.invariant c.loop-row-test.false (root_of_read c.read_so_far-2.ensures.words c.read_so_far-2.ensures.begin c.read_so_far-2.ensures.count c.if-one_root.ensures)
+returns-else-one_root c =
+    rows_read _ _ _ _ c.loop-row.invariant c.loop-row-test.false
+    (root_of_read c.read_so_far-2.ensures.words c.read_so_far-2.ensures.begin c.read_so_far-2.ensures.count c.if-one_root.ensures)

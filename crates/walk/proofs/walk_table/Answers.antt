@@ -1,12 +1,13 @@
 -- The answers of `walk_table`: the search of the stack, the turn that is planned, the sets that are marked, and what each change of the stack leaves.
 use Rattle.std.specs.Prelude as std
 use Rattle.std.specs.Prelude.{Some, Ok}
-use Prim.Native.Nat.{ℕ, ◌-◌, ◌≤◌}
+use Prim.Native.Nat.{ℕ, ◌-◌, ◌≤◌, ◌<◌}
 use native.Mathlib.Omega.{arith}
 use mathlib.Core.Path.{◌≡◌, refl, sym, ap, ◌∙◌, subst}
 use mathlib.Core.List.{List}
 use mathlib.Core.Bool.{false}
-use lib.ListN.{length, get_or, length-replicate}
+use lib.ListN.{length, get_or, take, length-replicate}
+use lib.Seq.{get_or-take, length-take-le}
 use Rattle.std.proofs.lemmas.List.{get_or_default}
 use Rattle.std.proofs.lemmas.Result.{err_from_is_err_and}
 use Rattle.control.specs.Abstraction.{context_of, resolved_of, stored}
@@ -27,7 +28,7 @@ use Rattle.walk.proofs.ApplyLaws.{schedule_blocked, unschedule_changed, changeab
 use Rattle.control.specs.declared.Context.{Context}
 use Rattle.statements.specs.declared.plan.Position.{Position}
 use Rattle.statements.specs.declared.plan.Frame.{Frame}
-use Rattle.walk.proofs.DriverLaws.{Lent, walking_start, found_jump, ready, shallow, few_lines, visit_below, frame_block, AtTurn}
+use Rattle.walk.proofs.DriverLaws.{frames_slice, Lent, walking_start, found_jump, ready, shallow, few_lines, visit_below, frame_block, AtTurn}
 use Rattle.walk.proofs.DriverLaws.{stored_by, stored_kept, stored_not, turn_refused, turn_ends, turn_applicable, turn_shallow, turn_blocked, turn_again, turn_lower}
 use Rattle.walk.proofs.CheckedLaws.{checked_table}
 use Rattle.statements.proofs.SearchLaws.{search_start, search_on, search_none, search_found}
@@ -46,7 +47,8 @@ found : (c : Joined-at-eq0) (visits : ℕ) → resolved_of c.if-at-eq0.found ≡
 found c visits =
     elim c.if-at-eq0.branch [
       | then-at-eq0 w ↦ ap resolved_of w.found-is ∙ search_none _ _ _ _ c.loop-at.invariant w.if-at-eq0.true visits
-      | else-at-eq0+then-meets w ↦ ap resolved_of w.found-is ∙ w.resolve-found.ensures ∙ search_found _ _ _ _ c.loop-at.invariant w.if-at-eq0.false (sym w.meets.ensures ∙ w.if-meets.true) visits
+      | else-at-eq0+then-meets w ↦ ap resolved_of w.found-is ∙ w.resolve-found.ensures
+          ∙ search_found _ _ _ _ c.loop-at.invariant w.if-at-eq0.false (sym w.meets.ensures ∙ w.if-meets.true) visits
     ]
 
 -- ---- the turn, where it is planned
@@ -55,13 +57,18 @@ turn : (c : After-plan_turn) → ((visits : ℕ) → resolved_of c.if-at-eq0.fou
     → AtTurn (rule_of c.args.rule) c.args.table.words.now (record { tree = c.loop-top.tree; index = c.loop-top.index; lines = c.loop-top.lines }) c.loop-top.cx c.loop-top.frames c.loop-top.p
     c.plan_turn.new.tree c.plan_turn.result
 turn c resolved =
-    let aimed : (visits : ℕ) → aim_of c.aim_around-aim.result ≡ goal_by c.jump_at-jump.result (around_of (rule_of c.args.rule) (table_of c.args.table.words.now) (frames_of c.loop-top.frames c.loop-top.p.depth)) (found_by c.jump_at-jump.result (context_of visits c.loop-top.cx))
-    = λ visits. c.aim_around-aim.ensures ∙ ap (goal_by c.jump_at-jump.result _) (resolved visits) in
+    let few : c.loop-top.p.depth ≤ 128 = shallow _ _ c.args.table.promise (checked_table _ c.args.table.promise) _ _ _ _ c.loop-top.invariant in
+    let aimed : (visits : ℕ) → aim_of c.aim_around-aim.result
+    ≡ goal_by c.jump_at-jump.result (around_of (rule_of c.args.rule) (table_of c.args.table.words.now) (frames_of c.loop-top.frames c.loop-top.p.depth))
+    (found_by c.jump_at-jump.result (context_of visits c.loop-top.cx))
+    = λ visits. c.aim_around-aim.ensures
+    ∙ ap (λ z. goal_by c.jump_at-jump.result (around_of (rule_of c.args.rule) (table_of c.args.table.words.now) z) (resolved_of c.if-at-eq0.found))
+    (frames_slice c.loop-top.frames c.loop-top.p.depth few c.loop-top.invariant.frames) ∙ ap (goal_by c.jump_at-jump.result _) (resolved visits) in
     record {
       promise = c.args.table.promise;
       walking = c.loop-top.invariant;
       frame = _;
-      read = frame_read c.loop-top.frames _ c.loop-top.p.depth _ c.innermost.ensures (shallow _ _ c.args.table.promise (checked_table _ c.args.table.promise) _ _ _ _ c.loop-top.invariant) c.loop-top.invariant.frames;
+      read = frame_read c.loop-top.frames _ c.loop-top.p.depth _ c.innermost.ensures few c.loop-top.invariant.frames;
       aim = c.aim_around-aim.result;
       turned = c.plan_turn.ensures;
       jump = found_jump _ _ _ _ c.loop-top.p _ c.aim_around-aim.result c.jump_at-jump.ensures aimed;
@@ -145,16 +152,26 @@ count_loop-loops-requires c = omega (arith, c.if-at-eq0.false, c.loop-at.invaria
 pub loop-at-preserved : goal.loop-at-preserved
 loop-at-preserved c = search_on _ _ _ _ c.loop-at.invariant c.if-at-eq0.false (sym c.meets.ensures ∙ c.if-meets.false) c.count_loop-loops.ensures
 
-pub aim_around-aim-requires-clause-depth_bound : goal.aim_around-aim-requires-clause-depth_bound
-aim_around-aim-requires-clause-depth_bound c = shallow _ _ c.args.table.promise (checked_table _ c.args.table.promise) _ _ _ _ c.loop-top.invariant
+pub slice_bounds-frames-end : goal.slice_bounds-frames-end
+slice_bounds-frames-end c = omega (arith, shallow _ _ c.args.table.promise (checked_table _ c.args.table.promise) _ _ _ _ c.loop-top.invariant, c.loop-top.invariant.frames)
 
-pub aim_around-aim-requires-clause-by_index : goal.aim_around-aim-requires-clause-by_index
-aim_around-aim-requires-clause-by_index c = frame_block _ _ c.args.table.promise (checked_table _ c.args.table.promise) _ _ _ _ c.loop-top.invariant
+pub slice_bounds-around-end : goal.slice_bounds-around-end
+slice_bounds-around-end c =
+    let few = shallow _ _ c.args.table.promise (checked_table _ c.args.table.promise) _ _ _ _ c.loop-top.invariant in
+    sym (length-take-le _ c.loop-top.frames (omega (arith, few, c.loop-top.invariant.frames)))
+
+pub aim_around-aim-requires : goal.aim_around-aim-requires
+aim_around-aim-requires c k below =
+    let few = shallow _ _ c.args.table.promise (checked_table _ c.args.table.promise) _ _ _ _ c.loop-top.invariant in
+    let many : length (take c.loop-top.p.depth c.loop-top.frames) ≡ c.loop-top.p.depth = length-take-le _ c.loop-top.frames (omega (arith, few, c.loop-top.invariant.frames)) in
+    let inside : k < c.loop-top.p.depth = omega (arith, below, many) in
+    rw (get_or-take _ c.loop-top.frames k no_frame inside) (frame_block _ _ c.args.table.promise (checked_table _ c.args.table.promise) _ _ _ _ c.loop-top.invariant k inside)
 
 pub plan_turn-requires : goal.plan_turn-requires
 plan_turn-requires c =
+    let few = shallow _ _ c.args.table.promise (checked_table _ c.args.table.promise) _ _ _ _ c.loop-top.invariant in
     ready _ _ c.args.table.promise (checked_table _ c.args.table.promise) _ _ _ _ c.loop-top.invariant _
-    (frame_read c.loop-top.frames _ c.loop-top.p.depth _ c.innermost.ensures (shallow _ _ c.args.table.promise (checked_table _ c.args.table.promise) _ _ _ _ c.loop-top.invariant) c.loop-top.invariant.frames)
+    (frame_read c.loop-top.frames _ c.loop-top.p.depth _ c.innermost.ensures few c.loop-top.invariant.frames)
 
 pub put_line-lines-requires : goal.put_line-lines-requires
 put_line-lines-requires c = few_lines _ _ c.args.table.promise (checked_table _ c.args.table.promise) _ _ _ _ c.loop-top.invariant
@@ -250,7 +267,8 @@ returns-in-Some-refused c =
     let put = c.put_line-lines.ensures in
     let on = sym c.ends.ensures ∙ c.if-ends.false in
     let m = marked_so g.After-mark-in-loop-top-2 in
-    rw c.blocked.ensures (blocks t put on m (some_change c.in-Some-Schedule.is (rw c.in-Some-Schedule.is at c.in-Some-Schedule.field-0-is)) (schedule_blocked _ _ _ c.schedule-cx.ensures (whole t put on m) c.in-Some-refused.is))
+    let change = some_change c.in-Some-Schedule.is (rw c.in-Some-Schedule.is at c.in-Some-Schedule.field-0-is) in
+    rw c.blocked.ensures (blocks t put on m change (schedule_blocked _ _ _ c.schedule-cx.ensures (whole t put on m) c.in-Some-refused.is))
 
 pub overflow_sub-cx : goal.overflow_sub-cx
 overflow_sub-cx c = omega (arith, c.schedule-cx.ensures.len)
@@ -281,7 +299,9 @@ loop-top-smaller-in-Some-Schedule c =
     let put = c.put_line-lines.ensures in
     let on = sym c.ends.ensures ∙ c.if-ends.false in
     let m = marked_so g.After-mark-in-loop-top-2 in
-    turn_lower t put on (applied t put on m (some_change c.in-Some-Schedule.is (rw c.in-Some-Schedule.is at c.in-Some-Schedule.field-0-is)) (schedule_changed _ _ _ c.schedule-cx.ensures (whole t put on m) c.in_default-refused.is (changeable t put on m (some_change c.in-Some-Schedule.is (rw c.in-Some-Schedule.is at c.in-Some-Schedule.field-0-is))).1.len)) (kept_so g.Joined-plan)
+    let change = some_change c.in-Some-Schedule.is (rw c.in-Some-Schedule.is at c.in-Some-Schedule.field-0-is) in
+    let changed = schedule_changed _ _ _ c.schedule-cx.ensures (whole t put on m) c.in_default-refused.is (changeable t put on m change).1.len in
+    turn_lower t put on (applied t put on m change changed) (kept_so g.Joined-plan)
 
 pub loop-top-preserved-in-Some-Schedule : goal.loop-top-preserved-in-Some-Schedule
 unfolding stored
@@ -291,7 +311,9 @@ loop-top-preserved-in-Some-Schedule c =
     let put = c.put_line-lines.ensures in
     let on = sym c.ends.ensures ∙ c.if-ends.false in
     let m = marked_so g.After-mark-in-loop-top-2 in
-    turn_again t put on (applied t put on m (some_change c.in-Some-Schedule.is (rw c.in-Some-Schedule.is at c.in-Some-Schedule.field-0-is)) (schedule_changed _ _ _ c.schedule-cx.ensures (whole t put on m) c.in_default-refused.is (changeable t put on m (some_change c.in-Some-Schedule.is (rw c.in-Some-Schedule.is at c.in-Some-Schedule.field-0-is))).1.len)) (kept_so g.Joined-plan)
+    let change = some_change c.in-Some-Schedule.is (rw c.in-Some-Schedule.is at c.in-Some-Schedule.field-0-is) in
+    let changed = schedule_changed _ _ _ c.schedule-cx.ensures (whole t put on m) c.in_default-refused.is (changeable t put on m change).1.len in
+    turn_again t put on (applied t put on m change changed) (kept_so g.Joined-plan)
 
 pub overflow_sub-last : goal.overflow_sub-last
 overflow_sub-last c =
@@ -336,7 +358,8 @@ loop-top-smaller c =
     let put = c.put_line-lines.ensures in
     let on = sym c.ends.ensures ∙ c.if-ends.false in
     let m = marked_so g.After-mark-in-loop-top-2 in
-    turn_lower t put on (applied t put on m (some_change c.in-Some-Unschedule.is (rw c.in-Some-Unschedule.is at c.in-Some-Unschedule.field-0-is)) (unschedule_changed _ _ _ c.unschedule-cx.ensures (whole t put on m))) (kept_so g.Joined-plan)
+    let change = some_change c.in-Some-Unschedule.is (rw c.in-Some-Unschedule.is at c.in-Some-Unschedule.field-0-is) in
+    turn_lower t put on (applied t put on m change (unschedule_changed _ _ _ c.unschedule-cx.ensures (whole t put on m))) (kept_so g.Joined-plan)
 
 pub loop-top-preserved : goal.loop-top-preserved
 loop-top-preserved c =
@@ -345,4 +368,5 @@ loop-top-preserved c =
     let put = c.put_line-lines.ensures in
     let on = sym c.ends.ensures ∙ c.if-ends.false in
     let m = marked_so g.After-mark-in-loop-top-2 in
-    turn_again t put on (applied t put on m (some_change c.in-Some-Unschedule.is (rw c.in-Some-Unschedule.is at c.in-Some-Unschedule.field-0-is)) (unschedule_changed _ _ _ c.unschedule-cx.ensures (whole t put on m))) (kept_so g.Joined-plan)
+    let change = some_change c.in-Some-Unschedule.is (rw c.in-Some-Unschedule.is at c.in-Some-Unschedule.field-0-is) in
+    turn_again t put on (applied t put on m change (unschedule_changed _ _ _ c.unschedule-cx.ensures (whole t put on m))) (kept_so g.Joined-plan)

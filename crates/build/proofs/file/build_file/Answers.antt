@@ -1,6 +1,6 @@
-use Rattle.std.proofs.Common.{sym, length, ◌≤◌, arith}
+use Rattle.std.proofs.Common.{refl, sym, length, ◌≤◌, arith}
 use lib.Seq.{length-take-le}
-use Rattle.text.proofs.PrintsLaws.{words_within, error_some, refusal_lines, written_as, words_printed, error_printed}
+use Rattle.text.proofs.PrintsLaws.{words_within, error_some, written_as, words_printed, error_printed}
 use Rattle.text.proofs.ReadingLaws.{is_answered}
 use Rattle.build.proofs.file.build_file.Goals as goal
 
@@ -15,11 +15,13 @@ returns-in-Ok c =
     let printed = words_printed _ _ _ 135245 _ _ _ _ _ _ _ (is_answered _ _ _ c.in-Ok.ensures) c.build_words.ensures in
     record { out_after = printed.0; value = printed.1 }
 
+pub write_refusal-requires : goal.write_refusal-requires
+write_refusal-requires c = error_some _
+
 pub returns-in-Err : goal.returns-in-Err
 returns-in-Err c =
     let answered = is_answered _ _ _ c.in-Err.ensures in
     let room : 16384 ≤ length c.zeros-words.result = omega (arith, c.zeros-words.ensures) in
-    let result = rw (c.code.ensures, c.place.ensures) at c.write_result.ensures in
-    let written = written_as {most' = 135245} (refusal_lines _ _ 0 0 _ _ (error_some c.in-Err.error)) (omega arith) result in
+    let written = written_as {most' = 135245} refl (omega arith) c.write_refusal.ensures in
     let printed = error_printed _ _ _ 135245 _ _ _ _ _ _ _ room answered written in
     record { out_after = printed.0; value = printed.1 }

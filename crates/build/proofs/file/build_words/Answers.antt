@@ -13,16 +13,16 @@ use Rattle.build.proofs.file.build_words.Goals as goal
 pub slice_bounds-tree-end : goal.slice_bounds-tree-end
 slice_bounds-tree-end c = omega (arith, (accepted_within _ _ _ _ _ c.in-Ok.ensures refl).0, c.build.auto.tree)
 
-pub slice_bounds-write_result-end : goal.slice_bounds-write_result-end
-slice_bounds-write_result-end c = sym (length-take-le _ _ (omega (arith, (accepted_within _ _ _ _ _ c.in-Ok.ensures refl).0, c.build.auto.tree)))
+pub slice_bounds-write-end : goal.slice_bounds-write-end
+slice_bounds-write-end c = sym (length-take-le _ _ (omega (arith, (accepted_within _ _ _ _ _ c.in-Ok.ensures refl).0, c.build.auto.tree)))
 
 pub returns-in-Ok : goal.returns-in-Ok
 returns-in-Ok c =
     let fits : c.in-Ok.built.rows * 6 ≤ length c.build.new.tree = omega (arith, (accepted_within _ _ _ _ _ c.in-Ok.ensures refl).0, c.build.auto.tree) in
     let e = accepted_printed _ _ _ _ (sym c.zeros-tree.ensures) (sym c.zeros-index.ensures) _ c.in-Ok.ensures in
-    written_as e (omega (arith, length-take-le (c.in-Ok.built.rows * 6) c.build.new.tree fits, fits)) c.write_result.ensures
+    written_as e (omega (arith, length-take-le (c.in-Ok.built.rows * 6) c.build.new.tree fits, fits)) c.write.ensures
 
 pub returns-in-Err : goal.returns-in-Err
 returns-in-Err c =
-    let result = rw (c.code.ensures, c.place.ensures, c.rows.ensures, c.visits.ensures) at c.write_result-in-Err.ensures in
+    let result = rw (c.code.ensures, c.place.ensures, c.rows.ensures, c.visits.ensures) at c.write-in-Err.ensures in
     written_as (refused_printed _ _ _ _ (sym c.zeros-tree.ensures) (sym c.zeros-index.ensures) _ c.in-Err.ensures) (omega arith) result

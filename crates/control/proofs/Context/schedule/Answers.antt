@@ -13,8 +13,11 @@ returns c =
     let long : length c.args.self.stack ≡ 1152 = c.well_formed.0.1.1.1.1.1.1.1.1.1.1.0.1.0.1 in
     let given = scheduled c.args.target c.args.self c.requires.named c.requires.room (omega (arith, long, c.requires.room.len)) in
     elim c.match-target.branch [
-      | in-Loop w ↦ entered (rw w.in-Loop.is w.target-is) (rw w.in-Loop.is w.scheduled-is) (rw w.in-Loop.is (rw (w.busy-is, w.refusal-is) at c.then_some-self.ensures)) (rw w.in-Loop.is w.owns_loop-is) given
+      | in-Loop w ↦
+          entered (rw w.in-Loop.is w.target-is) (rw w.in-Loop.is w.scheduled-is)
+          (rw w.in-Loop.is (rw (w.busy-is, w.refusal-is) at c.then_some-self.ensures)) (rw w.in-Loop.is w.owns_loop-is) given
       | in-If2 w ↦
           let u = unlooped_of _ _ w.in-If.is in
-          entered (w.target-is ∙ w.in-If.target-is) (rw u.into w.scheduled-is) (rw (u.blocked, u.reasons) (rw (w.busy-is, w.refusal-is) at c.then_some-self.ensures)) (rw u.owns_none w.owns_loop-is) given
+          entered (w.target-is ∙ w.in-If.target-is) (rw u.into w.scheduled-is)
+          (rw (u.blocked, u.reasons) (rw (w.busy-is, w.refusal-is) at c.then_some-self.ensures)) (rw u.owns_none w.owns_loop-is) given
     ]

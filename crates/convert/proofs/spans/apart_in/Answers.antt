@@ -1,20 +1,25 @@
-use native.Mathlib.Omega.{arith}
-use Prim.Native.Nat.{◌+◌, ◌*◌, ◌-◌}
-use mathlib.Core.Path.{◌≡◌, sym, ◌∙◌}
-use Rattle.convert.proofs.SpanLaws.{ends_more, ends_apart, ends_done}
+use Rattle.std.proofs.Common.{refl, sym, ◌∙◌, arith}
+use Rattle.std.proofs.lemmas.List.{length-append}
+use Rattle.convert.proofs.SpanLaws.{row_agrees, row_apart, rows_agree}
 use Rattle.convert.proofs.spans.apart_in.Goals as goal
 
-pub returns-then-words-from : goal.returns-then-words-from
-returns-then-words-from c =
-    let to : c.args.first + c.loop-row.row * c.args.width + (c.args.width - 2) + 1 ≡ c.args.first + c.loop-row.row * c.args.width + (c.args.width - 1) = omega (arith, c.requires.le_width) in
-    rw to (sym (ends_apart c.args.words.now c.args.width _ _ (omega (arith, c.loop-row-test.true)) (rw to at c.if-words-from.true)) ∙ c.loop-row.invariant)
+pub loop-row-init : goal.loop-row-init
+loop-row-init c = rw (c.into_iter-row-iterator.ensures.into_iter_gives, c.chunks_exact-row-items.ensures.rest, c.chunks_exact-row-items.ensures.size) (refl, (refl, refl))
 
 pub loop-row-preserved : goal.loop-row-preserved
 loop-row-preserved c =
-    let to : c.args.first + c.loop-row.row * c.args.width + (c.args.width - 2) + 1 ≡ c.args.first + c.loop-row.row * c.args.width + (c.args.width - 1) = omega (arith, c.requires.le_width) in
-    let next : c.args.first + (c.loop-row.row + 1) * c.args.width ≡ c.args.first + c.loop-row.row * c.args.width + c.args.width = omega arith in
-    let left : c.args.rows - (c.loop-row.row + 1) ≡ c.args.rows - c.loop-row.row - 1 = omega arith in
-    rw (next, left) (sym (ends_more c.args.words.now c.args.width _ _ (omega (arith, c.loop-row-test.true)) (rw to at c.if-words-from.false)) ∙ c.loop-row.invariant)
+    let (size, (long, I)) = c.loop-row.invariant in
+    let step = c.in-Some.ensures.steps in
+    let row = step.1.1 ∙ size in
+    (step.0 ∙ size, (omega (arith, rw (step.1.0, length-append) at long, row), sym (row_agrees _ _ _ _ c.requires.le_width row c.if-row-width.false) ∙ rw step.1.0 at I))
+
+pub returns-then-row-width : goal.returns-then-row-width
+returns-then-row-width c =
+    let (size, (long, I)) = c.loop-row.invariant in
+    let step = c.in-Some.ensures.steps in
+    sym (row_apart _ _ _ _ c.requires.le_width (step.1.1 ∙ size) c.if-row-width.true) ∙ rw step.1.0 at I
 
 pub returns : goal.returns
-returns c = sym (ends_done c.args.words.now c.args.width _ _ (omega (arith, c.loop-row-test.false))) ∙ c.loop-row.invariant
+returns c =
+    let (size, (long, I)) = c.loop-row.invariant in
+    sym (rows_agree _ _ _ (rw size at c.in-None.ensures.steps.1.0)) ∙ I

@@ -1,6 +1,6 @@
 use Rattle.std.proofs.Common.{sym, arith}
 use lib.Seq.{length-take-le}
-use Rattle.text.proofs.PrintsLaws.{words_within, error_some, words_printed, error_printed, refusal_written}
+use Rattle.text.proofs.PrintsLaws.{words_within, error_some, words_printed, error_printed}
 use Rattle.text.proofs.ReadingLaws.{is_answered}
 use Rattle.dot.proofs.file.draw_file.Goals as goal
 
@@ -15,10 +15,11 @@ returns-in-Ok c =
     let printed = words_printed _ _ _ 77 _ _ _ _ _ _ _ (is_answered _ _ _ c.in-Ok.ensures) c.draw_words.ensures in
     record { out_after = printed.0; value = printed.1 }
 
+pub write_refusal-requires : goal.write_refusal-requires
+write_refusal-requires c = error_some _
+
 pub returns-in-Err : goal.returns-in-Err
 returns-in-Err c =
     let answered = is_answered _ _ _ c.in-Err.ensures in
-    let w = c.write.ensures in
-    let written = refusal_written c.code.result c.place.result _ (rw c.code.ensures (error_some _)) c.code.type_inv c.place.type_inv w.value w.out_after in
-    let printed = error_printed _ _ _ 77 _ _ _ _ _ _ _ (omega (arith, c.zeros-words.ensures)) answered (rw (c.code.ensures, c.place.ensures) at written) in
+    let printed = error_printed _ _ _ 77 _ _ _ _ _ _ _ (omega (arith, c.zeros-words.ensures)) answered c.write_refusal.ensures in
     record { out_after = printed.0; value = printed.1 }

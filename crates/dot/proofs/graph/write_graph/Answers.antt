@@ -1,5 +1,7 @@
-use Rattle.dot.proofs.DotLaws.{graph_wrote}
+use Rattle.text.proofs.WriterLaws.{written_append}
+use Rattle.dot.specs.Dot.{graph_text}
 use Rattle.dot.proofs.graph.write_graph.Goals as goal
 
 pub returns : goal.returns
-returns c = graph_wrote _ c.write_names-first.ensures c.write_rows-last.ensures.wrote c.write_names.ensures
+unfolding graph_text
+returns c = rw (written_append, written_append, ← c.bytes.ensures, ← c.write_rows.ensures) c.bytes-2.ensures

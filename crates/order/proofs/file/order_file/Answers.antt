@@ -1,6 +1,6 @@
-use Rattle.std.proofs.Common.{sym, arith}
+use Rattle.std.proofs.Common.{refl, sym, arith}
 use lib.Seq.{length-take-le}
-use Rattle.text.proofs.PrintsLaws.{words_within, words_read, error_some, words_printed, error_printed}
+use Rattle.text.proofs.PrintsLaws.{words_within, words_read, error_some, written_as, words_printed, error_printed}
 use Rattle.text.proofs.ReadingLaws.{is_answered}
 use Rattle.order.proofs.OrderedLaws.{words_few}
 use Rattle.order.proofs.file.order_file.Goals as goal
@@ -22,11 +22,10 @@ returns-in-Ok c =
     record { out_after = printed.0; value = printed.1 }
 
 pub write_refusal-requires : goal.write_refusal-requires
-write_refusal-requires c = rw c.code.ensures (error_some _)
+write_refusal-requires c = error_some _
 
 pub returns-in-Err : goal.returns-in-Err
 returns-in-Err c =
     let answered = is_answered _ _ _ c.in-Err.ensures in
-    let written = rw (c.code.ensures, c.place.ensures) at c.write_refusal.ensures in
-    let printed = error_printed _ _ _ 180368 _ _ _ _ _ _ _ (omega (arith, c.zeros-words.ensures)) answered written in
+    let printed = error_printed _ _ _ 180368 _ _ _ _ _ _ _ (omega (arith, c.zeros-words.ensures)) answered (written_as refl (omega arith) c.write_refusal.ensures) in
     record { out_after = printed.0; value = printed.1 }

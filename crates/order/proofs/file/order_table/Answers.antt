@@ -1,23 +1,16 @@
-use Rattle.std.proofs.Common.{rules}
-use native.Mathlib.Omega.{arith}
-use mathlib.Core.Path.{refl}
-use Prim.Native.Nat.{◌≤◌}
-use lib.ListN.{length}
+use Rattle.std.proofs.Common.{rules, arith, ◌≡◌, ◌≤◌, ◌∙◌, length}
+use lib.ListN.{length-take}
 use Rattle.text.proofs.WriteLaws.{Narrow}
-use Rattle.convert.proofs.AnswerLaws.{write_some}
-use Rattle.order.proofs.OrderedLaws.{rearranged_promise, table_bytes, table_none}
+use Rattle.text.proofs.WriterLaws.{same_reference, told_answer, told_bytes}
+use Rattle.order.proofs.OrderedLaws.{rearranged_sized, table_printed}
 use Rattle.order.proofs.file.order_table.Goals as goal
 
-pub returns-in-Ok : goal.returns-in-Ok
-returns-in-Ok c =
+pub returns : goal.returns
+returns c =
     let after = c.rearrange_checked.ensures.new_words_after in
     let narrow : Narrow c.rearrange_checked.new.new_words = λ i. search rules in
-    let few : length c.rearrange_checked.new.new_words ≤ 16384 = omega (arith, c.rearrange_checked.auto.new_words, c.requires.new_words_len, c.requires.words_len_bound) in
-    rw (← after) (table_bytes _ (rw after (rearranged_promise _ c.args.table.promise)) few narrow _ _ c.in-Ok.ensures refl)
-
-pub returns-in-Err : goal.returns-in-Err
-returns-in-Err c =
-    let after = c.rearrange_checked.ensures.new_words_after in
-    let narrow : Narrow c.rearrange_checked.new.new_words = λ i. search rules in
-    let few : length c.rearrange_checked.new.new_words ≤ 16384 = omega (arith, c.rearrange_checked.auto.new_words, c.requires.new_words_len, c.requires.words_len_bound) in
-    rw (← after) (table_none _ (rw after (rearranged_promise _ c.args.table.promise)) few narrow _ _ c.in-Err.ensures (write_some _))
+    let few : length c.rearrange_checked.new.new_words ≤ 16384 = omega (arith, c.rearrange_checked.auto.new_words, length-take (length c.args.table.words.now) c.zeros-words.result, c.requires) in
+    let wrote = rw c.new-writer.ensures at c.write_tables.ensures in
+    let left : _ ≡ c.finish.new.self.0 = search (rules, same_reference _ _ wrote) in
+    rw (← after)
+    (table_printed _ (rearranged_sized after c.args.table.promise) few narrow (told_answer _ _ _ _ wrote c.finish.ensures) (left ∙ told_bytes _ _ _ _ wrote c.finish.ensures))

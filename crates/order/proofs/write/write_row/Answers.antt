@@ -1,30 +1,18 @@
-use native.Mathlib.Omega.{arith}
-use mathlib.Core.Path.{sym, ap, ◌∙◌}
-use Prim.Native.Nat.{◌+◌, ◌*◌, ◌<◌}
-use lib.ListN.{length}
+use Rattle.std.proofs.Common.{sym, ap, ◌∙◌, arith, length-set}
 use Rattle.table.specs.Table.{code_of}
 use Rattle.table.proofs.BlockLaws.{code_at_lem}
-use Rattle.order.proofs.WriteLaws.{sizes, put, at, column_is}
+use Rattle.order.proofs.WriteLaws.{sizes, row_put, row_whole}
 use Rattle.order.proofs.write.write_row.Goals as goal
 
-pub terminal-requires : goal.terminal-requires
-terminal-requires c = c.requires.writing.there _ c.requires.row_bound
-
-pub bounds-table-from : goal.bounds-table-from
-bounds-table-from c =
-    let s = sizes c.args.table.promise in
-    omega (arith, c.requires.writing.there _ c.requires.row_bound, c.loop-k-test.true)
-
-pub bounds-new_words-to : goal.bounds-new_words-to
-bounds-new_words-to c =
-    let s = sizes c.args.table.promise in
-    omega (arith, c.loop-k-test.true)
+pub bounds-table-begin : goal.bounds-table-begin
+bounds-table-begin c = let s = sizes c.args.table.promise in omega (arith, c.requires.block_bound, c.loop-k-test.true)
 
 pub loop-k-preserved : goal.loop-k-preserved
 loop-k-preserved c =
-    let p = c.args.table.promise in
-    let s = sizes p in
-    let code = ap code_of (sym c.terminal.ensures.is) ∙ code_at_lem _ _ p (c.requires.writing.there _ c.requires.row_bound) in
-    let value = rw (c.named_columns-columns.ensures, code, c.block_count-blocks.ensures) at c.number_if.ensures in
-    let inside : 6 + c.args.row * 11 + c.loop-k.k < length c.args.table.words.now = omega arith in
-    at (put c.loop-k.invariant _ inside (value ∙ column_is _ _ _ p _ c.requires.row_bound _ c.loop-k-test.true)) (omega arith)
+    let (long, I) = c.loop-k.invariant in
+    let code = ap code_of (sym c.terminal.ensures.is) ∙ code_at_lem _ _ c.args.table.promise c.requires.block_bound in
+    let value = rw (c.named_columns-columns.ensures, code) at c.number_if.ensures in
+    (length-set _ _ _ ∙ long, row_put _ _ _ _ _ long I c.loop-k-test.true value)
+
+pub returns : goal.returns
+returns c = row_whole _ _ _ _ _ c.loop-k.invariant.0 c.loop-k.invariant.1 c.loop-k-test.false

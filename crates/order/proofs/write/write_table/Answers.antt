@@ -1,23 +1,21 @@
-use native.Mathlib.Omega.{arith}
-use Rattle.order.proofs.WriteLaws.{sizes, instructions_copied, tail_copied}
+use Rattle.std.proofs.Common.{◌-◌, set, arith, length-set}
+use borrow.Rule.Slice.PartMut.{same_len_mid}
+use Rattle.order.proofs.WriteLaws.{sizes, table_renumbered}
 use Rattle.order.proofs.write.write_table.Goals as goal
 
-pub copy_words-requires : goal.copy_words-requires
-copy_words-requires c =
-    let W = c.write_blocks.ensures in
-    let s = sizes c.args.table.promise in record { begin_le_end = omega (arith, c.cases_begin-cases.ensures, c.instructions_begin-instructions.ensures, s.instructions); end_in_bounds = omega (arith, c.cases_begin-cases.ensures, s.cases, s.end); new_words_len = W.long }
+pub slice_bounds-write_blocks-end : goal.slice_bounds-write_blocks-end
+slice_bounds-write_blocks-end c =
+    let s = sizes c.args.table.promise in
+    omega (arith, s, c.instructions_begin-instructions.ensures.0, c.copy_from_slice.ensures.len, length-set c.copy_from_slice.new.self 0 c.number_in.result)
 
-pub write_cases-requires : goal.write_cases-requires
-write_cases-requires c =
-    let W = c.write_blocks.ensures in
-    instructions_copied c.args.table.promise W c.instructions_begin-instructions.ensures.0 c.cases_begin-cases.ensures.0 c.copy_words.ensures
-
-pub copy_words-requires-2 : goal.copy_words-requires-2
-copy_words-requires-2 c =
-    let W = c.write_cases.ensures in
-    let s = sizes c.args.table.promise in record { begin_le_end = omega (arith, c.places_begin-places.ensures, s.end); end_in_bounds = omega arith; new_words_len = W.long }
+pub slice_bounds-rename_cases-end : goal.slice_bounds-rename_cases-end
+slice_bounds-rename_cases-end c =
+    let s = sizes c.args.table.promise in
+    let entered = set c.copy_from_slice.new.self 0 c.number_in.result in
+    let long = same_len_mid 6 (c.instructions_begin-instructions.result - 6) entered c.write_blocks.new.new_rows c.write_blocks.auto.new_rows in
+    omega (arith, s, c.places_begin-places.ensures.0, long, c.copy_from_slice.ensures.len, length-set c.copy_from_slice.new.self 0 c.number_in.result)
 
 pub returns : goal.returns
 returns c =
-    let W = c.write_cases.ensures in
-    tail_copied c.args.table.promise W c.places_begin-places.ensures.0 c.copy_words-2.ensures
+    table_renumbered c.args.table.promise c.requires.numbering c.copy_from_slice.ensures.after c.entry.ensures c.number_in.ensures
+    c.instructions_begin-instructions.ensures.0 c.cases_begin-cases.ensures.0 c.places_begin-places.ensures.0 c.write_blocks.ensures c.rename_cases.ensures

@@ -10,5 +10,7 @@ returns g c width h = elim c.if-no_branch.branch [
   | then-no_branch w ↦
       let every = w.every_block.ensures (block_test (table_of c.args.table.words.now) width) (λ b end a e k. search (h, rules)) in
       w.result-is ∙ every ∙ entered _ _ c.entry.ensures w.if-no_branch.ensures
-  | else-no_branch w ↦ w.result-is ∙ w.if-no_branch.false ∙ entered _ (every_of (table_of c.args.table.words.now).blocks (block_test (table_of c.args.table.words.now) width)) c.entry.ensures w.if-no_branch.ensures
+  | else-no_branch w ↦
+      let every = every_of (table_of c.args.table.words.now).blocks (block_test (table_of c.args.table.words.now) width) in
+      w.result-is ∙ w.if-no_branch.false ∙ entered _ every c.entry.ensures w.if-no_branch.ensures
 ]

@@ -11,7 +11,8 @@ returns-in_err-label c = if_missing c.args.at.entered c.requires.ends c.in_err-l
 pub enclose-requires : goal.enclose-requires
 enclose-requires c =
     let most = reached_most c.args.at.table.words.now _ _ c.args.end.fallthrough
-    c.in_ok-label.ensures.1 (omega (arith, c.requires.ends.named.3, c.requires.ends.few)) in record { label_bound = search rules }
+    c.in_ok-label.ensures.1 (omega (arith, c.requires.ends.named.3, c.requires.ends.few)) in
+    record { label_bound = search rules; block_bound = omega (arith, c.requires.ends.named.1, c.requires.ends.few) }
 
 pub returns : goal.returns
-returns c = if_nested c.args.at.entered c.requires.ends c.in_ok-label.ensures c.is_scheduled-busy.ensures c.enclose.ensures
+returns c = if_nested c.args.at.entered c.requires.ends c.in_ok-label.ensures c.enclose.ensures

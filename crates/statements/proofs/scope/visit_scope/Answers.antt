@@ -10,10 +10,11 @@ use Rattle.statements.proofs.scope.visit_scope.Goals as goal
 pub enclose-requires : goal.enclose-requires
 enclose-requires c =
     let most = takes_most _ _ c.args.end.fallthrough
-    c.unless_scheduled-label.ensures (omega (arith, c.requires.ends.1.named.1, c.requires.ends.1.few)) in record { label_bound = search rules }
+    c.unless_scheduled-label.ensures (omega (arith, c.requires.ends.1.named.1, c.requires.ends.1.few)) in
+    record { label_bound = search rules; block_bound = omega (arith, c.requires.ends.1.named.0, c.requires.ends.1.few) }
 
 pub returns-in_err-plan : goal.returns-in_err-plan
-returns-in_err-plan c = scope_nested c.args.at.entered c.requires.ends.1 c.unless_scheduled-label.ensures c.is_scheduled-busy.ensures c.in_err-plan.ensures (handed_on c.from_residual.ensures)
+returns-in_err-plan c = scope_nested c.args.at.entered c.requires.ends.1 c.unless_scheduled-label.ensures c.in_err-plan.ensures (handed_on c.from_residual.ensures)
 
 pub returns : goal.returns
-returns c = scope_nested c.args.at.entered c.requires.ends.1 c.unless_scheduled-label.ensures c.is_scheduled-busy.ensures c.in_ok-plan.ensures (ap Ok c.with_scope.ensures)
+returns c = scope_nested c.args.at.entered c.requires.ends.1 c.unless_scheduled-label.ensures c.in_ok-plan.ensures (ap Ok c.with_scope.ensures)

@@ -29,7 +29,8 @@ overflow_add-end c =
 
 pub case-case-requires : goal.case-case-requires
 case-case-requires c =
-    last_below c.args.table.words.now c.args.p c.args.frame (choosing_fits c.args.table.words.now c.args.p c.args.frame c.requires.ready c.requires.stage_value) c.in-Switch.ensures c.if-frame-eq0.false
+    last_below c.args.table.words.now c.args.p c.args.frame
+    (choosing_fits c.args.table.words.now c.args.p c.args.frame c.requires.ready c.requires.stage_value) c.in-Switch.ensures c.if-frame-eq0.false
 
 pub is_scheduled-requires : goal.is_scheduled-requires
 is_scheduled-requires c = omega (arith, c.case-case.ensures.there, c.case-case.ensures.few)

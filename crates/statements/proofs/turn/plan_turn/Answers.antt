@@ -1,5 +1,5 @@
 -- `statements::turn::plan_turn` meets its contract, by the stage: each function's contract is the machine's turn at that stage (ResumeLaws, ValuesLaws), and no turn
--- is taken at Halt (TerminalLaws, `not_halted`).
+-- is taken at Halt (`Ready` says so).
 use Rattle.statements.proofs.TerminalLaws.{visits_ready, shown_seen}
 use Rattle.statements.proofs.ResumeLaws.{turn_on, popped, closing_at_pop}
 use Rattle.statements.proofs.ValuesLaws.{making, valued}

@@ -1,6 +1,14 @@
-use mathlib.Core.List.{[]}
-use Rattle.text.proofs.LentLaws.{holds_none}
+use Rattle.std.proofs.Common.{rules, ◌≡◌, ◌∙◌, arith}
+use Rattle.text.proofs.WriteLaws.{Narrow, written_fits}
+use Rattle.text.proofs.WriterLaws.{same_reference, told_answer, told_bytes}
 use Rattle.text.proofs.write.write.Goals as goal
 
 pub returns : goal.returns
-returns c = let h = c.write_result-end.ensures [] (holds_none _) in record { value = rw (← c.write_result-end.auto.out) (c.finish_text.ensures.by_index _ h); out_after = rw (← c.write_result-end.auto.out) (c.finish_text.ensures.by_index_2 _ h) }
+returns c =
+    let n = c.args.numbers in
+    let wrote = rw c.new-writer.ensures at c.write_result.ensures in
+    let told = told_answer _ _ _ _ wrote c.finish.ensures in
+    let narrow : Narrow c.args.tree.now = λ i. omega (arith, c.type_inv.tree i) in
+    let fits = written_fits _ n.code n.at n.rows n.visits c.args.tree.now (search rules, (search rules, (search rules, (search rules, tt)))) narrow in
+    let left : _ ≡ c.finish.new.self.0 = search (rules, same_reference _ _ wrote) in
+    record { answer = told; bytes = left ∙ told_bytes _ _ _ _ wrote c.finish.ensures; enough = λ p. told ∙ fits p }

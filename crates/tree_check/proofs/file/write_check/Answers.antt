@@ -1,7 +1,5 @@
--- `tree_check::file::write_check` meets its contract.
-use mathlib.Core.List.{[]}
-use Rattle.text.proofs.LentLaws.{holds_none}
-use Rattle.text.proofs.WriteLaws.{wrote_then, wrote_all}
+use Rattle.std.proofs.Common.{rules, ◌≡◌, ◌∙◌}
+use Rattle.text.proofs.WriterLaws.{written_append, same_reference, told_answer, told_bytes}
 use Rattle.tree_check.specs.Prints.{printed_check}
 use Rattle.tree_check.proofs.FileLaws.{check_written}
 use Rattle.tree_check.proofs.file.write_check.Goals as goal
@@ -9,7 +7,6 @@ use Rattle.tree_check.proofs.file.write_check.Goals as goal
 pub returns : goal.returns
 unfolding printed_check
 returns c =
-    let held = wrote_all (wrote_then c.write_names-names.ensures c.write_line-end.ensures) [] (holds_none _) in
-    rw (← c.write_names-names.auto.out, ← c.write_line-end.auto.out)
-    (check_written c.args.code c.args.at c.ranges.code.fits c.ranges.at.fits
-    (c.finish_text.ensures.by_index _ held) (c.finish_text.ensures.by_index_2 _ held))
+    let wrote = rw (c.bytes.ensures, c.new-writer.ensures, ← written_append) at c.line.ensures in
+    let left : _ ≡ c.finish.new.self.0 = search (rules, same_reference _ _ wrote) in
+    check_written c.args.code c.args.at c.ranges.code.fits c.ranges.at.fits (told_answer _ _ _ _ wrote c.finish.ensures) (left ∙ told_bytes _ _ _ _ wrote c.finish.ensures)

@@ -1,14 +1,10 @@
-use Rattle.tree_run.proofs.FileLaws.{looking_start, found_here, look_on, none_there}
+use Rattle.std.proofs.Common.{rules}
+use Rattle.std.proofs.lemmas.Iterator.{first_from_Range}
+use borrow.Author.Tests.{tests}
+use Rattle.tree_run.proofs.FileLaws.{Opens, Other, looked}
 use Rattle.tree_run.proofs.file.answers_at.Goals as goal
 
-pub loop-at-init : goal.loop-at-init
-loop-at-init c = looking_start _
-
-pub returns-then-opens_answers : goal.returns-then-opens_answers
-returns-then-opens_answers c = found_here _ c.loop-at.invariant c.loop-at-test.true c.opens_answers.ensures c.if-opens_answers.true
-
-pub loop-at-preserved : goal.loop-at-preserved
-loop-at-preserved c = look_on _ c.loop-at.invariant c.loop-at-test.true c.opens_answers.ensures c.if-opens_answers.false
-
 pub returns : goal.returns
-returns c = none_there _ c.loop-at.invariant c.loop-at-test.false
+returns c =
+    rw c.unwrap_or.ensures
+    (looked _ _ (first_from_Range _ _ _ _ (Opens c.args.file.now) (Other c.args.file.now) c.find.ensures.ran (λ x q k. search (rules, tests)) (λ x q k. search (rules, tests))))

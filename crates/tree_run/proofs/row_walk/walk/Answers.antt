@@ -26,7 +26,8 @@ pub loop-end-smaller-in-Some-instruction_at : goal.loop-end-smaller-in-Some-inst
 loop-end-smaller-in-Some-instruction_at c =
     let tree = c.args.tree.now in
     let instr = c.instruction_at.ensures _ c.in-Some-instruction_at.is in
-    instr_less tree.words.now (links_in tree) tree.rows _ c.loop-end.invariant.walking (ap place_of instr.0) instr.1 c.begin.ensures c.perform.ensures c.in_ok-perform.was _ c.after_instruction-place.ensures
+    instr_less tree.words.now (links_in tree) tree.rows _ c.loop-end.invariant.walking (ap place_of instr.0) instr.1
+    c.begin.ensures c.perform.ensures c.in_ok-perform.was _ c.after_instruction-place.ensures
 
 pub loop-end-preserved-in-Some-instruction_at : goal.loop-end-preserved-in-Some-instruction_at
 loop-end-preserved-in-Some-instruction_at c =
@@ -34,7 +35,8 @@ loop-end-preserved-in-Some-instruction_at c =
     let instr = c.instruction_at.ensures _ c.in-Some-instruction_at.is in
     record {
       same = c.perform.ensures.same ∙ c.loop-end.invariant.same;
-      walking = instr_next tree.words.now (links_in tree) tree.rows _ c.loop-end.invariant.walking (ap place_of instr.0) instr.1 c.begin.ensures c.perform.ensures c.in_ok-perform.was _ c.after_instruction-place.ensures;
+      walking = instr_next tree.words.now (links_in tree) tree.rows _ c.loop-end.invariant.walking (ap place_of instr.0) instr.1
+          c.begin.ensures c.perform.ensures c.in_ok-perform.was _ c.after_instruction-place.ensures;
     }
 
 pub returns-in_err-perform_turn : goal.returns-in_err-perform_turn
@@ -43,14 +45,15 @@ returns-in_err-perform_turn c =
     rw (err_same c.from_residual-in_err-perform_turn.ensures.1)
     (handed_back tree.words.now (links_in tree) tree.rows _ (search (rules, c.perform_turn.ensures.same))
     (walk_full tree.words.now (links_in tree) tree.rows _ c.loop-end.invariant.walking _ _
-    (turned tree.words.now (links_in tree) tree.rows (place_of c.loop-end.place) c.decide-turn.result (c.decide-turn.ensures (sym c.end_at.ensures ∙ c.in_default.is))) c.perform_turn.ensures c.in_err-perform_turn.was))
+    (turned tree.words.now (links_in tree) tree.rows (place_of c.loop-end.place) c.decide-turn.result (c.decide-turn.ensures (sym c.end_at.ensures ∙ c.in_default.is)))
+    c.perform_turn.ensures c.in_err-perform_turn.was))
 
 pub loop-end-smaller : goal.loop-end-smaller
 loop-end-smaller c =
     let tree = c.args.tree.now in
     walk_less tree.words.now (links_in tree) tree.rows _ c.loop-end.invariant.walking _ _
-    (turned tree.words.now (links_in tree) tree.rows (place_of c.loop-end.place) c.decide-turn.result (c.decide-turn.ensures (sym c.end_at.ensures ∙ c.in_default.is))) c.perform_turn.ensures c.in_ok-perform_turn.was
-    _ _ c.go_on-there.ensures
+    (turned tree.words.now (links_in tree) tree.rows (place_of c.loop-end.place) c.decide-turn.result (c.decide-turn.ensures (sym c.end_at.ensures ∙ c.in_default.is)))
+    c.perform_turn.ensures c.in_ok-perform_turn.was _ _ c.go_on-there.ensures
 
 pub loop-end-preserved : goal.loop-end-preserved
 loop-end-preserved c =
@@ -58,6 +61,6 @@ loop-end-preserved c =
     record {
       same = c.perform_turn.ensures.same ∙ c.loop-end.invariant.same;
       walking = walk_next tree.words.now (links_in tree) tree.rows _ c.loop-end.invariant.walking _ _
-          (turned tree.words.now (links_in tree) tree.rows (place_of c.loop-end.place) c.decide-turn.result (c.decide-turn.ensures (sym c.end_at.ensures ∙ c.in_default.is))) c.perform_turn.ensures c.in_ok-perform_turn.was
-          _ _ c.go_on-there.ensures;
+          (turned tree.words.now (links_in tree) tree.rows (place_of c.loop-end.place) c.decide-turn.result (c.decide-turn.ensures (sym c.end_at.ensures ∙ c.in_default.is)))
+          c.perform_turn.ensures c.in_ok-perform_turn.was _ _ c.go_on-there.ensures;
     }

@@ -6,6 +6,21 @@ use Rattle.tree_run.proofs.turns.down.Goals as goal
 pub returns-in_default : goal.returns-in_default
 returns-in_default c =
     let a = c.args in
-    let other : OtherDown c.word.result =
-    (omega arith, omega arith, omega arith, omega arith, omega arith, omega arith, omega arith, omega arith, omega arith, omega arith, omega arith, omega arith, omega arith, omega arith, omega arith) in
+    let other : OtherDown c.word.result = (
+      omega arith,
+      omega arith,
+      omega arith,
+      omega arith,
+      omega arith,
+      omega arith,
+      omega arith,
+      omega arith,
+      omega arith,
+      omega arith,
+      omega arith,
+      omega arith,
+      omega arith,
+      omega arith,
+      omega arith,
+    ) in
     rw c.out_of-in_default.ensures (down_other a.tree.now.words.now (links_in a.tree.now) a.k (sym c.word.ensures) other)

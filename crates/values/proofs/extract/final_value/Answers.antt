@@ -21,4 +21,5 @@ returns-in-None c =
     let o = c.operation-operation.ensures in
     rw (extract_plain c.instruction-head.ensures _ _ o.is c.in-None.ensures)
     (one_row (PLAIN _) (λ stack. refl) c.requires.fit c.instruction-head.ensures.there
-    (record { sequences = refl; instructions = refl; loaded = c.loaded_by.ensures.loaded ∙ sym (ap loaded_by o.is); there = c.loaded_by.ensures.there _ o.named }) c.put_row-plain.ensures c.loading-in-None.ensures)
+    (record { sequences = refl; instructions = refl; loaded = c.loaded_by.ensures.loaded ∙ sym (ap loaded_by o.is); there = c.loaded_by.ensures.there _ o.named })
+    c.put_row-plain.ensures c.loading-in-None.ensures)

@@ -1,3 +1,8 @@
+-- The nine functions of the cycle `walk` (`values::value_walk`) meet their contracts: the outcome is the definition's, and the buffer holds the rows
+-- of its value (`Met`, or `TestMet` for a test block). There is an answer for each end of a function at which auto finds none.
+-- Each names the definition's branch at that end (WalkLaws; `defined` puts it in) and then follows the definition's steps (MetLaws): `goes` past a call
+-- that gave a value, `pass` where a call refused, `stops` where the function itself does. Where a value is made of others, the record names it and puts
+-- its row behind theirs (`row_kept`).
 use Prim.Native.Nat.{◌+◌}
 use Rattle.definition.specs.Result.{ok}
 use Rattle.definition.specs.Tree.{LOGICAL, SEQ, OPTIONAL, COND}
@@ -7,7 +12,8 @@ use Rattle.table.specs.Table.{table_of, rows_from}
 use Rattle.values.proofs.EndingLaws.{OtherEnd, NoValue}
 use Rattle.values.proofs.MetLaws.{row_kept, handed_on, pass, goes, defined, stops, moved, met_wrap, count_rows, found_seq}
 use Rattle.values.proofs.StackLaws.{push_instructions_of}
-use Rattle.values.proofs.WalkLaws.{terminal_by, maybe_throw_missing, maybe_throw_own, maybe_throw_visits, ended_branch, ended_other, visit_30, visit_10, visit_23, visit_begun, at_goto, at_branch, at_other, terminal_label, terminal_maybe_throw, terminal_other}
+use Rattle.values.proofs.WalkLaws.{terminal_by, maybe_throw_missing, maybe_throw_own, maybe_throw_visits, ended_branch, ended_other, visit_30}
+use Rattle.values.proofs.WalkLaws.{visit_10, visit_23, visit_begun, at_goto, at_branch, at_other, terminal_label, terminal_maybe_throw, terminal_other}
 use borrow.Author.Rules.{rules}
 use Rattle.values.proofs.value_walk.+walk.Goals as goal
 use Rattle.values.specs.Stack.{push_value}

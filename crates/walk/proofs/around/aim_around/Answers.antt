@@ -27,12 +27,9 @@ aimed : (sought : std.Option Jump) (rule : Rule) (w : List ℕ) (frames : List F
     → aim_of aim ≡ goal_by sought (around_of rule (table_of w) (frames_of frames depth)) (resolved_of found)
 aimed sought rule w frames depth found left seen aim e s z = e ∙ survey_done sought rule w frames depth (resolved_of found) left seen s z
 
--- a frame in use, as the code reads it: what a read past the array's end gives plays no part
+-- what the code reads past the end plays no part
 abbrev past_end : Frame
 past_end = record { block = 0; label = std.None; entries = 0; left = 0; built = 0; first = 0; count = 0; second = false }
-
-reads : (frames : List Frame) (k depth : ℕ) → k < depth → depth ≤ 128 → length frames ≡ 129 → get_or frames k past_end ≡ get_or frames k no_frame
-reads frames k depth h few full = get_or_default frames k past_end no_frame (omega (arith, h, few, full))
 
 pub returns-then-left-eq0 : goal.returns-then-left-eq0
 returns-then-left-eq0 c =
@@ -41,18 +38,20 @@ returns-then-left-eq0 c =
 
 pub pass-looked-requires : goal.pass-looked-requires
 pass-looked-requires c =
-    let most : c.pass_from-left.result ≤ c.args.depth = passed_most c.asks_around.result c.args.depth c.pass_from-left.result c.pass_from-left.ensures in
-    let in_use : c.likely_owner.result < c.args.depth = omega (arith, c.likely_owner.ensures, most) in
-    rw (reads c.args.frames.now c.likely_owner.result c.args.depth in_use c.requires.depth_bound c.told-frames) (c.requires.by_index _ in_use)
+    let most : c.pass_from-left.result ≤ length c.args.frames.now = passed_most c.asks_around.result (length c.args.frames.now) c.pass_from-left.result c.pass_from-left.ensures in
+    let in_use : c.likely_owner.result < length c.args.frames.now = omega (arith, c.likely_owner.ensures, most) in
+    rw (get_or_default c.args.frames.now c.likely_owner.result past_end no_frame in_use) (c.requires _ in_use)
 
 pub returns-then-knows : goal.returns-then-knows
 returns-then-knows c =
-    let most : c.pass_from-left.result ≤ c.args.depth = passed_most c.asks_around.result c.args.depth c.pass_from-left.result c.pass_from-left.ensures in
-    let in_use : c.likely_owner.result < c.args.depth = omega (arith, c.likely_owner.ensures, most) in
-    let read : get_or c.args.frames.now c.likely_owner.result past_end ≡ get_or c.args.frames.now c.likely_owner.result no_frame = reads c.args.frames.now c.likely_owner.result c.args.depth in_use c.requires.depth_bound c.told-frames in
-    aimed c.args.jump (rule_of c.args.rule) c.args.table.words.now c.args.frames.now c.args.depth c.args.found 0
+    let most : c.pass_from-left.result ≤ length c.args.frames.now = passed_most c.asks_around.result (length c.args.frames.now) c.pass_from-left.result c.pass_from-left.ensures in
+    let in_use : c.likely_owner.result < length c.args.frames.now = omega (arith, c.likely_owner.ensures, most) in
+    let read : get_or c.args.frames.now c.likely_owner.result past_end ≡ get_or c.args.frames.now c.likely_owner.result no_frame =
+    get_or_default c.args.frames.now c.likely_owner.result past_end no_frame in_use in
+    aimed c.args.jump (rule_of c.args.rule) c.args.table.words.now c.args.frames.now (length c.args.frames.now) c.args.found 0
     (survey_of c.pass-looked.result) c.aim_at-then-knows.result c.aim_at-then-knows.ensures
-    (survey_known c.args.table.words.now c.args.frames.now c.args.depth c.args.jump (rule_of c.args.rule) (resolved_of c.args.found) c.likely_owner.result (survey_of c.unseen-seen.result) (survey_of c.pass-looked.result) in_use c.unseen-seen.ensures
+    (survey_known c.args.table.words.now c.args.frames.now (length c.args.frames.now) c.args.jump (rule_of c.args.rule) (resolved_of c.args.found) c.likely_owner.result
+    (survey_of c.unseen-seen.result) (survey_of c.pass-looked.result) in_use c.unseen-seen.ensures
     (rw (c.target_of-target.ensures, read) at c.pass-looked.ensures) (sym c.knows.ensures ∙ c.if-knows.true))
     (omega arith)
 
@@ -61,13 +60,14 @@ loop-from_outside-init c = survey_start _ _ _ _ _ _ _ _ _ c.asks_around.ensures 
 
 pub pass-seen-requires : goal.pass-seen-requires
 pass-seen-requires c =
-    let in_use : c.loop-from_outside.from_outside - 1 < c.args.depth = omega (arith, c.loop-from_outside-test.true, c.loop-from_outside.invariant.most) in
-    rw (reads c.args.frames.now (c.loop-from_outside.from_outside - 1) c.args.depth in_use c.requires.depth_bound c.told-frames) (c.requires.by_index _ in_use)
+    let in_use : c.loop-from_outside.from_outside - 1 < length c.args.frames.now = omega (arith, c.loop-from_outside-test.true, c.loop-from_outside.invariant.most) in
+    rw (get_or_default c.args.frames.now (c.loop-from_outside.from_outside - 1) past_end no_frame in_use) (c.requires _ in_use)
 
 pub loop-from_outside-preserved : goal.loop-from_outside-preserved
 loop-from_outside-preserved c =
-    let in_use : c.loop-from_outside.from_outside - 1 < c.args.depth = omega (arith, c.loop-from_outside-test.true, c.loop-from_outside.invariant.most) in
-    let read : get_or c.args.frames.now (c.loop-from_outside.from_outside - 1) past_end ≡ get_or c.args.frames.now (c.loop-from_outside.from_outside - 1) no_frame = reads c.args.frames.now (c.loop-from_outside.from_outside - 1) c.args.depth in_use c.requires.depth_bound c.told-frames in
+    let in_use : c.loop-from_outside.from_outside - 1 < length c.args.frames.now = omega (arith, c.loop-from_outside-test.true, c.loop-from_outside.invariant.most) in
+    let read : get_or c.args.frames.now (c.loop-from_outside.from_outside - 1) past_end ≡ get_or c.args.frames.now (c.loop-from_outside.from_outside - 1) no_frame =
+    get_or_default c.args.frames.now (c.loop-from_outside.from_outside - 1) past_end no_frame in_use in
     survey_on _ _ _ _ _ _ _ _ _ c.loop-from_outside.invariant c.loop-from_outside-test.true (rw (c.target_of-target.ensures, read) at c.pass-seen.ensures)
 
 pub returns : goal.returns

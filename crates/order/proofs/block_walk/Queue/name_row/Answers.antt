@@ -20,8 +20,9 @@ case-requires c = omega (arith, c.loop-k-test.true, c.named-named.ensures.within
 pub loop-k-preserved : goal.loop-k-preserved
 loop-k-preserved c =
     let inside = c.named-named.ensures.within in
+    let before = take c.loop-k.k (drop c.named-named.result.first_case (table_of c.args.table.words.now).cases) in
     rw (cases_next _ _ c.loop-k.k (omega (arith, inside, c.loop-k-test.true)) c.case.ensures)
-    (named_then c.args.self.now (case_blocks (take c.loop-k.k (drop c.named-named.result.first_case (table_of c.args.table.words.now).cases))) (c.case.result.block ∷ []) c.loop-k.invariant c.name.ensures)
+    (named_then c.args.self.now (case_blocks before) (c.case.result.block ∷ []) c.loop-k.invariant c.name.ensures)
 
 pub loop-block-init : goal.loop-block-init
 loop-block-init c = refl

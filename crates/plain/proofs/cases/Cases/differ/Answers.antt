@@ -1,18 +1,17 @@
-use Prim.Native.Nat.{◌+◌, ◌-◌}
-use native.Mathlib.Omega.{arith}
-use mathlib.Core.Path.{refl, sym, ◌∙◌}
-use Rattle.definition.specs.Plain.{different}
-use Rattle.plain.proofs.CaseLaws.{left_all, left_first, left_more, left_none}
+use Rattle.std.proofs.Common.{◌∙◌, ◌+◌, ◌-◌, refl, arith, rules, not}
+use Rattle.std.proofs.lemmas.Iterator.{YieldsList-from_range}
+use Rattle.std.proofs.lemmas.Iterator.Search.{all_from_yields_List}
+use Rattle.table.specs.Table.{table_of}
+use Rattle.definition.specs.BlockRun.{case_list}
+use Rattle.definition.specs.Completion.{contains}
+use Rattle.definition.specs.Plain.{blocks_of}
+use Rattle.plain.proofs.CaseLaws.{block_at, block_chosen, differ_rows}
 use Rattle.plain.proofs.cases.Cases.differ.Goals as goal
 
-pub loop-row-init : goal.loop-row-init
-loop-row-init c = left_all _ c.args.self.there (omega arith)
-
-pub returns-then-have : goal.returns-then-have
-returns-then-have c = sym (left_first different (c.args.self.first + c.args.self.number - (c.loop-row.row + 1)) c.loop-row.invariant (omega arith) c.case.ensures ∙ rw (sym c.have.ensures ∙ c.if-have.true) refl)
-
-pub loop-row-preserved : goal.loop-row-preserved
-loop-row-preserved c = left_more different (c.args.self.first + c.args.self.number - (c.loop-row.row + 1)) c.loop-row.invariant (omega arith) c.case.ensures (rw (sym c.have.ensures ∙ c.if-have.false) refl)
-
 pub returns : goal.returns
-returns c = sym (left_none different c.loop-row.invariant (omega arith))
+returns c =
+    let ws = c.args.self.table.words.now in
+    let end = c.args.self.first + c.args.self.number in
+    all_from_yields_List (λ row. not (contains (blocks_of (case_list (table_of ws) (row + 1) (end - (row + 1)))) (block_at (table_of ws) row))) _ _ _ c.all.ensures.ran
+    (YieldsList-from_range c.args.self.first _ c.args.self.number refl (omega arith)) (λ x b q k. search (block_chosen, rules))
+    ∙ differ_rows _ end c.args.self.first c.args.self.number refl c.args.self.there
