@@ -345,7 +345,7 @@ impl Table {
 
 fn push<T>(rows: &mut Vec<T>, row: T) -> u32 {
     rows.push(row);
-    rows.len() as u32 - 1
+    (rows.len() - 1) as u32
 }
 
 fn rows<T, const WIDTH: usize>(words: &[u32], at: usize, of_row: fn(&[u32; WIDTH]) -> Option<T>) -> Result<Vec<T>, Refusal> {

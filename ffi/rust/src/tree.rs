@@ -446,6 +446,9 @@ impl Nodes {
 impl Index<usize> for Nodes {
     type Output = Node;
 
+    /// # Panics
+    ///
+    /// Where there is no such row, as an index of a slice does.
     fn index(&self, row: usize) -> &Node {
         &self.nodes[row]
     }

@@ -1,12 +1,16 @@
 //! Any input: every public function on empty, odd and huge slices, and on a good table and tree spoilt word by word. None panics but where
-//! its page says so, and where a call refuses, what was lent holds zeros.
+//! its page says so, and where a call refuses, what was lent holds zeros. Each is called by its path (`every_public_function_is_called`).
 
-use reactive_build::table::{Block, Ending, Instruction, Table};
-use reactive_build::tree::{Kind, Node, Nodes, Op, Operator};
+use reactive_build::table::{Block, Case, Ending, Instruction, Table, Value, Variant};
+use reactive_build::table_check::Checked;
+use reactive_build::tree::{Kind, Node, Nodes, Op, Operator, Row};
 use reactive_build::{
-    LINE_WORDS, Outcome, ROW_WORDS, Refusal, Span, build, build_language, code, convert, dot, lookup, order, plain, preview, rows,
-    rows_language, table_check, tree_check, tree_run,
+    CODES, LINE_WORDS, Outcome, ROW_WORDS, Refusal, Span, code, convert, dot, lookup, order, plain, preview, table_check, tree_check,
+    tree_run,
 };
+use std::array;
+use std::fs;
+use std::path::Path;
 
 /// W of paper 01 with a switch after it.
 fn good_table() -> Vec<u32> {
@@ -15,8 +19,8 @@ fn good_table() -> Vec<u32> {
     let place = table.place(named);
     table.block(&[], Ending::While { test: 1, loop_block: 2, fallthrough: 3 }, 1, Span::of_words(3, 9));
     table.block(&[], Ending::Branch { test: place, consequent: 2, alternate: 3 }, 2, None);
-    table.block(&[], Ending::Goto { block: 1, variant: reactive_build::table::Variant::Continue }, 3, None);
-    let switch = table.switch(place, &[reactive_build::table::Case { test: None, block: 4 }], 5);
+    table.block(&[], Ending::Goto { block: 1, variant: Variant::Continue }, 3, None);
+    let switch = table.switch(place, &[Case { test: None, block: 4 }], 5);
     table.block(&[], switch, 4, None);
     table.block(&[], Ending::Return { value: place }, 5, None);
     table.block(&[], Ending::Return { value: place }, 6, None);
@@ -57,23 +61,24 @@ fn refused(code: u32) -> bool {
 /// Every function that takes a table's words, with so many words and bytes lent.
 fn words_are_taken(words: &[u32], lent: usize) {
     let (mut tree, mut index, mut text) = (vec![7; lent], vec![7; lent], vec![7; lent]);
-    for build in [build, build_language] {
+    for build in [reactive_build::build, reactive_build::build_language] {
         let built = build(words, &mut tree, &mut index);
-        assert_eq!(built.refusal().is_some(), refused(built.code));
+        assert_eq!(Outcome::refusal(&built).is_some(), refused(built.code));
         assert!(!refused(built.code) || zeros(&tree) && zeros(&index));
         let parts = &tree[..(built.rows as usize * ROW_WORDS).min(lent)];
         rows_are_taken(if refused(built.code) { &tree } else { parts }, &index, built.lines);
     }
-    for (rows, preview) in [(rows as fn(&_) -> _, preview::preview as fn(&_) -> _), (rows_language, preview::preview_language)] {
+    let by_the_rust = (reactive_build::rows as fn(&_) -> _, preview::preview as fn(&_) -> _);
+    for (rows, preview) in [by_the_rust, (reactive_build::rows_language, preview::preview_language)] {
         let Outcome { code, at, rows: count, .. } = preview(words);
         match rows(words) {
             Ok(rows) => assert_eq!((code, rows.len()), (0, count as usize)),
             Err(refusal) => assert_eq!(refusal, Refusal { code, at }),
         }
     }
-    assert_eq!(preview::tree(words).map(|tree| tree.rows), rows(words).map(|rows| rows.concat()));
-    assert_eq!(preview::tree_language(words).map(|tree| tree.rows), rows_language(words).map(|rows| rows.concat()));
-    assert_eq!(table_check::is_table(words).is_ok(), !refused(table_check::check(words).code));
+    assert_eq!(preview::tree(words).map(|tree| tree.rows), reactive_build::rows(words).map(|rows| rows.concat()));
+    assert_eq!(preview::tree_language(words).map(|tree| tree.rows), reactive_build::rows_language(words).map(|rows| rows.concat()));
+    assert_eq!(table_check::is_table(words), Checked::result(&table_check::check(words)));
     assert_eq!(plain::law(words).err(), table_check::is_table(words).err());
     let drawn = dot::draw(words, &mut text);
     assert!(!refused(drawn.code) || zeros(&text));
@@ -87,14 +92,16 @@ fn words_are_taken(words: &[u32], lent: usize) {
     if let Ok(rearranged) = order::rearranged(words) {
         assert_eq!(order::restored(&rearranged).as_deref(), Ok(words));
     }
+    let rearranged = order::Rearranged { words: words.to_vec(), old_numbers: words.to_vec() };
+    assert_eq!(order::restored(&rearranged).is_err(), refused(order::restore(words, words, &mut words.to_vec()).code));
     if let Ok(table) = Table::of_words(words) {
-        assert_eq!(table.words(), words);
+        assert_eq!(Table::words(&table), words);
     }
 }
 
 /// Every function that takes rows.
 fn rows_are_taken(tree: &[u32], index: &[u32], lines: u32) {
-    assert_eq!(tree_check::is_tree(tree).is_ok(), !refused(tree_check::check(tree).code));
+    assert_eq!(tree_check::is_tree(tree), Checked::result(&tree_check::check(tree)));
     for lines in [lines, 0, 1, u32::MAX] {
         for label in [0, 3, 65_535, u32::MAX] {
             let found = lookup::find(index, lines, label, tree);
@@ -112,11 +119,32 @@ fn rows_are_taken(tree: &[u32], index: &[u32], lines: u32) {
         assert_eq!(tree_run::performs(tree, &[], &mut performed).is_ok(), !refused(tree_run::run(tree, &[], &mut vec![7; length]).code));
     }
     let (rows, _) = tree.as_chunks::<ROW_WORDS>();
-    if let Ok(nodes) = Nodes::of(rows) {
-        assert_eq!(nodes.walk().count(), rows.len());
+    nodes_are_taken(rows);
+    rows.iter().for_each(row_is_taken);
+}
+
+/// Every function of the nodes of a tree.
+fn nodes_are_taken(rows: &[Row]) {
+    let Ok(nodes) = Nodes::of(rows) else { return };
+    assert_eq!((Nodes::body(&nodes), Nodes::walk(&nodes).count()), (rows.len() - 1, rows.len()));
+    assert!(Nodes::iter(&nodes).eq(Nodes::as_slice(&nodes)));
+    assert!((&nodes).into_iter().map(Node::row).eq(rows.iter().copied()));
+    for row in 0..rows.len() {
+        let subtree = Nodes::subtree(&nodes, row);
+        let parts: Vec<usize> = Nodes::parts(&nodes, row).map(|part| Nodes::subtree(&nodes, part).len()).collect();
+        assert_eq!((parts.len(), parts.iter().sum::<usize>() + 1), (Node::part_count(&nodes[row]), subtree.len()));
     }
-    for row in rows {
-        let _ = (Node::of_row(row).map(|node| node.part_count()), Span::of_row(row));
+}
+
+/// Every function of one row.
+fn row_is_taken(row: &Row) {
+    let span = Span::of_row(row);
+    if let Some(node) = Node::of_row(row) {
+        assert_eq!((Node::row(&node), Node::span(&node)), (*row, span));
+        assert_eq!(Op::of(row[0]), Some(Node::op(&node)));
+        let of_a_label = (10..=19).contains(&row[0]);
+        assert!(Node::label(&node).is_none_or(|label| of_a_label && row.contains(&label)));
+        assert!(Node::part_count(&node) <= u32::MAX as usize + 1);
     }
 }
 
@@ -147,7 +175,7 @@ fn words_of_any_sort() {
 
 #[test]
 fn rows_of_any_sort() {
-    let good = rows(&good_table()).expect("a tree").concat();
+    let good = reactive_build::rows(&good_table()).expect("a tree").concat();
     for tree in slices(&good) {
         rows_are_taken(&tree, &tree, tree.len() as u32);
     }
@@ -205,28 +233,115 @@ fn huge_slices() {
         words_are_taken(&huge, 12);
         words_are_taken(&good_table(), 3_000_001);
         rows_are_taken(&huge, &huge, u32::MAX);
-        tree_run::run(&rows(&good_table()).expect("a tree").concat(), &huge, &mut vec![7; 3_000_001]);
+        tree_run::run(&reactive_build::rows(&good_table()).expect("a tree").concat(), &huge, &mut vec![7; 3_000_001]);
+        let mut table = Table::default();
+        let instruction = Instruction { id: word, lvalue: word, value: Value::Other, span: None };
+        let switch = Table::switch(&mut table, word, &vec![Case { test: Some(word), block: word }; 300_000], word);
+        Table::block(&mut table, &vec![instruction; 300_000], switch, word, None);
+        assert!(matches!(reactive_build::rows(&Table::words(&table)), Err(Refusal { code: code::COUNT_LIMIT, .. })));
     }
 }
 
+/// What is told of numbers: each at an edge, and each that an op, an ending or a code could have.
 #[test]
 fn numbers_of_any_size() {
-    for word in EDGES {
-        let _ = (Op::of(word), Kind::of(word), Operator::of(word), reactive_build::table::Variant::of(word));
-        let _ = (Ending::of_columns(word, [word; 5]), Block::of_row(&[word; 11]), Instruction::of_row(&[word; 7]));
-        let _ = (Node::of_row(&[word; ROW_WORDS]), Span::of_words(word, word), Refusal { code: word, at: word }.to_string());
-        let mut table = Table { entry: word, places: vec![word], ..Table::default() };
-        let place = table.place(word);
-        let switch = table.switch(place, &[], word);
-        table.block(&[], switch, word, Span::of_words(word, 0));
-        assert!(rows(&table.words()).is_err());
+    for number in (0..100).chain(EDGES) {
+        let kinds = [Kind::of(number).map(Kind::number), Operator::of(number).map(Operator::number)];
+        let others = [Variant::of(number).map(Variant::number), Op::of(number).map(Op::number)];
+        assert!(kinds.into_iter().chain(others).flatten().all(|told| told == number));
+        assert!(Op::of(number).is_none_or(|op| !Op::name(op).is_empty()));
+        for word in EDGES {
+            (0..6).for_each(|used| columns_are_taken(number, array::from_fn(|at| if at < used { word } else { 0 })));
+            assert_eq!(Span::words(Span::of_words(number, word)), [number, word]);
+            let refusal = Refusal { code: number, at: word };
+            let listed = CODES.iter().any(|(code, _)| *code == number);
+            assert_eq!((Refusal::at_counts(&refusal).is_some(), Refusal::sentence(&refusal).is_some()), (listed, listed));
+            assert!(refusal.to_string().starts_with(&number.to_string()));
+        }
     }
     assert_eq!(LINE_WORDS, lookup::LINE_WORDS);
 }
 
+/// An op or a code with its columns a to e: as a row of a tree, of the blocks and of the instructions.
+fn columns_are_taken(number: u32, columns: [u32; 5]) {
+    let [a, b, c, d, e] = columns;
+    row_is_taken(&[number, a, b, c, d, e]);
+    if let Some(ending) = Ending::of_columns(number, columns) {
+        assert_eq!((Ending::code(&ending), Ending::columns(&ending)), (number, columns));
+        assert_eq!(Ending::name(&ending), Ending::NAMES[number as usize]);
+    }
+    let row = [e, d, number, a, b, c, d, e, a, b, c];
+    assert!(Block::of_row(&row).is_none_or(|block| Block::row(&block) == row));
+    let row = [e, d, number, a, b, c, d];
+    assert!(Instruction::of_row(&row).is_none_or(|instruction| Instruction::row(&instruction) == row));
+}
+
+#[test]
+fn a_table_of_any_numbers() {
+    for word in EDGES {
+        let mut table = Table { entry: word, places: vec![word], ..Table::default() };
+        let place = Table::place(&mut table, word);
+        let switch = Table::switch(&mut table, place, &[], word);
+        Table::block(&mut table, &[], switch, word, Span::of_words(word, 0));
+        assert!(reactive_build::rows(&Table::words(&table)).is_err(), "it has no identifier");
+        assert_eq!((place, Table::identifier(&mut table, true)), (1, 0));
+    }
+}
+
 #[test]
 #[should_panic(expected = "index out of bounds")]
-fn a_row_that_is_not_there_panics_as_documented() {
+fn the_parts_of_a_row_that_is_not_there_panic_as_documented() {
     let nodes = Nodes::of(&[[9, 0, 0, 0, 0, 0]]).expect("a tree");
-    nodes.parts(1).next();
+    Nodes::parts(&nodes, 1).next();
+}
+
+#[test]
+#[should_panic(expected = "index out of bounds")]
+fn the_node_of_a_row_that_is_not_there_panics_as_documented() {
+    let nodes = Nodes::of(&[[9, 0, 0, 0, 0, 0]]).expect("a tree");
+    let _ = nodes[1];
+}
+
+#[test]
+#[should_panic(expected = "index out of bounds")]
+fn the_subtree_of_a_row_that_is_not_there_panics_as_documented() {
+    let nodes = Nodes::of(&[[9, 0, 0, 0, 0, 0]]).expect("a tree");
+    let _ = Nodes::subtree(&nodes, usize::MAX);
+}
+
+/// The public functions of a source: `module::name`, those of lib.rs `reactive_build::name`, and `Type::name`.
+fn public_functions(module: &str, source: &str) -> Vec<String> {
+    let mut owner = module;
+    let mut functions = Vec::new();
+    for line in source.lines() {
+        if let Some(of) = line.strip_prefix("impl ") {
+            owner = of.trim_end_matches(" {");
+        } else if line == "}" {
+            owner = module;
+        }
+        let line = line.trim_start().replace("pub const fn ", "pub fn ");
+        if let Some(rest) = line.strip_prefix("pub fn ") {
+            functions.push(format!("{owner}::{}", rest.split(['(', '<']).next().unwrap_or_default()));
+        }
+    }
+    functions
+}
+
+/// Read as text, comments aside: none may be added and forgotten here.
+#[test]
+fn every_public_function_is_called() {
+    let here: Vec<&str> = include_str!("any_input.rs").lines().filter(|line| !line.trim_start().starts_with("//")).collect();
+    let here = here.join("\n");
+    let inside = |letter: char| letter.is_alphanumeric() || letter == '_';
+    let called = |name: &String| {
+        here.match_indices(name.as_str()).any(|(at, _)| !here[..at].ends_with(inside) && !here[at + name.len()..].starts_with(inside))
+    };
+    let mut functions = Vec::new();
+    for file in fs::read_dir(Path::new(env!("CARGO_MANIFEST_DIR")).join("src")).expect("the sources") {
+        let path = file.expect("a source").path();
+        let module = path.file_stem().and_then(|stem| stem.to_str()).map(|stem| if stem == "lib" { "reactive_build" } else { stem });
+        functions.extend(public_functions(module.expect("a name"), &fs::read_to_string(&path).expect("a text")));
+    }
+    let forgotten: Vec<&String> = functions.iter().filter(|name| !called(name)).collect();
+    assert!(functions.len() >= 60 && forgotten.is_empty(), "{} public functions; not called in this file: {forgotten:?}", functions.len());
 }
