@@ -6,6 +6,7 @@
 //! before the clock starts (the one on the wall), and its tree is not made into rows; it is watched by the observer that
 //! counts its visits, which takes a part of its time.
 
+mod clock;
 mod plain;
 mod stack;
 mod tables;
@@ -14,6 +15,7 @@ mod tuned;
 use std::hint::black_box;
 use std::time::Duration;
 
+use clock::time;
 use comparison::model::check::check;
 use comparison::reference;
 use reactive_build::preview::preview;
@@ -110,31 +112,6 @@ fn measure(case: &Case) {
         "| {} | {} | {} | {proved:.1} | {vectors:.1} | {to_a:.2} | {tuned:.1} | {to_tuned:.2} | {original:.1} | {to_b:.2} | {to_first:.2} | {to_build:.2} |",
         case.name, ours.rows, ours.lines
     );
-}
-
-/// The processor's time in this process: another program's load moves it less than the clock on the wall.
-fn processor_time() -> Duration {
-    #[repr(C)]
-    struct Timespec {
-        seconds: i64,
-        nanoseconds: i64,
-    }
-    unsafe extern "C" {
-        fn clock_gettime(clock: i32, time: *mut Timespec) -> i32;
-    }
-    const PROCESS: i32 = 2;
-    let mut time = Timespec { seconds: 0, nanoseconds: 0 };
-    // SAFETY: Linux on 64 bits, where a timespec is two 64-bit numbers; it is written by the call alone.
-    assert_eq!(unsafe { clock_gettime(PROCESS, &mut time) }, 0, "the clock is there");
-    Duration::new(time.seconds as u64, time.nanoseconds as u32)
-}
-
-fn time(calls: u32, mut call: impl FnMut() -> u32) -> Duration {
-    let start = processor_time();
-    for _ in 0..calls {
-        assert_eq!(call(), 0);
-    }
-    (processor_time() - start) / calls
 }
 
 fn of_reference(words: &[u32], calls: u32) -> Duration {
