@@ -115,10 +115,10 @@ unfolding written
 long_kept w [] = refl
 long_kept w (byte ∷ text) = long_kept (byte_at w.end w byte) text ∙ long_byte w.end w byte
 
-closed_has : (text : List ℕ) (w : Writer) → Has text w → closed w.end w.out.now ≡ printing (length w.out.now) text
+closed_has : (text : List ℕ) (w : Writer) → Has text w → closed w ≡ printing (length w.out.now) text
 unfolding closed written_of lent_of
-closed_has text w (fits e p t) = rw (e, closed, le-leb (length text) (length w.out.now) p, t)
-closed_has text w (full e p _) = rw (e, closed, lt-leb (length text) (length w.out.now) p)
+closed_has text w (fits e p t) = rw (closed, e, le-leb (length text) (length w.out.now) p, t)
+closed_has text w (full e p _) = rw (closed, e, lt-leb (length text) (length w.out.now) p)
 
 -- the lent bytes hold the first part of a text that did not fit, until `finish` clears them
 pub begun : (b : MutBor (List ℕ)) (text : List ℕ) → length b.now < length text → take (length b.now) (written (opened b) text).out.now ≡ take (length b.now) text
@@ -135,7 +135,7 @@ begun b text p = by (has_more [] text (opened b) (has_none b))
     by (full e q t) = take_all (length b.now) w.out.now (omega (arith, long)) ∙ t ∙ rw long refl
 
 -- what is told and left in the end is that of the text
-pub closed_written : (b : MutBor (List ℕ)) (text : List ℕ) → closed (written (opened b) text).end (written (opened b) text).out.now ≡ printing (length b.now) text
+pub closed_written : (b : MutBor (List ℕ)) (text : List ℕ) → closed (written (opened b) text) ≡ printing (length b.now) text
 closed_written b text = rw (← (long_kept (opened b) text)) (closed_has text (written (opened b) text) (has_more [] text (opened b) (has_none b)))
 
 -- the same lent bytes
@@ -159,11 +159,11 @@ same_reference b text e = rw e (name_kept (opened b) text)
 
 -- what is told at the end of a text, and what it leaves in the lent bytes
 module _ (b : MutBor (List ℕ)) (text : List ℕ) (answer : Written) (bytes : List ℕ) {w : Writer} (e : w ≡ written (opened b) text) where
-  told : record { answer = answer; bytes = bytes } ≡ closed w.end w.out.now → record { answer = answer; bytes = bytes } ≡ printing (length b.now) text
+  told : record { answer = answer; bytes = bytes } ≡ closed w → record { answer = answer; bytes = bytes } ≡ printing (length b.now) text
   told t = t ∙ (rw e (closed_written b text))
 
-  pub told_answer : record { answer = answer; bytes = bytes } ≡ closed w.end w.out.now → answer ≡ written_of (length b.now) text
+  pub told_answer : record { answer = answer; bytes = bytes } ≡ closed w → answer ≡ written_of (length b.now) text
   told_answer t = ap (λ (p : Printing). p.answer) (told t)
 
-  pub told_bytes : record { answer = answer; bytes = bytes } ≡ closed w.end w.out.now → bytes ≡ lent_of (length b.now) text
+  pub told_bytes : record { answer = answer; bytes = bytes } ≡ closed w → bytes ≡ lent_of (length b.now) text
   told_bytes t = ap (λ (p : Printing). p.bytes) (told t)

@@ -78,7 +78,7 @@ impl<'a> Writer<'a> {
 
     // Ends the text with zeros; or there are zeros alone, if it did not fit.
     pub fn finish(self) -> Result<usize, NoRoom>
-        ensures { record { answer = result; bytes = self.exit.0.now } ≡ closed self.entry.end self.entry.out.now }
+        ensures { record { answer = result; bytes = self.exit.0.now } ≡ closed self.entry }
     {
         let Writer { out, end } = self;
         match end {
