@@ -56,14 +56,20 @@ impl<'a> Writer<'a> {
         }
     }
 
-    // A number in decimal.
+    // A number in decimal: its digits from the last on, then all at once. (A call for each digit costs the largest drawing a third more time.)
     pub fn number(&mut self, n: u32)
         ensures { self.new ≡ written self.old (decimal n) }
     {
-        if n >= 10 {
-            self.number(n / 10);
+        let mut digits = [b'0'; 10];
+        let mut first = 9;
+        let mut rest = n;
+        while rest >= 10 {
+            digits[first] = b'0' + (rest % 10) as u8;
+            first -= 1;
+            rest /= 10;
         }
-        self.byte(b'0' + (n % 10) as u8);
+        digits[first] = b'0' + rest as u8;
+        self.bytes(&digits[first..]);
     }
 
     // A line of numbers.
