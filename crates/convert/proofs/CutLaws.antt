@@ -1,65 +1,25 @@
 -- Laws of words cut into rows.
-use Prim.Native.Nat.{ℕ, zero, suc, ◌+◌, ◌*◌, ◌-◌, ◌/◌, ◌≤◌, ◌<◌}
+use Prim.Native.Nat.{ℕ, zero, suc, ◌+◌, ◌*◌, ◌-◌, ◌≤◌, ◌<◌}
 use mathlib.Core.Path.{◌≡◌, refl, ap}
 use mathlib.Core.List.{List, [], ◌∷◌, ◌++◌, append_assoc}
 use native.Mathlib.Omega.{arith}
-use native.Mathlib.Nat.{add-div_left, div-eq_of_lt, mul-div_cancel, zero-div}
-use lib.ListN.{length, take, drop, length-append, length-drop}
-use lib.Seq.{take-add, take_at, drop_at, length-take-le, take-append-le, take-take}
+use native.Mathlib.Nat.{mul-div_cancel}
+use lib.ListN.{length, take, drop, length-drop}
+use lib.Seq.{take-add, take_at, drop_at, length-take-le, take-take}
 use Rattle.std.proofs.lemmas.List.{drop-take}
 use Rattle.text.specs.File.{Rows}
-use Rattle.text.specs.Line.{line, lines, flat}
-use Rattle.text.specs.Writer.{written}
-use Rattle.text.specs.declared.write.Writer.{Writer}
+use Rattle.text.specs.Line.{cut, rows_in, flat}
 use Rattle.text.proofs.WriteLaws.{Narrow, narrow_words, narrow_take, narrow_drop}
-use Rattle.text.proofs.WriterLaws.{written_append}
-use Rattle.convert.specs.Cut.{cut, rows_in}
 
 -- ---- the whole rows of words
 
 module _ (stride columns : ℕ) where
-  -- a row is one more
-  pub rows_counted : (row rest : List ℕ) → 0 < stride → length row ≡ stride → length (row ++ rest) / stride ≡ suc (length rest / stride)
-  rows_counted row rest some long = rw (length-append row rest, long, add-div_left (length rest) some) (omega arith)
-
-  -- it and those behind it
-  pub rows_open : (row rest : List ℕ) → 0 < stride → columns ≤ stride → length row ≡ stride → rows_in stride columns (row ++ rest) ≡ take columns row ∷ rows_in stride columns rest
-  unfolding cut
-  rows_open row rest some fits long =
-      rw (rows_counted row rest some long, take-append-le columns row rest (omega (arith, long)), drop_at row rest stride long)
-
-  pub rows_none : (rest : List ℕ) → length rest < stride → rows_in stride columns rest ≡ []
-  unfolding cut
-  rows_none rest p = rw (div-eq_of_lt p)
-
   cut_take : (count : ℕ) (words : List ℕ) → columns ≤ stride → cut stride columns count (take (count * stride) words) ≡ cut stride columns count words
   unfolding cut
   cut_take zero words p = refl
   cut_take (suc count) words p =
       let e : suc count * stride ≡ stride + count * stride = omega arith in
       rw (e, take-take columns (stride + count * stride) words (omega arith), drop-take stride (count * stride) words, cut_take count (drop stride words) p)
-
-  -- a writer after the lines of a row and of those behind it
-  pub rows_more : (w : Writer) (row rest : List ℕ) → 0 < stride → columns ≤ stride → length row ≡ stride
-      → written w (lines (rows_in stride columns (row ++ rest))) ≡ written (written w (line (take columns row))) (lines (rows_in stride columns rest))
-  unfolding lines
-  rows_more w row rest some fits long = rw (rows_open row rest some fits long) (written_append w (line (take columns row)) (lines (rows_in stride columns rest)))
-
-  -- rows of no words have no lines, of whatever stride
-  pub no_lines : (words : List ℕ) → length words ≡ 0 → lines (rows_in stride columns words) ≡ []
-  unfolding cut lines
-  no_lines words e = rw (e, zero-div stride)
-
-  pub some_words : (words : List ℕ) → (stride ≡ 0 → length words ≡ 0) → (length words ≡ 0 → ⊥) → 0 < stride
-  some_words words f some = by stride refl
-    where
-      by : (n : ℕ) → stride ≡ n → 0 < stride
-      by zero e = absurd (some (f e))
-      by (suc n) e = omega (arith, e)
-
-  pub rows_end : (w : Writer) (rest : List ℕ) → length rest < stride → written w (lines (rows_in stride columns rest)) ≡ w
-  unfolding lines written
-  rows_end w rest p = rw (rows_none rest p)
 
   -- those of so many words are so many
   pub rows_taken : (count : ℕ) (words : List ℕ) → 0 < stride → columns ≤ stride → count * stride ≤ length words

@@ -6,12 +6,12 @@ use native.Mathlib.Omega.{arith}
 use lib.ListN.{length, get_or, take, drop, length-append, length-drop, take-append-drop, get_or-append}
 use lib.Seq.{take-add, drop-drop, take_all, take_at, drop_at, length-take-le, get_or-take}
 use Rattle.text.specs.Layout.{Layout, layout}
-use Rattle.text.specs.Line.{flat}
+use Rattle.text.specs.Line.{cut, flat}
 use Rattle.text.specs.File.{Tables, Words, Rows, Table, Formed, Good, text_of, words_of}
 use Rattle.text.specs.declared.version.Version.{Version}
 use Rattle.text.specs.declared.version.Version.TheVariants.{Old, New}
 use Rattle.text.proofs.WriteLaws.{Narrow, narrow_words, narrow_take, narrow_drop}
-use Rattle.convert.specs.Cut.{cut, instructions_at, cases_at, places_at, identifiers_at, end_at, Shaped, tables_in, text_in}
+use Rattle.convert.specs.Cut.{instructions_at, cases_at, places_at, identifiers_at, end_at, Shaped, tables_in, text_in}
 use Rattle.convert.proofs.CutLaws.{flat_cut, cut_flat, cut_rows, cut_many}
 
 -- ---- words that are cut are the words

@@ -6,11 +6,11 @@ use native.Mathlib.Omega.{arith}
 use native.Mathlib.Numerals.{add-one}
 use lib.ListN.{length, get_or, take, drop, length-append, length-drop}
 use lib.Seq.{take-add, take_at, drop_at, length-take-le}
-use Rattle.text.specs.Line.{line, lines}
+use Rattle.text.specs.Line.{line, lines, cut}
 use Rattle.text.specs.Layout.{Layout, layout}
 use Rattle.text.specs.File.{Tables, text_of}
 use Rattle.text.specs.declared.version.Version.TheVariants.{Old, New}
-use Rattle.convert.specs.Cut.{cut, instructions_at, cases_at, places_at, identifiers_at, Shaped, tables_in, text_in}
+use Rattle.convert.specs.Cut.{instructions_at, cases_at, places_at, identifiers_at, Shaped, tables_in, text_in}
 use Rattle.convert.specs.Write.{table_text}
 use Rattle.convert.specs.Widen.{doubled, doubled_rows, widened}
 use Rattle.convert.specs.Convert.{old_text}

@@ -15,14 +15,14 @@ use Rattle.table.specs.Promise.{Sized}
 use Rattle.table.proofs.PromiseLaws.{promised}
 use Rattle.table.proofs.RowLaws.{both}
 use Rattle.text.specs.Layout.{layout}
-use Rattle.text.specs.Line.{flat}
+use Rattle.text.specs.Line.{cut, flat}
 use Rattle.text.specs.File.{Tables, Good, words_of, text_of}
 use Rattle.text.specs.Answer.{Accepted}
 use Rattle.text.specs.declared.version.Version.TheVariants.{Old, New}
 use Rattle.text.proofs.ReadingLaws.{accepted_reads}
 use Rattle.text.proofs.PlacedLaws.{placed_fits}
 use Rattle.text.proofs.WriteLaws.{Narrow, narrow_take, narrow_drop}
-use Rattle.convert.specs.Cut.{cut, instructions_at, cases_at, places_at, identifiers_at, end_at, Shaped, tables_in, text_in}
+use Rattle.convert.specs.Cut.{instructions_at, cases_at, places_at, identifiers_at, end_at, Shaped, tables_in, text_in}
 use Rattle.convert.specs.Write.{table_text, unless_refused}
 use Rattle.convert.proofs.TextLaws.{sized_shaped}
 use Rattle.convert.proofs.GoodLaws.{old_narrower, tables_formed, text_good, tables_cut, words_cut, good_shaped, good_is_text, good_narrow, narrow_append, from_cases}

@@ -15,7 +15,7 @@ use Rattle.table.specs.Words.{word, block_count, instruction_count, blocks_begin
 use Rattle.table.specs.Check.{Verdict, accepted, refused, and_then}
 use Rattle.convert.specs.Convert.{ends_agree, spans_verdict}
 use Rattle.convert.specs.Parts.{old_place, moved, apart_at}
-use Rattle.convert.proofs.CutLaws.{rows_counted}
+use Rattle.text.proofs.WriteLaws.{rows_counted}
 
 -- ---- a place of the old form
 

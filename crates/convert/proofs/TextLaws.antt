@@ -10,14 +10,14 @@ use Rattle.table.specs.Check.{accepted, refused, checked}
 use Rattle.table.specs.Promise.{Sized}
 use Rattle.text.specs.Layout.{Layout, Columns, layout, block_columns, instruction_columns}
 use Rattle.text.specs.File.{Tables, text_of}
-use Rattle.text.specs.Line.{lines}
+use Rattle.text.specs.Line.{lines, cut, rows_in}
 use Rattle.text.specs.Placed.{Placing, refusal, placed}
 use Rattle.text.specs.Writer.{written}
 use Rattle.text.specs.declared.version.Version.{Version}
 use Rattle.text.specs.declared.version.Version.TheVariants.{Old, New}
 use Rattle.text.specs.declared.write.Writer.{Writer}
 use Rattle.text.proofs.WriterLaws.{written_append}
-use Rattle.convert.specs.Cut.{cut, rows_in, instructions_at, cases_at, places_at, identifiers_at, end_at, Shaped, tables_in, text_in}
+use Rattle.convert.specs.Cut.{instructions_at, cases_at, places_at, identifiers_at, end_at, Shaped, tables_in, text_in}
 use Rattle.convert.proofs.CutLaws.{rows_taken, rows_between}
 use Rattle.convert.specs.Write.{unless_refused, table_written, table_text}
 

@@ -7,11 +7,12 @@ use native.Mathlib.Nat.{div-eq_of_lt}
 use lib.ListN.{length, get_or, take, drop, length-append, length-drop, get_or-append}
 use lib.Seq.{take_all, drop-drop, drop_at, take_at, length-take-le, get_or-take, get_or-append-add, get_or-append_seam}
 use Rattle.text.specs.Layout.{layout}
-use Rattle.text.specs.Line.{flat}
+use Rattle.text.specs.Line.{cut, flat}
 use Rattle.text.specs.declared.version.Version.TheVariants.{Old, New}
 use borrow.Rule.Slice.PartMut.{put_mid, post_of}
-use Rattle.convert.specs.Cut.{cut, instructions_at, cases_at, places_at, identifiers_at, end_at, Shaped}
-use Rattle.convert.proofs.CutLaws.{rows_open, rows_between}
+use Rattle.convert.specs.Cut.{instructions_at, cases_at, places_at, identifiers_at, end_at, Shaped}
+use Rattle.text.proofs.WriteLaws.{rows_open}
+use Rattle.convert.proofs.CutLaws.{rows_between}
 use Rattle.convert.proofs.GoodLaws.{behind}
 use Rattle.convert.specs.Widen.{doubled, doubled_rows, widened}
 

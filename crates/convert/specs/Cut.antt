@@ -1,16 +1,8 @@
 -- The words of a table cut into rows: the tables whose text `text` defines. The form is an argument, as there.
-use Rattle.std.specs.Prelude.{ℕ, zero, suc, ◌+◌, ◌*◌, ◌/◌, ◌≤◌, ◌≡◌, List, [], ◌∷◌, length, get_or, take, drop}
+use Rattle.std.specs.Prelude.{ℕ, ◌+◌, ◌*◌, ◌≤◌, ◌≡◌, List, length, get_or, take, drop}
 use Rattle.text.specs.Layout.{Layout}
+use Rattle.text.specs.Line.{cut}
 use Rattle.text.specs.File.{Tables, text_of}
-
--- the first `columns` words of each of `count` rows of `stride` words
-unfoldable pub cut : (stride columns count : ℕ) → List ℕ → List (List ℕ)
-cut stride columns zero words = []
-cut stride columns (suc count) words = take columns words ∷ cut stride columns count (drop stride words)
-
--- the first `columns` words of each whole row of `stride` words
-abbrev pub rows_in : (stride columns : ℕ) → List ℕ → List (List ℕ)
-rows_in stride columns words = cut stride columns (length words / stride) words
 
 -- where the tables begin in words of a form, and where the last ends
 module _ (f : Layout) (words : List ℕ) where

@@ -1,9 +1,9 @@
 -- "An old span s becomes from s and to s, so 0 becomes none" (M-112): the last word of a block's and of an instruction's row, twice.
 use Rattle.std.specs.Prelude.{ℕ, ◌-◌, List, [], ◌∷◌, ◌++◌, map, get_or, length, take, drop}
 use Rattle.text.specs.Layout.{layout}
-use Rattle.text.specs.Line.{flat}
+use Rattle.text.specs.Line.{cut, flat}
 use Rattle.text.specs.declared.version.Version.TheVariants.{Old}
-use Rattle.convert.specs.Cut.{cut, instructions_at, cases_at}
+use Rattle.convert.specs.Cut.{instructions_at, cases_at}
 
 unfoldable pub doubled : List ℕ → List ℕ
 doubled row = row ++ (get_or row (length row - 1) 0 ∷ [])

@@ -1,11 +1,11 @@
 // A table's words as lines, table by table.
-ghost use Rattle.std.specs.Prelude.{◌≡◌, ◌++◌, ◌<◌, ◌≤◌, length};
+ghost use Rattle.std.specs.Prelude.{◌≡◌, ◌++◌, ◌≤◌};
 ghost use Rattle.text.specs.Layout.{layout};
-ghost use Rattle.text.specs.Line.{lines};
+ghost use Rattle.text.specs.Line.{lines, rows_in};
 ghost use Rattle.text.specs.Steps.{columns_of};
 ghost use Rattle.text.specs.Writer.{written};
 ghost use Rattle.text.specs.declared.version.Version.TheVariants.{New};
-ghost use Rattle.convert.specs.Cut.{rows_in, text_in};
+ghost use Rattle.convert.specs.Cut.{text_in};
 
 use table::words::{Words, cases_begin, identifiers_begin, instructions_begin, places_begin};
 use text::version::{CASES, Columns, HEAD, IDENTIFIERS, PLACES, Version};
@@ -13,18 +13,11 @@ use text::write::Writer;
 
 // A line of names, then a line for each row of `stride` words. A line has the first words of its row, one for each column.
 pub fn write_part(writer: &mut Writer<'_>, columns: Columns<'_>, rows: &[u32], stride: usize)
-    requires some_words { stride ≡ 0 → length rows.now ≡ 0 }
-    requires columns_le_stride { columns.width ≤ stride }
+    requires { columns.width ≤ stride }
     ensures { writer.new ≡ written writer.old ((columns_of columns.entry).names ++ lines (rows_in stride columns.entry.width rows.now)) }
 {
     writer.bytes(columns.names);
-    // Rows of no words have no lines.
-    if rows.is_empty() {
-        return;
-    }
-    for row in rows.chunks_exact(stride) {
-        writer.line(&row[..columns.width]);
-    }
+    writer.rows(rows, stride, columns.width);
 }
 
 // The six tables in a form: of blocks and instructions the old one has no `to`.

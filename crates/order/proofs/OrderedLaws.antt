@@ -1,9 +1,9 @@
 -- From the rearranged words and their text to what is printed.
-use Prim.Native.Nat.{ℕ, zero, suc, ◌+◌, ◌*◌, ◌≤◌}
+use Prim.Native.Nat.{ℕ, ◌+◌, ◌*◌, ◌≤◌}
 use mathlib.Core.Path.{◌≡◌, ◌∙◌}
 use mathlib.Core.List.{List, []}
 use native.Mathlib.Omega.{arith}
-use lib.ListN.{length, get_or, take, drop, length-append, length-take}
+use lib.ListN.{length, get_or, take, drop, length-append}
 use lib.Seq.{length-take-le}
 use Rattle.table.specs.Check.{accepted, refused, checked}
 use Rattle.table.specs.Answer.{refusal_code}
@@ -14,28 +14,18 @@ use Rattle.table.proofs.PromiseLaws.{promised, promise_checked}
 use Rattle.text.specs.Layout.{Layout, layout}
 use Rattle.text.specs.Answer.{Accepted}
 use Rattle.text.proofs.AnswerLaws.{good_room}
-use Rattle.text.specs.Line.{lines}
 use Rattle.text.specs.Printed.{printed, Written, written_of, lent_of}
 use Rattle.text.specs.Prints.{WrittenText}
 use Rattle.text.specs.declared.version.Version.TheVariants.{New}
-use Rattle.text.proofs.WriteLaws.{Narrow, narrow_words, narrow_take, narrow_drop, line_most, text_fits}
+use Rattle.text.proofs.WriteLaws.{Narrow, narrow_words, narrow_take, narrow_drop, line_most, lines_most, text_fits}
 use Rattle.renaming.specs.Order.{rearranged}
 use Rattle.renaming.proofs.OrderLaws.{rearranged_checked}
-use Rattle.convert.specs.Cut.{cut, instructions_at, cases_at, places_at, identifiers_at, end_at, Shaped, tables_in, text_in}
+use Rattle.convert.specs.Cut.{instructions_at, cases_at, places_at, identifiers_at, end_at, Shaped, tables_in, text_in}
 use Rattle.convert.specs.Write.{table_text}
 use Rattle.convert.proofs.TextLaws.{sized_shaped}
 use Rattle.order.specs.Prints.{unless_refused, ordered_text}
 
 -- ---- how long a text is: at most 11 bytes a word, and 144 for the six lines of names
-
-lines_most : (width count : ℕ) (words : List ℕ) → Narrow words → length (lines (cut width width count words)) ≤ count * width * 11
-unfolding cut lines
-lines_most width zero words n = omega arith
-lines_most width (suc count) words n =
-    let e : suc count * width ≡ width + count * width = omega arith in
-    let l : length (take width words) ≤ width = rw (length-take width words) (omega arith) in
-    let first = line_most (take width words) (narrow_words (take width words) (narrow_take width words n)) in
-    simp length-append (omega (arith, e, l, first, lines_most width count (drop width words) (narrow_drop width words n)))
 
 words_long : (words : List ℕ) → Shaped (layout New) words
     → length words ≡ 6 + get_or words 1 0 * 11 + get_or words 2 0 * 7 + get_or words 3 0 * 2 + get_or words 4 0 + get_or words 5 0
@@ -47,11 +37,11 @@ unfolding text_in tables_in
 text_most words s n =
     let long = words_long words s in
     let head = line_most (take 6 words) (narrow_words (take 6 words) (narrow_take 6 words n)) in
-    let b = lines_most 11 (get_or words 1 0) (drop 6 words) (narrow_drop 6 words n) in
-    let i = lines_most 7 (get_or words 2 0) (drop (instructions_at (layout New) words) words) (narrow_drop (instructions_at (layout New) words) words n) in
-    let c = lines_most 2 (get_or words 3 0) (drop (cases_at (layout New) words) words) (narrow_drop (cases_at (layout New) words) words n) in
-    let p = lines_most 1 (get_or words 4 0) (drop (places_at (layout New) words) words) (narrow_drop (places_at (layout New) words) words n) in
-    let d = lines_most 1 (get_or words 5 0) (drop (identifiers_at (layout New) words) words) (narrow_drop (identifiers_at (layout New) words) words n) in
+    let b = lines_most 11 11 (get_or words 1 0) (drop 6 words) (narrow_drop 6 words n) in
+    let i = lines_most 7 7 (get_or words 2 0) (drop (instructions_at (layout New) words) words) (narrow_drop (instructions_at (layout New) words) words n) in
+    let c = lines_most 2 2 (get_or words 3 0) (drop (cases_at (layout New) words) words) (narrow_drop (cases_at (layout New) words) words n) in
+    let p = lines_most 1 1 (get_or words 4 0) (drop (places_at (layout New) words) words) (narrow_drop (places_at (layout New) words) words n) in
+    let d = lines_most 1 1 (get_or words 5 0) (drop (identifiers_at (layout New) words) words) (narrow_drop (identifiers_at (layout New) words) words n) in
     simp length-append (omega (arith, long, head, length-take-le 6 words s.head, b, i, c, p, d))
 
 -- the writer's answer, and bytes that are enough

@@ -150,7 +150,8 @@ pub struct Scope {
     pub scope: u32,
 }
 
-// Paper 01, "Codes and columns": a variant for each of the 22 codes, in their order. Absent is 0, "no such block". What each stands for: specs/Ending.antt.
+// Paper 01, "Codes and columns": a variant for each of the 22 codes, in their order. Absent is 0, "no such block". What each stands for:
+// specs/Ending.antt.
 #[derive(Clone, Copy)]
 pub enum Terminal {
     Absent,
@@ -197,7 +198,8 @@ fn goto_variant(number: u32) -> GotoVariant
     }
 }
 
-// An arm for each of the 22 codes, in the paper's order, so it is longer than other functions. Inline, so that a caller's match and this one become one.
+// An arm for each of the 22 codes, in the paper's order, so it is longer than other functions. Inline, so that a caller's match and this one
+// become one.
 #[inline]
 #[tactic(auto, unfolding(crate::specs::Table::terminal_of))]
 fn terminal_of(code: u32, a: u32, b: u32, c: u32, d: u32, e: u32) -> Terminal

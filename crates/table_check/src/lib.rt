@@ -63,7 +63,8 @@ pub fn check(words: &[u32]) -> Result<Table<'_>, Refusal>
     Ok(Table { words })
 }
 
-// The check for callers in C or Rust: paper 01's code; its place is left in `at`. It is written out: `tell_code` is in `text`, and this crate depends on `table` alone.
+// The check for callers in C or Rust: paper 01's code; its place is left in `at`. It is written out: `tell_code` is in `text`, and this crate
+// depends on `table` alone.
 pub fn table_check(words: &[u32], at: &mut u32) -> u32
     ensures { (result ≡ code_of (checked words.now)) × (at.new ≡ place_of (checked words.now)) }
 {

@@ -1,11 +1,12 @@
 -- Laws of numbers in decimal.
-use mathlib.Core.Path.{◌≡◌, refl, ap, ◌∙◌}
+use mathlib.Core.Path.{◌≡◌, refl, sym, ap, ◌∙◌}
 use mathlib.Core.Bool.{Bool, true, false}
-use mathlib.Core.List.{List, [], ◌∷◌, ◌++◌}
+use mathlib.Core.List.{List, [], ◌∷◌, ◌++◌, append_assoc}
 use Prim.Native.Nat.{ℕ, zero, suc, ◌+◌, ◌*◌, ◌/◌, ◌%◌, ◌^◌, ◌≤◌, ◌<◌}
 use native.Mathlib.Omega.{arith}
 use lib.Dec.{ltb}
-use lib.ListN.{length, length-append}
+use lib.ListN.{length, drop, set, length-append}
+use Rattle.std.proofs.lemmas.List.{drop-set}
 use borrow.Author.Tests.{ltb-true, ltb-false, lt-ltb, le-ltb}
 use Rattle.text.specs.Decimal.{digits_of, decimal}
 
@@ -43,13 +44,17 @@ decimal_next v d p q =
 
 -- ---- length
 
+-- a number of two digits or more has one more than its tenth
+pub decimal_longer : (n : ℕ) → 10 ≤ n → length (decimal n) ≡ length (decimal (n / 10)) + 1
+decimal_longer n p = ap (λ (l : List ℕ). length l) (decimal_more n p) ∙ length-append (decimal (n / 10)) ((48 + n % 10) ∷ [])
+
 -- a number has a digit
 pub decimal_some : (n : ℕ) → 1 ≤ length (decimal n)
 decimal_some n = some_by (ltb n 10) refl
   where
     some_by : (small : Bool) → ltb n 10 ≡ small → 1 ≤ length (decimal n)
     some_by true e = omega (arith, ap (λ (l : List ℕ). length l) (decimal_small n (ltb-true n 10 e)))
-    some_by false e = omega (arith, ap (λ (l : List ℕ). length l) (decimal_more n (ltb-false n 10 e)) ∙ length-append (decimal (n / 10)) ((48 + n % 10) ∷ []))
+    some_by false e = omega (arith, decimal_longer n (ltb-false n 10 e))
 
 -- numbers below ten times m have at most one digit more than those below m
 Within : ℕ → ℕ → Type 0
@@ -65,11 +70,7 @@ within_more m k q h n p = more_by (ltb n 10) refl
   where
     more_by : (small : Bool) → ltb n 10 ≡ small → length (decimal n) ≤ k + 1
     more_by true e = omega (arith, ap (λ (l : List ℕ). length l) (decimal_small n (ltb-true n 10 e)))
-    more_by false e = omega (
-      arith,
-      ap (λ (l : List ℕ). length l) (decimal_more n (ltb-false n 10 e)) ∙ length-append (decimal (n / 10)) ((48 + n % 10) ∷ []),
-      h (n / 10) (omega arith),
-    )
+    more_by false e = omega (arith, decimal_longer n (ltb-false n 10 e), h (n / 10) (omega arith))
 
 -- a number of 32 bits has at most ten digits
 pub decimal_ten : (n : ℕ) → n < 2 ^ 32 → length (decimal n) ≤ 10
@@ -84,3 +85,15 @@ decimal_ten n p =
     let w₈ = within_more 10000000 7 (omega arith) w₇ in
     let w₉ = within_more 100000000 8 (omega arith) w₈ in
     within_more 1000000000 9 (omega arith) w₉ n (omega arith)
+
+-- ---- digits that are written from the last on: those of n are those of `rest`, and then those behind the place `first`
+
+module _ (n rest : ℕ) (digits : List ℕ) (first : ℕ) (within : first < length digits) (e : decimal n ≡ decimal rest ++ drop (first + 1) digits) where
+  -- one more
+  pub digit_written : 10 ≤ rest → decimal n ≡ decimal (rest / 10) ++ drop first (set digits first (48 + rest % 10))
+  digit_written p =
+      e ∙ rw (decimal_more rest p, drop-set digits first (48 + rest % 10) within) (append_assoc (decimal (rest / 10)) ((48 + rest % 10) ∷ []) (drop (first + 1) digits))
+
+  -- all
+  pub digits_written : rest < 10 → drop first (set digits first (48 + rest)) ≡ decimal n
+  digits_written p = drop-set digits first (48 + rest) within ∙ sym (rw (decimal_small rest p) at e)

@@ -6,14 +6,15 @@ use Rattle.std.specs.Prelude.{Ok}
 use Prim.Native.Nat.{ℕ, zero, suc, ◌+◌, ◌-◌, ◌*◌, ◌/◌, ◌^◌, ◌≤◌, ◌<◌}
 use native.Mathlib.Omega.{arith}
 use native.Mathlib.Numerals.{add-one}
+use native.Mathlib.Nat.{add-div_left, div-eq_of_lt, div-zero}
 use lib.Dec.{eqb}
 use borrow.Author.Tests.{le-leb}
 use lib.ListN.{length, take, drop, get_or, length-append, length-take, length-drop, drop_of_length-le}
-use lib.Seq.{drop-cons, get_or-drop, take-nil}
+use lib.Seq.{drop-cons, get_or-drop, take-nil, take-append-le, drop_at}
 use Rattle.text.specs.Decimal.{decimal}
-use Rattle.text.specs.Line.{after, line, lines}
+use Rattle.text.specs.Line.{after, line, lines, cut, rows_in}
 use Rattle.text.specs.Form.{ending}
-use Rattle.text.specs.Printed.{result_names, tree_names, rows_of, tree_lines, printed, written_of}
+use Rattle.text.specs.Printed.{result_names, tree_names, tree_lines, printed, written_of}
 use Rattle.text.specs.File.{Words}
 use Rattle.text.proofs.DecimalLaws.{decimal_ten}
 use Rattle.text.proofs.FormLaws.{after_ending}
@@ -34,16 +35,26 @@ pub line_done : (ns : List ℕ) (i : ℕ) → length ns ≤ i → line (drop i n
 unfolding line
 line_done ns i p = rw (drop_of_length-le ns p)
 
--- ---- the lines of a tree
+-- ---- the whole rows of words
 
-pub rows_split : (count : ℕ) (words : List ℕ) → lines (rows_of (suc count) words) ≡ line (take 6 words) ++ lines (rows_of count (drop 6 words))
-unfolding rows_of lines
-rows_split count words = refl
+module _ (stride width : ℕ) where
+  -- a row is one more
+  pub rows_counted : (row rest : List ℕ) → 0 < stride → length row ≡ stride → length (row ++ rest) / stride ≡ suc (length rest / stride)
+  rows_counted row rest some long = rw (length-append row rest, long, add-div_left (length rest) some) (omega arith)
 
--- no row is left
-pub tree_done : (words : List ℕ) → length words < 6 → lines (rows_of (length words / 6) words) ≡ []
-unfolding rows_of lines
-tree_done words p = let e : length words / 6 ≡ 0 = omega arith in rw e
+  -- it and those behind it
+  pub rows_open : (row rest : List ℕ) → 0 < stride → width ≤ stride → length row ≡ stride → rows_in stride width (row ++ rest) ≡ take width row ∷ rows_in stride width rest
+  unfolding cut
+  rows_open row rest some fits long = rw (rows_counted row rest some long, take-append-le width row rest (omega (arith, long)), drop_at row rest stride long)
+
+  pub rows_none : (rest : List ℕ) → length rest < stride → rows_in stride width rest ≡ []
+  unfolding cut
+  rows_none rest p = rw (div-eq_of_lt p)
+
+-- of rows of no words there are none
+pub no_rows : (width : ℕ) (words : List ℕ) → rows_in 0 width words ≡ []
+unfolding cut
+no_rows width words = rw (div-zero (length words))
 
 -- ---- the result
 
@@ -59,7 +70,7 @@ printed_refused zero at rows visits tree f = absurd (f refl)
 printed_refused (suc code) at rows visits tree f = rw (append-nil (line (suc code ∷ at ∷ rows ∷ visits ∷ [])))
 
 pub printed_accepted : (code at rows visits : ℕ) (tree : List ℕ) → code ≡ 0
-    → printed code at rows visits tree ≡ result_names ++ (line (code ∷ at ∷ rows ∷ visits ∷ []) ++ (tree_names ++ lines (rows_of (length tree / 6) tree)))
+    → printed code at rows visits tree ≡ result_names ++ (line (code ∷ at ∷ rows ∷ visits ∷ []) ++ (tree_names ++ lines (rows_in 6 6 tree)))
 unfolding printed tree_lines
 printed_accepted zero at rows visits tree e = refl
 printed_accepted (suc code) at rows visits tree e = absurd (omega arith)
@@ -83,19 +94,21 @@ narrow_take (suc n) (w ∷ words) p (suc i) = narrow_take n words (λ k. p (suc 
 pub narrow_drop : (n : ℕ) (words : List ℕ) → Narrow words → Narrow (drop n words)
 narrow_drop n words p i = rw (get_or-drop n words i 0) (p (n + i))
 
-tree_most : (count : ℕ) (words : List ℕ) → Narrow words → length (lines (rows_of count words)) ≤ count * 66
-unfolding rows_of lines
-tree_most zero words p = omega arith
-tree_most (suc count) words p =
-    let l : length (take 6 words) ≤ 6 = rw (length-take 6 words) (omega arith) in
-    simp length-append (omega (arith, line_most (take 6 words) (narrow_words (take 6 words) (narrow_take 6 words p)), tree_most count (drop 6 words) (narrow_drop 6 words p)))
+pub lines_most : (stride width count : ℕ) (words : List ℕ) → Narrow words → length (lines (cut stride width count words)) ≤ count * width * 11
+unfolding cut lines
+lines_most stride width zero words n = omega arith
+lines_most stride width (suc count) words n =
+    let e : suc count * width ≡ width + count * width = omega arith in
+    let l : length (take width words) ≤ width = rw (length-take width words) (omega arith) in
+    let first = line_most (take width words) (narrow_words (take width words) (narrow_take width words n)) in
+    simp length-append (omega (arith, e, l, first, lines_most stride width count (drop stride words) (narrow_drop stride words n)))
 
 -- 77 bytes for the lines of a result, and 66 for each row, are enough
 pub printed_most : (code at rows visits : ℕ) (tree : List ℕ) → Words (code ∷ at ∷ rows ∷ visits ∷ []) → Narrow tree
     → length (printed code at rows visits tree) ≤ 77 + length tree / 6 * 66
 unfolding printed tree_lines
 printed_most zero at rows visits tree p q =
-    simp length-append (omega (arith, line_most (zero ∷ at ∷ rows ∷ visits ∷ []) p, tree_most (length tree / 6) tree q))
+    simp length-append (omega (arith, line_most (zero ∷ at ∷ rows ∷ visits ∷ []) p, lines_most 6 6 (length tree / 6) tree q))
 printed_most (suc code) at rows visits tree p q =
     simp length-append (omega (arith, line_most (suc code ∷ at ∷ rows ∷ visits ∷ []) p))
 

@@ -2,24 +2,24 @@
 use mathlib.Core.Path.{◌≡◌, refl, sym, ap, ◌∙◌}
 use mathlib.Core.Bool.{Bool, true, false}
 use mathlib.Core.List.{List, [], ◌∷◌, ◌++◌, append-nil, append_assoc}
-use Prim.Native.Nat.{ℕ, suc, ◌+◌, ◌/◌, ◌≤◌, ◌<◌}
+use Prim.Native.Nat.{ℕ, ◌+◌, ◌≤◌, ◌<◌}
 use native.Mathlib.Omega.{arith}
 use native.Mathlib.Numerals.{add-one}
 use lib.Dec.{ltb, eqb}
 use lib.ListN.{length, take, drop, get_or, set, length-set, length-append, drop_of_length-le}
 use lib.Seq.{drop-cons, take-suc-set}
-use Rattle.std.proofs.lemmas.List.{take_at, take_all, take-append-le, drop_at}
+use Rattle.std.proofs.lemmas.List.{take_at, take_all, take-append-le}
 use borrow.Author.Tests.{ltb-true, ltb-false, le-leb, lt-leb}
 use Rattle.std.specs.Prelude.{Option, Some, None}
 use Rattle.std.specs.Borrow.{MutBor}
 use Rattle.text.specs.Decimal.{choose, decimal}
-use Rattle.text.specs.Line.{line, lines}
+use Rattle.text.specs.Line.{line, lines, rows_in}
 use Rattle.text.specs.Form.{ending}
-use Rattle.text.specs.Printed.{rows_of, Written, written_of, lent_of}
+use Rattle.text.specs.Printed.{Written, written_of, lent_of}
 use Rattle.text.specs.Prints.{Printing, printing}
 use Rattle.text.specs.Writer.{opened, byte_at, written, closed}
 use Rattle.text.specs.declared.write.Writer.{Writer}
-use Rattle.text.proofs.WriteLaws.{line_open, line_done, rows_split, tree_done}
+use Rattle.text.proofs.WriteLaws.{line_open, line_done, rows_open, rows_none, no_rows}
 
 -- a text, then another
 pub written_append : (w : Writer) (s t : List ℕ) → written w (s ++ t) ≡ written (written w s) t
@@ -52,18 +52,20 @@ pub line_end : (w : Writer) (ns : List ℕ) (i : ℕ) → length ns ≤ i → wr
 unfolding written
 line_end w ns i p = rw (line_done ns i p)
 
--- the lines of a row and of the rest
-pub rows_more : (w : Writer) (row rest : List ℕ) → length row ≡ 6
-    → written w (lines (rows_of (length (row ++ rest) / 6) (row ++ rest))) ≡ written (written w (line row)) (lines (rows_of (length rest / 6) rest))
-rows_more w row rest p =
-    let e : length (row ++ rest) / 6 ≡ suc (length rest / 6) = omega (arith, length-append row rest) in
-    let opened : lines (rows_of (length (row ++ rest) / 6) (row ++ rest)) ≡ line row ++ lines (rows_of (length rest / 6) rest) =
-    rw e (rows_split (length rest / 6) (row ++ rest) ∙ rw (take_at row rest 6 p, drop_at row rest 6 p)) in
-    rw opened (written_append w (line row) (lines (rows_of (length rest / 6) rest)))
+-- the lines of a row and of those behind it
+pub rows_more : (w : Writer) (stride width : ℕ) (row rest : List ℕ) → 0 < stride → width ≤ stride → length row ≡ stride
+    → written w (lines (rows_in stride width (row ++ rest))) ≡ written (written w (line (take width row))) (lines (rows_in stride width rest))
+unfolding lines
+rows_more w stride width row rest some fits long =
+    rw (rows_open stride width row rest some fits long) (written_append w (line (take width row)) (lines (rows_in stride width rest)))
 
-pub rows_end : (w : Writer) (rest : List ℕ) → length rest < 6 → written w (lines (rows_of (length rest / 6) rest)) ≡ w
-unfolding written
-rows_end w rest p = rw (tree_done rest p)
+pub rows_end : (w : Writer) (stride width : ℕ) (rest : List ℕ) → length rest < stride → written w (lines (rows_in stride width rest)) ≡ w
+unfolding lines written
+rows_end w stride width rest p = rw (rows_none stride width rest p)
+
+pub rows_absent : (w : Writer) (stride width : ℕ) (words : List ℕ) → stride ≡ 0 → written w (lines (rows_in stride width words)) ≡ w
+unfolding lines written
+rows_absent w stride width words e = rw (e, no_rows width words)
 
 -- ---- the end
 
@@ -115,10 +117,10 @@ unfolding written
 long_kept w [] = refl
 long_kept w (byte ∷ text) = long_kept (byte_at w.end w byte) text ∙ long_byte w.end w byte
 
-closed_has : (text : List ℕ) (w : Writer) → Has text w → closed w.end w.out.now ≡ printing (length w.out.now) text
+closed_has : (text : List ℕ) (w : Writer) → Has text w → closed w ≡ printing (length w.out.now) text
 unfolding closed written_of lent_of
-closed_has text w (fits e p t) = rw (e, closed, le-leb (length text) (length w.out.now) p, t)
-closed_has text w (full e p _) = rw (e, closed, lt-leb (length text) (length w.out.now) p)
+closed_has text w (fits e p t) = rw (closed, e, le-leb (length text) (length w.out.now) p, t)
+closed_has text w (full e p _) = rw (closed, e, lt-leb (length text) (length w.out.now) p)
 
 -- the lent bytes hold the first part of a text that did not fit, until `finish` clears them
 pub begun : (b : MutBor (List ℕ)) (text : List ℕ) → length b.now < length text → take (length b.now) (written (opened b) text).out.now ≡ take (length b.now) text
@@ -135,7 +137,7 @@ begun b text p = by (has_more [] text (opened b) (has_none b))
     by (full e q t) = take_all (length b.now) w.out.now (omega (arith, long)) ∙ t ∙ rw long refl
 
 -- what is told and left in the end is that of the text
-pub closed_written : (b : MutBor (List ℕ)) (text : List ℕ) → closed (written (opened b) text).end (written (opened b) text).out.now ≡ printing (length b.now) text
+pub closed_written : (b : MutBor (List ℕ)) (text : List ℕ) → closed (written (opened b) text) ≡ printing (length b.now) text
 closed_written b text = rw (← (long_kept (opened b) text)) (closed_has text (written (opened b) text) (has_more [] text (opened b) (has_none b)))
 
 -- the same lent bytes
@@ -159,11 +161,11 @@ same_reference b text e = rw e (name_kept (opened b) text)
 
 -- what is told at the end of a text, and what it leaves in the lent bytes
 module _ (b : MutBor (List ℕ)) (text : List ℕ) (answer : Written) (bytes : List ℕ) {w : Writer} (e : w ≡ written (opened b) text) where
-  told : record { answer = answer; bytes = bytes } ≡ closed w.end w.out.now → record { answer = answer; bytes = bytes } ≡ printing (length b.now) text
+  told : record { answer = answer; bytes = bytes } ≡ closed w → record { answer = answer; bytes = bytes } ≡ printing (length b.now) text
   told t = t ∙ (rw e (closed_written b text))
 
-  pub told_answer : record { answer = answer; bytes = bytes } ≡ closed w.end w.out.now → answer ≡ written_of (length b.now) text
+  pub told_answer : record { answer = answer; bytes = bytes } ≡ closed w → answer ≡ written_of (length b.now) text
   told_answer t = ap (λ (p : Printing). p.answer) (told t)
 
-  pub told_bytes : record { answer = answer; bytes = bytes } ≡ closed w.end w.out.now → bytes ≡ lent_of (length b.now) text
+  pub told_bytes : record { answer = answer; bytes = bytes } ≡ closed w → bytes ≡ lent_of (length b.now) text
   told_bytes t = ap (λ (p : Printing). p.bytes) (told t)

@@ -1,8 +1,8 @@
 -- What is printed of a result (paper 01, "Samples").
-use Rattle.std.specs.Prelude.{List, [], ◌∷◌, ◌++◌, ℕ, zero, suc, ◌/◌, leb, length, take, drop, replicate, Result, Ok, Err}
+use Rattle.std.specs.Prelude.{List, [], ◌∷◌, ◌++◌, ℕ, zero, suc, leb, length, replicate, Result, Ok, Err}
 use Rattle.text.specs.Ascii.{ascii}
 use Rattle.text.specs.Decimal.{choose}
-use Rattle.text.specs.Line.{line, lines}
+use Rattle.text.specs.Line.{line, lines, rows_in}
 use Rattle.text.specs.Lent.{padded}
 use Rattle.text.specs.declared.write.NoRoom.{NoRoom}
 
@@ -12,14 +12,9 @@ result_names = ascii "code at rows visits\n"
 abbrev pub tree_names : List ℕ
 tree_names = ascii "op a b c d e\n"
 
--- the first `count` rows of six words
-unfoldable pub rows_of : ℕ → List ℕ → List (List ℕ)
-rows_of zero words = []
-rows_of (suc count) words = take 6 words ∷ rows_of count (drop 6 words)
-
 -- the lines of a tree, if the code says accepted: its names, then a line for each whole row
 unfoldable pub tree_lines : ℕ → List ℕ → List ℕ
-tree_lines zero tree = tree_names ++ lines (rows_of (length tree / 6) tree)
+tree_lines zero tree = tree_names ++ lines (rows_in 6 6 tree)
 tree_lines (suc code) tree = []
 
 unfoldable pub printed : ℕ → ℕ → ℕ → ℕ → List ℕ → List ℕ

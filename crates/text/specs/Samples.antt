@@ -3,11 +3,11 @@ use Rattle.std.specs.Prelude.{◌≡◌, refl, List, [], ◌∷◌, ℕ}
 use Rattle.std.proofs.Common.{arith}
 use Rattle.text.specs.Ascii.{ascii}
 use Rattle.text.specs.Decimal.{digits_of, decimal}
-use Rattle.text.specs.Line.{line, lines, flat}
+use Rattle.text.specs.Line.{line, lines, cut, flat}
 use Rattle.text.specs.Layout.{layout}
 use Rattle.text.specs.File.{Tables, Formed, Good}
 use Rattle.text.specs.declared.version.Version.TheVariants.{Old, New}
-use Rattle.text.specs.Printed.{rows_of, tree_lines, printed}
+use Rattle.text.specs.Printed.{tree_lines, printed}
 
 smallest : decimal 0 ≡ ascii "0"
 unfolding decimal digits_of
@@ -64,7 +64,7 @@ unfolding sample line lines flat decimal digits_of
 old_sample_good = record { tables = sample (0 ∷ []); formed = old_sample_formed; text = refl; word = refl }
 
 pub sample_printed : printed 0 0 2 1 (22 ∷ 0 ∷ 7 ∷ 0 ∷ 0 ∷ 0 ∷ 9 ∷ 1 ∷ 0 ∷ 0 ∷ 0 ∷ 0 ∷ []) ≡ ascii "code at rows visits\n0 0 2 1\nop a b c d e\n22 0 7 0 0 0\n9 1 0 0 0 0\n"
-unfolding printed tree_lines rows_of line lines decimal digits_of
+unfolding printed tree_lines cut line lines decimal digits_of
 sample_printed = refl
 
 -- a refusal has two lines

@@ -24,9 +24,12 @@ written w [] = w
 written w (byte ∷ text) = written (byte_at w.end w byte) text
 
 -- the answer, and what the lent bytes hold in the end: what was written and zeros; zeros alone, if it did not fit
-unfoldable pub closed : (end : Option ℕ) → (bytes : List ℕ) → Printing
-closed None bytes = record { answer = no_room; bytes = replicate (length bytes) 0 }
-closed (Some end) bytes =
-    choose (leb end (length bytes))
-    (λ _. record { answer = Ok end; bytes = take end bytes ++ replicate (length bytes - end) 0 })
-    (λ _. record { answer = no_room; bytes = replicate (length bytes) 0 })
+unfoldable pub closed : Writer → Printing
+closed w =
+    elim w.end [
+      | None ↦ record { answer = no_room; bytes = replicate (length w.out.now) 0 }
+      | Some end ↦
+          choose (leb end (length w.out.now))
+          (λ _. record { answer = Ok end; bytes = take end w.out.now ++ replicate (length w.out.now - end) 0 })
+          (λ _. record { answer = no_room; bytes = replicate (length w.out.now) 0 })
+    ]

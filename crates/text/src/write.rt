@@ -1,7 +1,7 @@
 // A text, and a result's lines, into lent bytes.
-ghost use Rattle.std.specs.Prelude.{◌≡◌, ◌+◌, ◌*◌, ◌/◌, length};
+ghost use Rattle.std.specs.Prelude.{◌≡◌, ◌+◌, ◌*◌, ◌/◌, ◌≤◌, length};
 ghost use Rattle.text.specs.Decimal.{decimal};
-ghost use Rattle.text.specs.Line.{line};
+ghost use Rattle.text.specs.Line.{line, lines, rows_in};
 ghost use Rattle.text.specs.Printed.{printed};
 ghost use Rattle.text.specs.Prints.{WrittenText};
 ghost use Rattle.text.specs.Writer.{opened, byte_at, written, closed};
@@ -56,14 +56,20 @@ impl<'a> Writer<'a> {
         }
     }
 
-    // A number in decimal.
+    // A number in decimal: its digits from the last on, then all at once. (A call for each digit costs the largest drawing a third more time.)
     pub fn number(&mut self, n: u32)
         ensures { self.new ≡ written self.old (decimal n) }
     {
-        if n >= 10 {
-            self.number(n / 10);
+        let mut digits = [b'0'; 10];
+        let mut first = 9;
+        let mut rest = n;
+        while rest >= 10 {
+            digits[first] = b'0' + (rest % 10) as u8;
+            first -= 1;
+            rest /= 10;
         }
-        self.byte(b'0' + (n % 10) as u8);
+        digits[first] = b'0' + rest as u8;
+        self.bytes(&digits[first..]);
     }
 
     // A line of numbers.
@@ -76,9 +82,22 @@ impl<'a> Writer<'a> {
         }
     }
 
+    // A line for each whole row of `stride` words: its first `width`. Rows of no words have no lines.
+    pub fn rows(&mut self, words: &[u32], stride: usize, width: usize)
+        requires { width ≤ stride }
+        ensures { self.new ≡ written self.old (lines (rows_in stride width words.now)) }
+    {
+        if stride == 0 {
+            return;
+        }
+        for row in words.chunks_exact(stride) {
+            self.line(&row[..width]);
+        }
+    }
+
     // Ends the text with zeros; or there are zeros alone, if it did not fit.
     pub fn finish(self) -> Result<usize, NoRoom>
-        ensures { record { answer = result; bytes = self.exit.0.now } ≡ closed self.entry.end self.entry.out.now }
+        ensures { record { answer = result; bytes = self.exit.0.now } ≡ closed self.entry }
     {
         let Writer { out, end } = self;
         match end {
@@ -110,9 +129,7 @@ fn write_result(writer: &mut Writer<'_>, numbers: Numbers, tree: &[u32])
         return;
     }
     writer.bytes(b"op a b c d e\n");
-    for row in tree.chunks_exact(6) {
-        writer.line(row);
-    }
+    writer.rows(tree, 6, 6);
 }
 
 // Writes a result: its numbers, and if the code says accepted a line for each whole row of six words of the tree. The lent bytes hold the

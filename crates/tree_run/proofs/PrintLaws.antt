@@ -5,17 +5,16 @@ use native.Mathlib.Omega.{arith}
 use mathlib.Core.List.{List, [], ◌∷◌, ◌++◌}
 use mathlib.Core.Option.{Option, none, some}
 use mathlib.Core.Bool.{Bool, true, false}
-use lib.ListN.{length, get_or, take, drop, length-append, length-take}
+use lib.ListN.{length, get_or, length-append}
 use lib.Dec.{leb}
-use Rattle.text.specs.Line.{line, lines}
+use Rattle.text.specs.Line.{line}
 use Rattle.text.specs.File.{Words}
 use Rattle.text.specs.Printed.{Written, written_of, lent_of}
 use Rattle.text.specs.Writer.{written}
 use Rattle.text.specs.declared.write.Writer.{Writer}
 use Rattle.text.proofs.PrintsLaws.{AsPrinted, as_printed}
-use Rattle.text.proofs.WriteLaws.{Narrow, narrow_words, narrow_take, narrow_drop, line_most, text_fits}
+use Rattle.text.proofs.WriteLaws.{Narrow, line_most, lines_most, text_fits}
 use Rattle.text.proofs.WriterLaws.{written_append}
-use Rattle.convert.specs.Cut.{cut}
 use Rattle.definition.specs.Tree.{Statements, rows}
 use Rattle.definition.specs.Run.{Answers, Reason, returned, threw, no_answer_left, not_plain, no_target, end_of_tree, no_such_case, Run, unfinished, stopped}
 use Rattle.definition.specs.TreeRun.{tree_run}
@@ -136,16 +135,9 @@ no_code (file.Refused (NoRoom at)) z = omega arith
 
 -- ---- room
 
-lines_most : (count : ℕ) (words : List ℕ) → Narrow words → length (lines (cut 1 1 count words)) ≤ count * 11
-unfolding cut lines
-lines_most zero words p = omega arith
-lines_most (suc count) words p =
-    let l : length (take 1 words) ≤ 1 = rw (length-take 1 words) (omega arith) in
-    simp length-append (omega (arith, line_most (take 1 words) (narrow_words (take 1 words) (narrow_take 1 words p)), lines_most count (drop 1 words) (narrow_drop 1 words p)))
-
 performed_most : (code number : ℕ) (buffer : List ℕ) → Narrow buffer → length (performed_lines code number buffer) ≤ 12 + number * 11
 unfolding performed_lines
-performed_most zero number buffer p = simp length-append (omega (arith, lines_most number buffer p))
+performed_most zero number buffer p = simp length-append (omega (arith, lines_most 1 1 number buffer p))
 performed_most (suc code) number buffer p = omega arith
 
 pub printed_most : (o : Outcome) → Words (o.code ∷ o.at ∷ o.number ∷ o.reason ∷ []) → Narrow o.buffer → o.number ≤ 65536 → length (printed_run o) ≤ most_printed

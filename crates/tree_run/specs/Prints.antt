@@ -1,8 +1,7 @@
 -- What treerun prints of a file: `code at number reason` and the four numbers; of a run then `instruction` and the rows performed, one a line.
 use Rattle.std.specs.Prelude.{◌≡◌, ℕ, zero, suc, ◌≤◌, List, [], ◌∷◌, ◌++◌, length, Result, Ok, Err}
 use Rattle.text.specs.Ascii.{ascii}
-use Rattle.text.specs.Line.{line, lines}
-use Rattle.convert.specs.Cut.{cut}
+use Rattle.text.specs.Line.{line, lines, cut}
 use Rattle.tree_runs.specs.Ran.{Outcome}
 use Rattle.tree_run.specs.declared.Run.{Run}
 use Rattle.tree_run.specs.declared.RunError.{RunError}

@@ -2,10 +2,9 @@
 use Rattle.std.specs.Prelude.{◌≡◌, refl, [], ◌∷◌}
 use Rattle.text.specs.Ascii.{ascii}
 use Rattle.text.specs.Decimal.{digits_of, decimal}
-use Rattle.text.specs.Line.{line, lines}
+use Rattle.text.specs.Line.{line, lines, cut}
 use Rattle.text.specs.Reading.{is_digit, may_follow}
 use Rattle.tree_check.specs.Scan.{first_digit, in_number, stepped, scanned, alike, table_words}
-use Rattle.convert.specs.Cut.{cut}
 use Rattle.tree_runs.specs.Ran.{refusal}
 use Rattle.tree_run.specs.Given.{stopped, read, answers_from, file_given}
 use Rattle.tree_run.specs.Prints.{performed_lines, printed_run}

@@ -4,7 +4,7 @@ use native.Mathlib.Nat.{div-eq_of_lt}
 use lib.Seq.{take_all, take-suc-set}
 use borrow.Rule.Slice.PartMut.{mid_of, put_mid, same_len_mid}
 use Rattle.std.proofs.lemmas.Slice.{take-put_mid}
-use Rattle.convert.proofs.CutLaws.{rows_counted}
+use Rattle.text.proofs.WriteLaws.{rows_counted}
 use Rattle.convert.proofs.WidenLaws.{doubled_more, doubled_end_of_rows}
 use Rattle.convert.proofs.widen.widen_rows.Invariants.{Run}
 use Rattle.convert.proofs.widen.widen_rows.Goals as goal

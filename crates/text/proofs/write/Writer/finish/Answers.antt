@@ -12,12 +12,12 @@ unfolding closed
 returns c =
     elim c.match-end.branch [
       | in-Some w ↦
-          rw (w.in-Some.is, closed, le-leb _ _ w.if-end-out.true, w.result-is, w.out-is)
+          rw (closed, w.in-Some.is, le-leb _ _ w.if-end-out.true, w.result-is, w.out-is)
           (ap (λ (bytes : List ℕ). record { answer = Ok w.in-Some.end; bytes = bytes }) (grind (arith, common_steps)))
       | in_default w ↦
           let zeros = ap (λ (bytes : List ℕ). record { answer = no_room; bytes = bytes }) (grind (arith, common_steps)) in
           elim w.in_default.branch [
-            | in_default-via-in-Some+else-end-out u ↦ rw (u.in-Some.is, closed, lt-leb _ _ u.if-end-out.false, w.result-is, w.out-is) zeros
-            | in_default-via-in_default u ↦ rw (u.in_default.is, closed, w.result-is, w.out-is) zeros
+            | in_default-via-in-Some+else-end-out u ↦ rw (closed, u.in-Some.is, lt-leb _ _ u.if-end-out.false, w.result-is, w.out-is) zeros
+            | in_default-via-in_default u ↦ rw (closed, u.in_default.is, w.result-is, w.out-is) zeros
           ]
     ]
