@@ -105,7 +105,7 @@ fn main() {
             let expected = text(1 - form, &changed(form, &words(&file)));
             assert!(room[..length] == *expected.as_bytes());
             let plain = least(|| text(1 - form, &changed(form, &words(&file))));
-            println!("| {name}, {} bytes with spans {span}, {length} bytes written | {proved:.0} | {plain:.0} | {:.2} |", file.len(), proved / plain);
+            println!("| {name}, spans {span} | {proved:.0} | {plain:.0} | {:.2} |", proved / plain);
         }
     }
     let table = words(&file(1, 65_535));
@@ -114,5 +114,5 @@ fn main() {
     assert_eq!(run(), 0);
     let proved = least(&mut run);
     let plain = least(|| text(1, &table));
-    println!("| the writer, {} words, {length} bytes written | {proved:.0} | {plain:.0} | {:.2} |", table.len(), proved / plain);
+    println!("| the writer, {} words | {proved:.0} | {plain:.0} | {:.2} |", table.len(), proved / plain);
 }

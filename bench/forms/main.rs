@@ -1,4 +1,4 @@
-//! What each form of the code costs: the build's crates as plain Rust (bench/forms/strip), as they are and with one form after another removed,
+//! What each form of the code costs: the build's crates as plain Rust (bench/forms/make), as they are and with one form after another removed,
 //! against (a+) of bench/build. Every one must give the answers, the rows and the lines of (a+) before it is timed; then they take turns.
 
 #[path = "../build/src/clock.rs"]
@@ -108,66 +108,31 @@ fn main() {
     }
     let times: Vec<Vec<Times>> = cases.iter().map(|(_, case)| measure(&programs, case)).collect();
     let titles = cases.iter().map(|(title, _)| *title).collect::<Vec<_>>().join(" | ");
-    let row = |form: usize, cell: &dyn Fn(&Times, &Times) -> String| {
-        let cells = times.iter().map(|of_case| cell(&of_case[form], &of_case[0])).collect::<Vec<_>>().join(" | ");
-        println!("| {} | {cells} |", programs[form].name);
+    let head = |what: &str| println!("| {what} | {titles} |\n|---|{}", "---|".repeat(cases.len()));
+    let row = |name: &str, cell: &dyn Fn(usize) -> String| {
+        let cells = (0..cases.len()).map(cell).collect::<Vec<_>>().join(" | ");
+        println!("| {name} | {cells} |");
     };
-    let rule = format!("|---|{}", "---|".repeat(cases.len()));
-    println!("| build, µs (times (a+)) | {titles} |\n{rule}");
-    row(0, &|own, _| micros(own.build));
-    for form in 1..programs.len() {
-        row(form, &|own, tuned| format!("{} ({:.2})", micros(own.build), ratio(own.build, tuned.build)));
-    }
-    println!("\n| language entry, times the first; preview, times the build | {titles} |\n{rule}");
-    for form in (1..programs.len()).filter(|form| ENTRIES.contains(&programs[*form].name)) {
-        row(form, &|own, _| format!("{:.2}; {:.2}", ratio(own.language, own.build), ratio(own.preview, own.build)));
+    head("build, times (a+)");
+    row("(a+), µs", &|case| format!("{:.1}", times[case][0].build.as_secs_f64() * 1e6));
+    row("our goal, at most", &|case| BUILD_GOALS[case].to_string());
+    for (form, program) in programs.iter().enumerate().skip(1) {
+        row(program.name, &|case| format!("{:.2}", ratio(times[case][form].build, times[case][0].build)));
     }
     println!();
-    missed(&programs, &cases, &times);
-}
-
-/// A goal: what is measured, on which table, the most that it may be, and the form without which it is less.
-type Goal = (&'static str, fn(&Times, &Times) -> f64, usize, f64, &'static str);
-
-const ARCHIVE: &str = "the proved archive";
-const AS_IT_IS: &str = "the code, as plain Rust";
-const COPIES: &str = "no copy: the set is lent to a step";
-const COPIES_AND_SEARCH: &str = "no copy, and the search asks once";
-const COMPILED_TWICE: &str = "the walk is compiled twice, for the build and for the preview";
-const OWN_WALK: &str = "the preview has a walk of its own, with counts of the entries in place of the search";
-const ALL: &str = "all of these, with the set lent";
-
-/// Those whose language entry and preview are shown.
-const ENTRIES: [&str; 6] = [ARCHIVE, AS_IT_IS, COPIES, COMPILED_TWICE, OWN_WALK, ALL];
-
-fn goals() -> Vec<Goal> {
-    let build = [(4.0, COPIES), (4.0, COPIES), (3.0, COPIES), (1.2, COPIES_AND_SEARCH), (3.0, COPIES), (2.0, COPIES), (2.0, COPIES)];
-    let to_tuned: fn(&Times, &Times) -> f64 = |own, tuned| ratio(own.build, tuned.build);
-    let to_first: fn(&Times, &Times) -> f64 = |own, _| ratio(own.language, own.build);
-    let to_build: fn(&Times, &Times) -> f64 = |own, _| ratio(own.preview, own.build);
-    let builds = build.into_iter().enumerate().map(|(case, (most, form))| ("build, times (a+)", to_tuned, case, most, form));
-    let languages = (0..build.len()).map(|case| ("language entry, times the first", to_first, case, 1.1, COPIES));
-    let previews = (0..build.len()).map(|case| ("preview, times the build", to_build, case, 0.95, OWN_WALK));
-    builds.chain(languages).chain(previews).collect()
-}
-
-/// The goals that the code misses (the archive where it is linked), with the figures of plain Rust with the form and without it.
-fn missed(programs: &[Form], cases: &[(&str, Case)], times: &[Vec<Times>]) {
-    println!("| goal missed | at most | the archive | plain Rust, with the form | plain Rust, without it | without it is |\n|---|---|---|---|---|---|");
-    let place = |name: &str| programs.iter().position(|program| program.name == name).expect("the form");
-    for (what, figure, case, most, form) in goals() {
-        let of = |program: usize| (figure(&times[case][program], &times[case][0]) * 100.0).round() / 100.0;
-        if of(1) > most {
-            let archive = proved().map_or(String::new(), |_| format!("{:.2}", of(1)));
-            let (with, without) = (of(place(AS_IT_IS)), of(place(form)));
-            println!("| {what}: {} | {most} | {archive} | {with:.2} | {without:.2} | {form} |", cases[case].0);
-        }
+    head("preview, times the build; our goal: at most 0.95");
+    for (form, program) in programs.iter().enumerate().filter(|(_, program)| PREVIEWS.contains(&program.name)) {
+        row(program.name, &|case| format!("{:.2}", ratio(times[case][form].preview, times[case][form].build)));
     }
 }
 
-fn micros(time: Duration) -> String {
-    format!("{:.1}", time.as_secs_f64() * 1e6)
-}
+/// Ours, by table.
+const BUILD_GOALS: [f64; 7] = [4.0, 4.0, 3.0, 1.2, 3.0, 2.0, 2.0];
+
+const ARCHIVE: &str = "the proved archive";
+
+/// Those whose preview is shown.
+const PREVIEWS: [&str; 3] = [ARCHIVE, "plain Rust, as it is", "own walk for the preview"];
 
 fn ratio(time: Duration, to: Duration) -> f64 {
     time.as_secs_f64() / to.as_secs_f64()
@@ -230,7 +195,6 @@ fn compare(programs: &[Form], case: &Case) {
 #[derive(Clone, Copy)]
 struct Times {
     build: Duration,
-    language: Duration,
     preview: Duration,
 }
 
@@ -242,15 +206,11 @@ fn measure(programs: &[Form], case: &Case) -> Vec<Times> {
     tree.truncate(6 * told.rows as usize);
     index.truncate(3 * told.lines as usize);
     let calls = (200_000 / words.len()).clamp(20, 2_000) as u32;
-    let longest = Times { build: Duration::MAX, language: Duration::MAX, preview: Duration::MAX };
+    let longest = Times { build: Duration::MAX, preview: Duration::MAX };
     let mut least = vec![longest; programs.len()];
     for _ in 0..ROUNDS {
         for (least, program) in least.iter_mut().zip(programs) {
-            let mut of_build = |build: Build| clock::time(calls, || black_box(build(black_box(words), &mut tree, &mut index)).code);
-            least.build = least.build.min(of_build(program.build));
-            if let Some(language) = program.language {
-                least.language = least.language.min(of_build(language));
-            }
+            least.build = least.build.min(clock::time(calls, || black_box((program.build)(black_box(words), &mut tree, &mut index)).code));
             if let Some(preview) = program.preview {
                 least.preview = least.preview.min(clock::time(calls, || black_box(preview(black_box(words))).code));
             }

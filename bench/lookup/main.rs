@@ -50,7 +50,7 @@ fn main() {
     let tree = vec![0; LINES as usize * 6];
     println!("| Label in | proved, ns | plain Rust, ns | times |");
     println!("|---|---|---|---|");
-    for (name, label) in [("the last of 2,048 lines", LINES), ("the middle one", LINES / 2), ("none of them", 0), ("the first", 1)] {
+    for (name, label) in [("the last of 2,048 lines", LINES), ("none of them", 0), ("the first", 1)] {
         assert_eq!(proved(&index, LINES, label, &tree), plain(&index, LINES, label, &tree), "{name}");
         let (ours, theirs) = (nanoseconds(proved, &index, label, &tree), nanoseconds(plain, &index, label, &tree));
         println!("| {name} | {ours:.1} | {theirs:.1} | {:.2} |", ours / theirs);

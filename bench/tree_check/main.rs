@@ -166,8 +166,7 @@ fn main() {
         assert_eq!(plain(tree), (0, 0), "{name}");
         assert_eq!(proved(tree), (0, 0), "{name}");
         let (ours, theirs) = (nanoseconds(proved, tree), nanoseconds(plain, tree));
-        println!("| {name}, {} rows | {:.1} | {:.1} | {:.2} |", tree.len() / 6, ours / 1000.0, theirs / 1000.0, ours / theirs);
+        println!("| {name} | {:.1} | {:.1} | {:.2} |", ours / 1000.0, theirs / 1000.0, ours / theirs);
     }
     assert!(lists().iter().all(|(_, tree)| fits_in(32 * 1024, tree)));
-    println!("Stack of a thread: 32 KB are enough for each");
 }

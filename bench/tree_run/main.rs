@@ -333,7 +333,7 @@ fn least(times: usize, mut run: impl FnMut()) -> f64 {
 }
 
 fn measure() {
-    println!("| Run | rows performed | proved, ns a row | plain Rust, ns a row | times |\n|---|---|---|---|---|");
+    println!("| Run | proved, ns a row | plain Rust, ns a row | times |\n|---|---|---|---|");
     let mut buffer = vec![0; 4_000_000];
     let mut other = vec![0; 4_000_000];
     for (name, tree, answers) in tables() {
@@ -348,7 +348,7 @@ fn measure() {
             black_box(plain(black_box(&tree), black_box(&answers), &mut other[..lent]));
         });
         let each = |time: f64| time * 1e9 / lent as f64;
-        println!("| {name} | {lent} | {:.1} | {:.1} | {:.2} |", each(ours), each(theirs), ours / theirs);
+        println!("| {name} | {:.1} | {:.1} | {:.2} |", each(ours), each(theirs), ours / theirs);
     }
 }
 
@@ -386,6 +386,7 @@ fn main() {
     // the plain runner goes down by recursion
     if words.len() == 1 {
         std::thread::Builder::new().stack_size(256 << 20).spawn(measure).unwrap().join().unwrap();
+        return;
     }
-    println!("Stack of a thread: {} KB for the one row 9 0 0 0 0 0, {} KB for 1,020 LABELs in one another", stack("one"), stack("labels"));
+    println!("Stack of a thread that runs a tree: {} KB for one row, {} KB for 1,020 nested LABELs", stack("one"), stack("labels"));
 }

@@ -147,7 +147,7 @@ fn shapes() -> Vec<Shape> {
 }
 
 pub fn print() {
-    println!("Stack of a thread at depth 128, by statements: {} KB", least("statements") / 1_024);
+    println!("  by statements: {} KB", least("statements") / 1_024);
     let mut number = 0;
     let (mut most, mut worst) = (0, None);
     let mut look = |shape: Shape, alone: bool| {
@@ -174,5 +174,6 @@ pub fn print() {
         }
     }
     let worst = worst.expect("there are shapes").name();
-    println!("Stack of a thread at depth 128, by values, the worst of {number} shapes: {} KB ({worst})", most / 1_024);
+    println!("  the worst: {worst}");
+    println!("Stack of a thread that builds: {} KB, the most of {number} shapes at depth 128", most / 1_024);
 }

@@ -46,8 +46,8 @@ impl Table {
         }
         words.extend(self.cases.as_flattened());
         words.extend([0, 1]);
-        let name = format!("{name}, {rows} blocks, {} instructions each", self.instructions);
-        Case { name, words }
+        let instructions = if self.instructions == 0 { String::new() } else { format!(", {} instructions a block", self.instructions) };
+        Case { name: format!("{name}{instructions}"), words }
     }
 }
 
@@ -62,7 +62,7 @@ pub fn fallthroughs(blocks: u32, instructions: u32) -> Case {
         next = table.add(5, &[0, consequent, alternate, next]);
     }
     table.entry = next;
-    table.case("run of fallthroughs")
+    table.case(&if blocks == 1_000 { "long run".to_string() } else { format!("long run, {blocks} blocks") })
 }
 
 /// Statements in one another, 100 deep, and five such nests one after the other; before them a nest of the nine blocks that are left of 1,000.
@@ -80,7 +80,7 @@ pub fn nests(instructions: u32) -> Case {
         next = inner;
     }
     table.entry = next;
-    table.case("nests 100 deep")
+    table.case("nests")
 }
 
 /// While loops in one another: three nests 100 deep, and one of the blocks that are left of 1,000.
@@ -104,7 +104,7 @@ pub fn loops(instructions: u32) -> Case {
         set_loop(&mut table, test, head, out);
     }
     table.entry = next;
-    table.case("while loops 100 deep")
+    table.case("while loops")
 }
 
 fn set_loop(table: &mut Table, test: u32, head: u32, body: u32) {
@@ -138,7 +138,7 @@ pub fn lowered(blocks: u32) -> Case {
         accepted.then_some(words)
     });
     let words = words.expect("one of them is accepted");
-    Case { name: format!("lowered program, {} blocks", words[1]), words }
+    Case { name: format!("lowered, {} blocks", words[1]), words }
 }
 
 /// Depth 128, by Labels.

@@ -1,5 +1,5 @@
 // Runs word lists through the check and compares code and place with those stored beside each list.
-// A line of the input: code, place, then the words as pairs of a value and how often it stands there. README: how the lists were made.
+// A line of the input: code, place, then the words as pairs of a value and how often it stands there. LISTS.md says how the lists were made.
 #![tactic(auto)]
 
 use program::read_part;

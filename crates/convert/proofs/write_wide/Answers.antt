@@ -1,3 +1,5 @@
+-- `write_wide` gives `of_wide`. The check accepts (`wide_accepted`), and the text does not fit (53) or is written; or the check refuses (`wide_refused`).
+-- The refusal's place is told in the old form; `wide_bound` has the two bounds that `in_old_form` asks for.
 use Rattle.std.proofs.Common.{refl}
 use Rattle.std.proofs.lemmas.Result.{err_from_is_err_and}
 use Rattle.text.specs.Placed.{cleared, refusal}

@@ -1,3 +1,5 @@
+-- `draw` gives `drawn`. Three ends, a law of DrawnLaws for each: the check refuses, the text does not fit (44), or it is written.
+-- WriterLaws says what `finish` answers and which bytes it leaves (`told_answer`, `told_bytes`).
 use Rattle.std.proofs.Common.{rules, ◌≡◌, refl, ◌∙◌}
 use Rattle.std.proofs.lemmas.Result.{err_from_is_err_and}
 use Rattle.text.proofs.WriterLaws.{same_reference, told_answer, told_bytes}

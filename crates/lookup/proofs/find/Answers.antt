@@ -1,3 +1,5 @@
+-- `find` gives `found`: 42 where no line has the label (`no_line`), else what the line that was found gives (`line_found`).
+-- That line is whole (`line_whole`), as `part_at` asks.
 use Rattle.std.proofs.Common.{◌∙◌}
 use Rattle.std.proofs.lemmas.Result.{err_from_is_err_and}
 use Rattle.lookup.proofs.LoopLaws.{line_whole, line_found, no_line}

@@ -1,3 +1,5 @@
+-- `first_with` gives the definition's first line with the label. The law of std's `find` over a range says that no line before the answer has it, and `sought`
+-- makes the definition's search of that. `read_least`: the lesser of the two counts is the number of lines that may be read.
 use Rattle.std.proofs.Common.{rules, ap, ◌∙◌}
 use Rattle.std.proofs.lemmas.Iterator.{first_from_Range}
 use borrow.Author.Tests.{tests}

@@ -1,3 +1,4 @@
+-- `lookup` gives the words of the part that `find` names (`part_found_lem`). It is within the tree buffer (`found_within`), and so are the slice's bounds.
 use Rattle.std.proofs.Common.{rules}
 use Rattle.lookup.proofs.Answers.{found_within, part_found_lem}
 use Rattle.lookup.proofs.lookup.Goals as goal

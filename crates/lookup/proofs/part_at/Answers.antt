@@ -1,3 +1,5 @@
+-- `part_at` gives `part_of` the line's two rows: 43 where the closing row is before the first (`first_after`) or beyond the tree's whole rows
+-- (`closing_beyond`), else the words from the one to the other (`part_in`).
 use Rattle.std.proofs.Common.{sym}
 use Rattle.lookup.proofs.Answers.{first_after, closing_beyond, part_in}
 use Rattle.lookup.proofs.part_at.Goals as goal

@@ -1,3 +1,5 @@
+-- `try_rearrange` gives `rearrangement`. Three ends: the check refuses, the words or the list lent have a wrong length (45), or both are filled.
+-- renaming's Operations has a law for the refusal, for either length and for what is filled; `promised` makes the table's promise of the check's verdict.
 use mathlib.Core.Path.{sym, ◌∙◌}
 use Rattle.std.proofs.lemmas.Result.{err_from_is_err_and}
 use Rattle.table.proofs.PromiseLaws.{promised}

@@ -1,3 +1,5 @@
+-- `try_restore` gives `restoration`. Four ends, a law of renaming's Operations for each: the check refuses, the words lent have a wrong length (45), the list
+-- is no permutation (46), or the words are filled. EntryLaws has what `new_numbers`, the slice and `write_table` ask of a permutation.
 use native.Mathlib.Omega.{arith}
 use mathlib.Core.Path.{refl, sym, ◌∙◌}
 use lib.Seq.{length-take-le}

@@ -1,3 +1,5 @@
+-- `write_rearranged` writes `rearranged` (`is_rearranged`). The list is the walking order, a permutation of the blocks (`order_is`): of such a list EntryLaws
+-- has what `new_numbers`, the slice and `write_table` ask.
 use Rattle.std.proofs.Common.{sym, ◌∙◌}
 use lib.Seq.{length-take-le}
 use Rattle.order.proofs.EntryLaws.{own_blocks, few_blocks, few_numbers, order_is, order_permutes, numbering_new, is_rearranged}

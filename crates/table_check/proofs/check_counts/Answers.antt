@@ -1,3 +1,5 @@
+-- `check_counts` gives `counts_verdict`. A count over its limit is the refusal (`count_over`), and one within it leaves the verdict to those after it
+-- (`count_within`); after five none is left.
 use mathlib.Core.Path.{◌≡◌, sym, ◌∙◌}
 use native.Mathlib.Omega.{arith}
 use Rattle.table.specs.Check.{limits, counts_verdict}

@@ -1,3 +1,5 @@
+-- `read_rows` gives `read_from`. A row out of range (`row_out`, 60) or without its parts (`row_missing`, 61) is refused; any other keeps the invariant
+-- (`row_on`). After the last row the answer is whether one root is left (`rows_read`).
 use Rattle.std.proofs.Common.{ap, not}
 use Rattle.std.proofs.lemmas.Result.{err_from_is_err_and}
 use borrow.Author.Tests.{not-true, not-false}

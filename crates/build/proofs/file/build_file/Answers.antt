@@ -1,3 +1,5 @@
+-- `build_file` prints `built_text` of the file: `build_words` prints words that were read, and `write_refusal` says why a file is refused.
+-- PrintsLaws makes the file's text of what each of the two wrote (`words_printed`, `error_printed`).
 use Rattle.std.proofs.Common.{refl, sym, length, ◌≤◌, arith}
 use lib.Seq.{length-take-le}
 use Rattle.text.proofs.PrintsLaws.{words_within, error_some, written_as, words_printed, error_printed}

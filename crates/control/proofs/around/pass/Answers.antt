@@ -1,3 +1,4 @@
+-- `pass` gives the survey that the definition's `pass` gives: for each sort of statement SurveyLaws has a law that makes it of what the arm returns.
 use Rattle.control.specs.AroundAbstraction.{survey_of}
 use Rattle.control.proofs.SurveyLaws.{past_loop, past_switch, past_another, past_scope}
 use Rattle.control.proofs.around.pass.Goals as goal

@@ -1,3 +1,5 @@
+-- `apart_in` gives the place of the first span whose two ends differ, or none. A row whose ends agree leaves the answer to the rows behind it (`row_agrees`);
+-- a row whose ends differ has the answer (`row_apart`); where no row is left, there is none (`rows_agree`).
 use Rattle.std.proofs.Common.{refl, sym, ◌∙◌, arith}
 use Rattle.std.proofs.lemmas.List.{length-append}
 use Rattle.convert.proofs.SpanLaws.{row_agrees, row_apart, rows_agree}

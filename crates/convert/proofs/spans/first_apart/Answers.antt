@@ -1,3 +1,5 @@
+-- `first_apart` gives `spans_verdict`: the place among the blocks, if there is one (`spans_blocks`), else what the instructions give (`spans_instructions`).
+-- `agree_between` says that each slice has the rows that the definition reads in the words.
 use Rattle.std.proofs.Common.{◌∙◌, arith}
 use Rattle.table.specs.Words.{instruction_count}
 use Rattle.convert.proofs.SpanLaws.{agree_between, spans_blocks, spans_instructions}

@@ -1,3 +1,5 @@
+-- `draw_file` prints `drawn_text` of the file: `draw_words` prints words that were read, and `write_refusal` says why a file is refused.
+-- PrintsLaws makes the file's text of what each of the two wrote (`words_printed`, `error_printed`).
 use Rattle.std.proofs.Common.{sym, arith}
 use lib.Seq.{length-take-le}
 use Rattle.text.proofs.PrintsLaws.{words_within, error_some, words_printed, error_printed}

@@ -1,3 +1,5 @@
+-- `write_row` writes a line for each block that the row names: a step of the first loop names one case more (`cases_next`), a step of the second one block more
+-- (`present_next`). `names_more` puts each line behind those written, and at the end the second loop's lines behind the first's.
 use Rattle.std.proofs.Common.{◌≡◌, length, arith}
 use lib.Seq.{take_all}
 use Rattle.text.specs.Writer.{written}

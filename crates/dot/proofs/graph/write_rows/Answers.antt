@@ -1,3 +1,5 @@
+-- `write_rows` writes the lines of all rows. A step takes the lines of its row from those that are left to those that are written (`rows_more`);
+-- after the last row none is left (`rows_done`).
 use Rattle.std.proofs.Common.{refl, sym, ◌∙◌}
 use native.Mathlib.Nat.{sub-zero}
 use Rattle.table.proofs.TableLaws.{length_blocks}

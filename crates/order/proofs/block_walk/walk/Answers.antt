@@ -1,3 +1,5 @@
+-- `walk` leaves the queue of `walk_from`: the entry is named (`walked_first`), a step names the blocks of one place more (`walked_next`), and at the end no
+-- place is left (`walked_all`). The queue has at most as many blocks as the table (`walked_few`), so that the measure falls.
 use native.Mathlib.Omega.{arith}
 use Rattle.order.proofs.WalkLaws.{walked_first, walked_few, walked_block, walked_next, walked_all, names_below}
 use Rattle.order.proofs.block_walk.walk.Goals as goal

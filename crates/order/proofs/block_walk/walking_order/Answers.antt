@@ -1,3 +1,5 @@
+-- `walking_order` fills the list with the definition's order: behind those of the walk the loop names the blocks from 0 on (`row_named`, `in_order`).
+-- The order is as long as the table has blocks (`order_long`), and so is the list, as `copy_to` asks.
 use native.Mathlib.Omega.{arith}
 use mathlib.Core.Path.{◌≡◌, refl, sym, ap, ◌∙◌}
 use Rattle.std.proofs.Common.{length}

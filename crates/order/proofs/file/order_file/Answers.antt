@@ -1,3 +1,5 @@
+-- `order_file` prints `order_text` of the file: `order_words` prints words that were read, and `write_refusal` says why a file is refused. PrintsLaws makes the
+-- file's text of what each of the two wrote. A file has at most 16,384 words (`words_few`), as `order_words` asks.
 use Rattle.std.proofs.Common.{refl, sym, arith}
 use lib.Seq.{length-take-le}
 use Rattle.text.proofs.PrintsLaws.{words_within, words_read, error_some, written_as, words_printed, error_printed}

@@ -1,3 +1,5 @@
+-- `order_table` writes the text of the rearranged table, and 180,368 bytes are enough for it, since its words are few and each has 32 bits (`table_printed`).
+-- WriterLaws says what `finish` answers and which bytes it leaves (`told_answer`, `told_bytes`).
 use Rattle.std.proofs.Common.{rules, arith, ◌≡◌, ◌≤◌, ◌∙◌, length}
 use lib.ListN.{length-take}
 use Rattle.text.proofs.WriteLaws.{Narrow}

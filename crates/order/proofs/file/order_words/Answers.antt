@@ -1,3 +1,5 @@
+-- `order_words` writes `ordered_text`: the rearranged table's text where the check accepts (`accepted_printed`), else its refusal (`refused_printed`).
+-- A refusal's code is not 0 (`refused_some`), as `write_refusal` asks.
 use Rattle.std.proofs.Common.{refl, arith}
 use Rattle.text.proofs.PrintsLaws.{written_as}
 use Rattle.order.proofs.OrderedLaws.{accepted_printed, refused_printed, refused_some}

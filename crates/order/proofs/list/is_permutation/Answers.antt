@@ -1,3 +1,5 @@
+-- `is_permutation` answers as the definition does. ListLaws has a law for each answer: the list has a wrong length, a word is no block, a block stands twice,
+-- or every word has passed. Each step sets the flag of one block more (`stands_first`).
 use Rattle.order.proofs.QueueLaws.{queued_none}
 use Rattle.order.proofs.ListLaws.{wrong_length, no_block, stands_twice, stands_first, stands_once}
 use Rattle.order.proofs.list.is_permutation.Goals as goal

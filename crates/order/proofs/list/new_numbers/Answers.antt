@@ -1,3 +1,5 @@
+-- `new_numbers` gives each block of the list its place there. A step numbers one block more (`numbered_next`), and at the end all have their numbers
+-- (`numbered_all`). A permutation's blocks are below 1,024 (`block_small`), and so is the index.
 use Rattle.order.proofs.ListLaws.{block_small, numbered_none, numbered_next, numbered_all}
 use Rattle.order.proofs.list.new_numbers.Goals as goal
 

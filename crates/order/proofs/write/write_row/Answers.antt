@@ -1,3 +1,5 @@
+-- `write_row` writes the old block's row with the blocks that it names renamed. A step puts one column, renamed where the terminal's code names a block there
+-- (`row_put`); after eleven columns the row is whole (`row_whole`).
 use Rattle.std.proofs.Common.{sym, ap, ◌∙◌, arith, length-set}
 use Rattle.table.specs.Table.{code_of}
 use Rattle.table.proofs.BlockLaws.{code_at_lem}

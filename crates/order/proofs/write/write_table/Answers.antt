@@ -1,3 +1,5 @@
+-- `write_table` writes `renumbered`: the copy with the new entry, block rows and case rows is that table (`table_renumbered`).
+-- Both slices end within the words (`sizes`), whose number no write changes.
 use Rattle.std.proofs.Common.{◌-◌, set, arith, length-set}
 use borrow.Rule.Slice.PartMut.{same_len_mid}
 use Rattle.order.proofs.WriteLaws.{sizes, table_renumbered}

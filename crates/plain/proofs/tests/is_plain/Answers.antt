@@ -1,3 +1,5 @@
+-- `is_plain` answers the definition's test, for every width that `plain_code` answers for. The entry is asked first (`entered`); where it is no Branch,
+-- `every_block` asks every block.
 use Rattle.std.proofs.Common.{rules, ◌∙◌}
 use Rattle.table.specs.Table.{table_of}
 use Rattle.definition.specs.PlainTest.{block_test, every_of}

@@ -1,3 +1,5 @@
+-- `size_file` prints `sized_text` of the file: `size_words` prints the size of words that were read, and `write_size` the code and the place of a refused file.
+-- PrintsLaws makes the file's text of what each of the two wrote (`words_printed`, `error_printed`).
 use Rattle.std.proofs.Common.{sym, arith}
 use lib.Seq.{length-take-le}
 use Rattle.text.proofs.PrintsLaws.{words_within, words_printed, error_printed}

@@ -1,3 +1,5 @@
+-- `write_size` writes `size_text`, and 81 bytes are enough, since each of the five numbers has 32 bits (`size_written`).
+-- WriterLaws says what `finish` answers and which bytes it leaves (`told_answer`, `told_bytes`).
 use Rattle.std.proofs.Common.{rules, ◌≡◌, ◌∙◌}
 use Rattle.text.proofs.WriterLaws.{written_append, same_reference, told_answer, told_bytes}
 use Rattle.preview.specs.Prints.{size_text}

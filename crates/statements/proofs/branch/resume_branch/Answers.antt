@@ -1,3 +1,5 @@
+-- `resume_branch` plans the machine's step where a list of a Branch has ended. After the second part the statement closes (`branch_second`); after the first
+-- the alternate follows, or refusal 19 where it is scheduled (`branch_alternate`).
 use Rattle.statements.specs.declared.refusal.Refusal.TheVariants.{BranchAlternateScheduled}
 use Rattle.statements.proofs.ResumeLaws.{closing_of, resumed_closed, resumed_seen, resumed_alternate, branch_second, branch_alternate, branch_alternate_below}
 use Rattle.statements.proofs.branch.resume_branch.Goals as goal

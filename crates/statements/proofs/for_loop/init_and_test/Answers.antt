@@ -1,3 +1,5 @@
+-- `init_and_test` makes a For's init, flattened, and then its test. A refused init is the answer (`init_refused`); else the test, made after the init, gives it
+-- (`tested_made_lem`). `second_spent` adds up the rows and visits of the two.
 use Rattle.statements.proofs.LoopLaws.{init_refused, tested_made_lem, second_spent}
 use Rattle.values.proofs.MetLaws.{handed_on}
 use Rattle.statements.proofs.for_loop.init_and_test.Goals as goal

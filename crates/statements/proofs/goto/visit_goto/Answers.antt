@@ -1,3 +1,5 @@
+-- `visit_goto` plans the machine's turn of a Goto. A Break's or Continue's plan is what its jump gave, refused or not (`goto_break`, `goto_continue`);
+-- a Try has no row (`goto_try`). A jump gives at most one statement (`jump_count`), as `after_jump` asks.
 use mathlib.Core.Path.{ap}
 use Rattle.std.specs.Prelude.{Ok}
 use Rattle.table.specs.Columns.{goto_variant}

@@ -1,3 +1,5 @@
+-- `resume_if` plans the machine's step where a list of an If has ended. The statement closes after the alternate (`if_second`) or where it has none
+-- (`if_without`); else the alternate follows, or refusal 13 where it is scheduled (`if_alternate`).
 use Rattle.statements.specs.declared.refusal.Refusal.TheVariants.{AlternateScheduled}
 use Rattle.statements.proofs.ResumeLaws.{closing_of, resumed_closed, resumed_seen, resumed_alternate, if_second, if_without, if_alternate, if_alternate_below}
 use Rattle.statements.proofs.if_else.resume_if.Goals as goal

@@ -1,3 +1,5 @@
+-- `visit_if` plans the machine's turn of an If: refusal 10 where the fallthrough is missing (`if_missing`), else what `enclose` plans (`if_nested`).
+-- A label is the fallthrough, and so at most 65,535 (`reached_most`), as `enclose` asks.
 use native.Mathlib.Omega.{arith}
 use Rattle.values.proofs.MetLaws.{handed_on}
 use Rattle.statements.proofs.PlannedLaws.{reached_most}

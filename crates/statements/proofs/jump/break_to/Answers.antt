@@ -1,3 +1,5 @@
+-- `break_to` gives `break_outcome`, a law of JumpLaws for each end. At a scope's end an Implicit break has no row, and another is refused (22);
+-- elsewhere a break is refused where its label is not found (29), else it has its BREAK row.
 use Rattle.statements.proofs.JumpLaws.{break_scope, break_out_lem, break_unnamed_lem, break_row}
 use Rattle.std.specs.Prelude.{Err}
 use mathlib.Core.Path.{refl, sym, ap, ◌∙◌}

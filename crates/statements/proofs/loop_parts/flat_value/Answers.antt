@@ -1,3 +1,5 @@
+-- `flat_value` makes one more value of a loop, flattened. The value walk's refusal is the answer (`more_refused`); else `more_found` says that the buffer holds
+-- the flattened value, which has at most three rows more.
 use Rattle.statements.proofs.LoopLaws.{more_refused, more_found}
 use Rattle.statements.specs.Loops.{flat_form}
 use Rattle.values.proofs.MetLaws.{handed_on}

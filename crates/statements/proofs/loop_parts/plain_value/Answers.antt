@@ -1,3 +1,4 @@
+-- `plain_value` makes one more value of a loop as the value walk gives it: its refusal is the answer (`more_refused`), else its rows are (`more_found`).
 use Rattle.statements.proofs.LoopLaws.{more_refused, more_found}
 use Rattle.statements.specs.Loops.{plain_form}
 use Rattle.values.proofs.MetLaws.{handed_on}

@@ -1,3 +1,5 @@
+-- `resume` plans the machine's turn where a list has ended: its BLOCK row, and then the end of the build at the root (`ended_root`), else what
+-- `resume_statement` plans (`ended_nested`). `resuming` is what the struct `Resume` promises.
 use mathlib.Core.Path.{refl}
 use native.Mathlib.Omega.{arith}
 use Rattle.statements.proofs.ResumeLaws.{resuming, ended_root, ended_nested}

@@ -1,3 +1,5 @@
+-- `visit_scope` plans the machine's turn of a Scope or PrunedScope: what `enclose` plans of its block, refused or not, gives that turn (`scope_nested`).
+-- A label is the fallthrough, and so at most 65,535 (`takes_most`), as `enclose` asks.
 use Rattle.std.specs.Prelude.{Ok}
 use native.Mathlib.Omega.{arith}
 use mathlib.Core.Path.{ap}

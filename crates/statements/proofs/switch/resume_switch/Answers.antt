@@ -1,3 +1,5 @@
+-- `resume_switch` plans the machine's step where a case is built: its CASE row, and the choice of the next case with this one scheduled (`case_built_lem`).
+-- The case is a row of the table (`case_there`), and its block is below 1,024 (`case_below`).
 use native.Mathlib.Omega.{arith}
 use Rattle.statements.proofs.ResumeLaws.{case_there, case_below, case_built_lem}
 use borrow.Author.Rules.{rules}

@@ -1,3 +1,5 @@
+-- `visit_switch` plans the machine's turn of a Switch: refusal 10 where the fallthrough is missing (`switch_missing`), else the choice of its last case
+-- (`switch_begins`). A label is the fallthrough, and so at most 65,535 (`reached_most`), as `schedule_switch` asks.
 use native.Mathlib.Omega.{arith}
 use Rattle.values.proofs.MetLaws.{handed_on}
 use Rattle.statements.proofs.PlannedLaws.{reached_most}

@@ -1,3 +1,5 @@
+-- `resume_try` plans the machine's step where a list of a Try has ended: after the handler the statement closes (`try_second`), after the block the handler
+-- follows (`try_handler`).
 use Rattle.statements.proofs.ResumeLaws.{closing_of, resumed_closed, try_second, try_handler}
 use Rattle.statements.proofs.try_catch.resume_try.Goals as goal
 

@@ -1,3 +1,5 @@
+-- `visit_try` plans the machine's turn of a Try: refusal 10 where the fallthrough is missing (`try_missing`), else its block, with the handler noted
+-- (`try_nested`). A label is the fallthrough, and so at most 65,535 (`reached_most`), as `schedule_if` asks.
 use native.Mathlib.Omega.{arith}
 use Rattle.values.proofs.MetLaws.{handed_on}
 use Rattle.statements.proofs.PlannedLaws.{reached_most}

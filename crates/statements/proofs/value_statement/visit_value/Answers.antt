@@ -1,3 +1,5 @@
+-- `visit_value` plans the machine's turn of a value terminal, which schedules it as a statement (`value_scheduled`). The fallthrough is below 1,024
+-- (`fallthrough_few`), as `unless_scheduled` asks; a label is the fallthrough, and so at most 65,535 (`takes_most`), as `schedule_if` asks.
 use Rattle.statements.proofs.LoopLaws.{fallthrough_few, value_scheduled}
 use Rattle.statements.proofs.PlannedLaws.{takes_most}
 use Rattle.statements.proofs.value_statement.visit_value.Goals as goal

@@ -1,3 +1,5 @@
+-- `check_blocks` gives the verdict on the rows of blocks: `check_rows` gives it for any rules, and `block_row` finds what the blocks' rules find.
+-- A bad column is one of the row's (`bad_less`), which has 11 (`block_width`).
 use native.Mathlib.Omega.{arith}
 use borrow.Author.Rules.{rules}
 use Rattle.table.specs.Words.{block_word, blocks_begin}

@@ -1,3 +1,5 @@
+-- `check_cases` gives the verdict on the rows of cases: `check_rows` gives it for any rules, and `case_row` finds what the cases' rules find.
+-- A bad column is one of the row's (`bad_less`), which has 2 (`case_width`).
 use native.Mathlib.Omega.{arith}
 use borrow.Author.Rules.{rules}
 use Rattle.table.specs.Words.{case_word}

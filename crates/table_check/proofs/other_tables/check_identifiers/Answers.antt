@@ -1,3 +1,5 @@
+-- `check_identifiers` gives the verdict on the identifiers: `check_rows` gives it for any rules, and `identifier_row` finds what the identifiers' rule finds.
+-- A row is one word, so that its word is the same with a column and without (`one_word`).
 use mathlib.Core.Path.{◌≡◌, ◌∙◌}
 use native.Mathlib.Omega.{arith}
 use borrow.Author.Rules.{rules}

@@ -1,3 +1,5 @@
+-- `check_instructions` gives the verdict on the rows of instructions: `check_rows` gives it for any rules, and `instruction_row` finds what theirs find.
+-- A bad column is one of the row's (`bad_less`), which has 7 (`instruction_width`).
 use native.Mathlib.Omega.{arith}
 use borrow.Author.Rules.{rules}
 use Rattle.table.specs.Words.{instruction_word}

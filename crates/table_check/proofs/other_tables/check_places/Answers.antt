@@ -1,3 +1,5 @@
+-- `check_places` gives the verdict on the places: `check_rows` gives it for any rules, and `place_row` finds what the places' rule finds.
+-- A row is one word, so that its word is the same with a column and without (`one_word`).
 use mathlib.Core.Path.{◌≡◌, ◌∙◌}
 use native.Mathlib.Omega.{arith}
 use borrow.Author.Rules.{rules}

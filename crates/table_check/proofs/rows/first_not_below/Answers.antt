@@ -1,3 +1,5 @@
+-- `first_not_below` gives the first column whose word is not below its limit (`is_not_below`). A word that is below leaves the answer to the columns after it
+-- (`is_below`); after the last limit there is none (`all_below`).
 use mathlib.Core.Path.{sym, ◌∙◌}
 use Rattle.table_check.proofs.RowLaws.{is_below, is_not_below, all_below}
 use Rattle.table_check.proofs.rows.first_not_below.Goals as goal

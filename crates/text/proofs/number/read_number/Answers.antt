@@ -1,3 +1,5 @@
+-- `read_number` gives a number and the byte after its end, or the byte that no good file could have there: each return is a law of StepLaws, for a byte or for
+-- the file's end. NumberLaws says which bytes `digit_of` and `extended_by` take; a digit more keeps the invariant (`digit_taken`).
 use Rattle.std.proofs.Common.{◌≡◌, length, slice_index, Some, None, sym, ◌∙◌, arith}
 use Rattle.std.proofs.lemmas.Result.{err_from_is_err_and}
 use Rattle.text.specs.Steps.{digit_of, extended_by}

@@ -1,3 +1,5 @@
+-- `read_head` reads the line of names and the head's row. A stop in the names is the file's (`head_stops`), and so is one in the row, which begins where the
+-- names end (`head_named`); else the head ends where its row does (`head_row`).
 use Rattle.std.proofs.Common.{arith, ap}
 use Rattle.std.specs.Borrow.{Bor}
 use Rattle.std.proofs.lemmas.Result.{err_from_is_err_and}

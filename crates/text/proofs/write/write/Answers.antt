@@ -1,3 +1,5 @@
+-- `write` gives `WrittenText` of the result's text: what `write_result` wrote is what `finish` closes (`same_reference`). WriterLaws has the answer and
+-- the bytes, and `written_fits` says how many bytes are enough.
 use Rattle.std.proofs.Common.{rules, ◌≡◌, ◌∙◌, arith}
 use Rattle.text.proofs.WriteLaws.{Narrow, written_fits}
 use Rattle.text.proofs.WriterLaws.{same_reference, told_answer, told_bytes}

@@ -1,3 +1,5 @@
+-- `check_rows` gives `file_checked`. Five ends: the file is too long (51), it is not in the form (50), it has more words than were lent (62), the tree's check
+-- refuses, or it accepts. FileLaws has a law for each of the first three, and `words_checked` for the last two.
 use Rattle.std.proofs.lemmas.Result.{err_from_is_err_and}
 use Rattle.tree_check.proofs.FileLaws.{file_long, file_refused, file_read, no_part, part_held, too_many_words, words_checked}
 use Rattle.tree_check.proofs.file.check_rows.Goals as goal

@@ -1,3 +1,5 @@
+-- `read_table` reads the words behind the line of names. A byte that is scanned keeps the invariant, with a word stored (`scan_keeps`) or without (`scan_on`).
+-- Other names, a bad byte and a last line that is not whole are refused at their place; else the words are read (`scan_ends`).
 use Rattle.std.proofs.Common.{rules}
 use Rattle.std.proofs.lemmas.Result.{err_from_is_err_and}
 use Rattle.tree_check.proofs.FileLaws.{names_end, names_refused, scanning_start, scan_refused, scan_on, scan_keeps, cut_short, scan_ends}

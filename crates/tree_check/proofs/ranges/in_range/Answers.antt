@@ -1,3 +1,5 @@
+-- `in_range` answers the definition's `in_range` of the row: false where the op is none (`no_op`) or a column is not below its limit (`one_told`), else whether
+-- the last word is 0 (`all_told`).
 use Rattle.tree_check.proofs.RangeLaws.{no_op, all_told, one_told}
 use Rattle.tree_check.proofs.ranges.in_range.Goals as goal
 

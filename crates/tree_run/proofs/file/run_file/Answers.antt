@@ -1,3 +1,5 @@
+-- `run_file` prints `run_text` of the file (`run_printed`); WriterLaws says what `finish` answers and which bytes it leaves.
+-- A run tells at most as many rows as the buffer has words (`number_within`), as `write_lines` asks.
 use Rattle.std.proofs.Common.{rules, ◌≡◌, sym, ◌∙◌, arith}
 use Rattle.text.proofs.WriterLaws.{same_reference, told_answer, told_bytes}
 use Rattle.tree_run.proofs.PrintLaws.{number_within, run_printed}

@@ -1,3 +1,5 @@
+-- `write_lines` writes `printed_run` of the outcome: a run's line and the rows performed, or a refusal's line alone (`lines_written`, `refused_lines`).
+-- That is at most `most_printed` bytes, since each number has 32 bits and at most 65,536 rows are performed (`printed_most`).
 use Rattle.std.proofs.Common.{◌≡◌, ◌*◌, ◌≤◌, length, [], ◌∷◌, arith}
 use Rattle.std.specs.Prelude.{Ok, Err}
 use Rattle.text.specs.File.{Words}

@@ -1,3 +1,5 @@
+-- `link_rows` links every row, by LinkLaws: a step of the inner loop links one part more (`parts_more`), a step of the outer loop ends with all parts of its
+-- row linked (`row_done`), and after the last row all rows are (`rows_linked`).
 use Rattle.std.proofs.Common.{rules}
 use Rattle.tree_run.proofs.LinkLaws.{cursor_falls, rows_start, parts_start, parts_more, row_done, rows_linked}
 use Rattle.tree_run.proofs.links.link_rows.Goals as goal

@@ -1,3 +1,5 @@
+-- `after_instruction` goes on from an INSTR as the machine does. In a BLOCK that is one turn further: out of the BLOCK after its last statement (`block_ends`),
+-- else into the next one (`block_goes_on`). The first return, out of the INSTR, needs no answer.
 use Rattle.std.proofs.Common.{refl, sym, ap, ◌∙◌}
 use Rattle.std.specs.Prelude as code
 use Rattle.std.specs.Prelude.{ℕ}

@@ -1,3 +1,5 @@
+-- `chosen` goes where the definition's `chosen_by` does. The two answers are for a SWITCH: into the case of that number (`case_there`), or out of the SWITCH
+-- where it has no such case (`case_beyond`). The other arms need no answer.
 use Rattle.std.proofs.Common.{refl, []}
 use Rattle.tree_run.specs.Abstraction.{links_in, chosen_by}
 use Rattle.tree_run.proofs.AnswerLaws.{case_there, case_beyond}

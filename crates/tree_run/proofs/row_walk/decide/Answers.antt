@@ -1,3 +1,4 @@
+-- `decide` gives what the machine's step does at a place where the walk does not end: `down` at an Enter (`decide_down`), `up` at a Leave (`decide_up`).
 use Rattle.tree_run.specs.Abstraction.{links_in}
 use Rattle.tree_run.proofs.TurnLaws.{not_ended, decide_down, decide_up}
 use Rattle.tree_run.proofs.row_walk.decide.Goals as goal

@@ -1,3 +1,5 @@
+-- `walk` ends as the machine does from the root on. Each return is a law of WalkLaws: the machine halts here (`walk_end`), or a row finds no room in the buffer
+-- (`instr_full`, `walk_full`). `handed_back` says that the buffer is the caller's.
 use Rattle.std.proofs.Common.{rules, refl, sym, ap, ◌∙◌}
 use Rattle.tree_run.specs.Abstraction.{links_in, completion_of, place_of}
 use Rattle.tree_run.proofs.PerformLaws.{err_same}

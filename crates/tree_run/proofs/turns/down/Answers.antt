@@ -1,3 +1,5 @@
+-- `down` gives the machine's act at a row. Only the last arm needs an answer: a row whose op is none of the fifteen named (`OtherDown`) is left as one that is
+-- not run (`down_other`).
 use Rattle.std.proofs.Common.{arith, sym}
 use Rattle.tree_run.specs.Abstraction.{links_in}
 use Rattle.tree_run.proofs.TurnLaws.{OtherDown, down_other}

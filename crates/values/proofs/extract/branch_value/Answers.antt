@@ -1,3 +1,5 @@
+-- `branch_value` meets `branch_outcome`. Where the block has no instruction the value is a LOAD of the test, one row (`branch_none`, `one_row`);
+-- else it is what its instructions give (`branch_some`).
 use Rattle.values.proofs.MetLaws.{one_row}
 use Rattle.values.proofs.ExtractLaws.{branch_some, branch_none, load_ends}
 use Rattle.values.specs.Stack.{push_value}

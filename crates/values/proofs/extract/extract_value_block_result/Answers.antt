@@ -1,3 +1,5 @@
+-- The value of the instructions is made in the definition's three steps (`extract_many`): the rows of all but the last, the value of the last, and the sequence
+-- over both. `met_wrap` puts the contracts of the three together.
 use Rattle.values.proofs.MetLaws.{met_wrap}
 use Rattle.values.proofs.ExtractLaws.{extract_many}
 use Rattle.definition.specs.Result.{◌>>=◌}

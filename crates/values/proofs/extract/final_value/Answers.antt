@@ -1,3 +1,5 @@
+-- `final_value` meets `run_outcome` of one instruction. A store to an identifier with no name gives a LOAD of what is stored (`extract_load`), any other
+-- instruction a PLAIN (`extract_plain`); each is one row more (`one_row`).
 use Rattle.values.proofs.MetLaws.{one_row}
 use Rattle.values.proofs.ExtractLaws.{extract_load, extract_plain, load_ends}
 use Rattle.values.specs.Stack.{push_value}

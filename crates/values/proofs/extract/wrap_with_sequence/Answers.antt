@@ -1,3 +1,4 @@
+-- `wrap_with_sequence` over at least one instruction puts one SEQ row, and the rows below it stay (`row_kept`). Over none it needs no answer.
 use Rattle.values.proofs.MetLaws.{row_kept}
 use native.Mathlib.Omega.{arith}
 use mathlib.Core.Path.{refl}

@@ -1,3 +1,5 @@
+-- `put_instructions` puts a PLAIN and an INSTR for each instruction. A step pushes the two rows of one instruction more (`push_next_row`), and the buffer holds
+-- each above what it held (`written_held`).
 use Rattle.values.proofs.RowLaws.{written_held}
 use Rattle.values.proofs.StackLaws.{push_next_row}
 use Rattle.values.specs.Stack.{push_instruction_rows}

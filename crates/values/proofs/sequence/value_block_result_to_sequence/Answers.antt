@@ -1,3 +1,5 @@
+-- The buffer ends with the flattened value's rows (FlattenLaws): the closing SEQ rows are taken back (`holds_open`), and the value too where it loads the
+-- result's identifier (`holds_load`, `flatten_same`); else the value becomes an instruction (`flatten_other`).
 use Rattle.values.proofs.FlattenLaws.{leading, holds_open, holds_load, flatten_same, flatten_other}
 use Rattle.values.proofs.RowLaws.{written_held}
 use Rattle.definition.specs.Value.{innermost_value}

@@ -1,3 +1,5 @@
+-- `name_row` names the blocks that the row names: one loop names those of its cases, the other the rest. `named_then` puts a name behind those before it, and
+-- at the end the second loop's names behind the first's. Each block is below 1,024 (`below_at`, `below_more`), as `name_if` asks.
 use native.Mathlib.Omega.{arith}
 use mathlib.Core.Path.{◌≡◌, refl}
 use mathlib.Core.List.{[], ◌∷◌}

@@ -1,3 +1,5 @@
+-- `differ` answers `different` of the cases' blocks: std's law of `all` over a range asks of each row that no later case has its block (`block_chosen`),
+-- and `differ_rows` says that this is the definition.
 use Rattle.std.proofs.Common.{◌∙◌, ◌+◌, ◌-◌, refl, arith, rules, not}
 use Rattle.std.proofs.lemmas.Iterator.{YieldsList-from_range}
 use Rattle.std.proofs.lemmas.Iterator.Search.{all_from_yields_List}

@@ -1,3 +1,5 @@
+-- `row` reads `width` numbers. The stop of a number is the row's; a number that was read and stored is one more (`row_open`, `holds_put`); after the last
+-- the form goes on behind the row (`row_done`).
 use Rattle.std.proofs.Common.{refl, sym, ap, ◌∙◌, arith, [], ◌∷◌, ◌++◌, ℕ, ◌+◌}
 use Rattle.std.proofs.lemmas.Result.{err_from_is_err_and}
 use mathlib.Core.List.{append-nil, append_assoc}

@@ -1,3 +1,4 @@
+-- `rows` reads `lines` lines. A line's stop is the answer; a line that was read is one more (`rows_open`); after the last line the form goes on (`rows_done`).
 use Rattle.std.proofs.Common.{refl, ◌∙◌, [], ◌++◌}
 use Rattle.std.proofs.lemmas.Result.{err_from_is_err_and}
 use mathlib.Core.List.{append-nil, append_assoc}

@@ -1,3 +1,5 @@
+-- `table` reads a line of names and then rows. A stop in the names is the table's; else the table gives what `rows` gives, begun where the names end
+-- (`names_then`).
 use Rattle.std.proofs.Common.{refl}
 use Rattle.std.proofs.lemmas.Result.{err_from_is_err_and}
 use Rattle.text.specs.Form.{table}

@@ -1,3 +1,4 @@
+-- `finish` gives `closed`: with an end within the lent bytes what was written and zeros, else zeros alone.
 use Rattle.std.proofs.Common.{List, ℕ, ap, arith}
 use Rattle.std.proofs.lemmas.Grind.{common_steps}
 use Rattle.std.specs.Prelude.{Ok}

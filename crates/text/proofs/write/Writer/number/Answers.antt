@@ -1,3 +1,5 @@
+-- `number` writes `decimal`: a step puts one digit before those that are there (`digit_written`), and the last one makes them the whole number
+-- (`digits_written`). Ten bytes are enough, since the number has 32 bits (`decimal_ten`).
 use Rattle.std.proofs.Common.{◌≡◌, ◌+◌, ◌-◌, ◌/◌, ◌%◌, ◌≤◌, refl, sym, ◌∙◌, ap, arith}
 use Rattle.std.proofs.lemmas.List.{take_all}
 use lib.ListN.{set, drop, length, length-set, length-drop}

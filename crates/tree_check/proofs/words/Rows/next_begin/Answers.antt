@@ -1,3 +1,5 @@
+-- `next_begin` gives where the parts begin of the row that is next. Where those of the first sort are missing, its parts are (`first_missing`); else those of
+-- the second sort are sought from there on (`then_the_rest`), which is no later than the row (`found_near`).
 use Rattle.std.proofs.Common.{[], ◌∙◌}
 use Rattle.tree_grammar.specs.Needs.{many}
 use Rattle.tree_check.specs.Takes.{sort_of}

@@ -1,3 +1,5 @@
+-- `perform` puts the instructions of the PLAINs among the rows into the buffer. A row that finds no room ends it (`performing_full`), any other keeps the
+-- invariant (`performing_next`), and after the last row all are performed (`performing_end`).
 use Rattle.std.proofs.Common.{arith, ◌<◌, ◌≤◌, ◌∙◌}
 use Rattle.tree_run.proofs.PerformLaws.{err_same, performing_full, performing_next, performing_end}
 use Rattle.tree_run.proofs.performed.Performed.perform.Goals as goal
