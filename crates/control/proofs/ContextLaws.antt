@@ -18,7 +18,6 @@ use Rattle.definition.specs.Context as definition
 use Rattle.definition.specs.Context.{Flags, has, add, remove, no_flags, start, is_scheduled}
 use Rattle.definition.specs.Context.{is_blocked, block_asked, blocked_code, pushed, popped, schedule, scheduled_by, owns, unscheduled_by}
 use Rattle.definition.specs.Context.{unschedule, unschedule_top}
-use Rattle.machine.specs.Machine as machine
 use Rattle.control.specs.declared.ControlFlowTarget.{ControlFlowTarget}
 use Rattle.control.specs.declared.ControlFlowTarget.TheVariants.{If, Switch, Case, Loop}
 use Rattle.control.specs.declared.Entry.{Entry}
@@ -181,11 +180,6 @@ unschedule_top_lem : (cx : definition.Context) (top : definition.Entry) (below :
 unfolding unschedule unschedule_top
 unschedule_top_lem cx top below e = ap (λ (stack : List definition.Entry). unschedule_top stack top.id cx) e ∙ rw (unschedule_top, eq-eqb top.id top.id refl)
 
-unscheduled_top_lem : (cx : definition.Context) (top : definition.Entry) (below : List definition.Entry) → cx.stack ≡ top ∷ below
-    → machine.unscheduled cx ≡ popped below (unscheduled_by top.target top.owns_loop cx.scheduled) cx
-unfolding machine.unscheduled machine.unscheduled_top
-unscheduled_top_lem cx top below e = ap (λ (stack : List definition.Entry). machine.unscheduled_top stack cx) e
-
 module _ (cx : Context) (last : Entry) (top : Last cx last) where
   on_top : (visits : ℕ) → (context_of visits cx).stack ≡ entry_of last ∷ stack_of cx.stack (cx.len - 1)
   unfolding context_of
@@ -196,17 +190,11 @@ module _ (cx : Context) (last : Entry) (top : Last cx last) where
   unfolding context_of popped
   off visits = refl
 
-  -- the machine takes the last entry off whatever its id
-  pub pops : (visits : ℕ) → machine.unscheduled (context_of visits cx) ≡ context_of visits (without_last last cx)
-  pops visits = unscheduled_top_lem (context_of visits cx) (entry_of last) (stack_of cx.stack (cx.len - 1)) (on_top visits) ∙ off visits
-
   pub unscheduled : Unscheduled last cx (without_last last cx)
   unscheduled = record {
     state = refl;
     context =
-        λ visits. unschedule_top_lem (context_of visits cx) (entry_of last) (stack_of cx.stack (cx.len - 1)) (on_top visits) ∙ ap ok
-        (sym (unscheduled_top_lem (context_of visits cx) (entry_of last) (stack_of cx.stack (cx.len - 1)) (on_top visits)) ∙ pops visits);
-    pops = λ visits. sym (pops visits);
+        λ visits. unschedule_top_lem (context_of visits cx) (entry_of last) (stack_of cx.stack (cx.len - 1)) (on_top visits) ∙ ap ok (off visits);
     len = refl;
     id = refl;
     bounded = λ bounded. record { most = omega (arith, bounded.most); named = λ k below. bounded.named k (omega arith) };

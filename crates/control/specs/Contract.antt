@@ -3,7 +3,6 @@ use Rattle.std.specs.Prelude.{ℕ, ◌+◌, ◌-◌, ◌≤◌, ◌<◌, ◌≡�
 use Rattle.std.specs.Bool.{then_some}
 use Rattle.definition.specs.Result.{ok}
 use Rattle.definition.specs.Context as definition
-use Rattle.machine.specs.Machine as machine
 use Rattle.definition.specs.Context.{target_block, is_loop, is_blocked, scheduled_by, owns, unscheduled_by, break_kind, continue_kind, start, schedule, unschedule}
 use Rattle.control.specs.declared.ControlFlowTarget.{ControlFlowTarget}
 use Rattle.control.specs.declared.ControlFlowTarget.TheVariants.{If, Switch, Case, Loop}
@@ -72,8 +71,7 @@ without_last last cx = record {
   stack = cx.stack;
 }
 
--- ---- the promises. `context` is the equation with the definition, refusals included. `pops` is the equation with the machine, which refuses nothing. `state`
--- says what every field is
+-- ---- the promises. `context` is the equation with the definition, refusals included. `state` says what every field is
 
 pub record Created (r : Context) : Type 0 where
   pub context : context_of 0 r ≡ start
@@ -92,7 +90,6 @@ pub record Scheduled (target : ControlFlowTarget) (self r : Context) : Type 0 wh
 pub record Unscheduled (last : Entry) (self r : Context) : Type 0 where
   pub state : r ≡ without_last last self
   pub context : (visits : ℕ) → unschedule last.id (context_of visits self) ≡ ok (context_of visits r)
-  pub pops : (visits : ℕ) → context_of visits r ≡ machine.unscheduled (context_of visits self)
   pub len : r.len ≡ self.len - 1
   pub id : r.next_schedule_id ≡ self.next_schedule_id
   pub bounded : Bounded self.stack self.len → Bounded r.stack r.len

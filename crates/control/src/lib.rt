@@ -7,13 +7,12 @@
 // step writes `len`, and the scalars stand between the arrays. (docs/PERFORMANCE.md has the times.)
 #![tactic(auto)]
 
-pub mod around;
 pub mod rule;
 
 ghost use Rattle.std.specs.Prelude.{◌≡◌, ◌+◌, ◌≤◌, ◌<◌, ◌||◌};
-ghost use Rattle.definition.specs.Context.{add, has, target_block, is_loop, loops_of, continues_at, block_asked, break_kind, continue_kind};
+ghost use Rattle.definition.specs.Context.{has, target_block, is_loop, loops_of, continues_at, block_asked, break_kind, continue_kind};
 ghost use Rattle.definition.specs.Tree.{kind_number};
-ghost use Rattle.control.specs.Abstraction.{target_of, kind_of, blocked_number, found_block, resolution_of};
+ghost use Rattle.control.specs.Abstraction.{target_of, kind_of, found_block, resolution_of};
 ghost use Rattle.control.specs.Contract.{Named, Room, Last, Created, Scheduled, Unscheduled, break_to, continue_to};
 
 // The Rust's BlockId, as the sets and the stack have it.
@@ -70,14 +69,14 @@ pub struct Resolution {
 // Why `schedule` refuses a target: a loop's continue block is scheduled (15), or another target's block is (90, which never occurs).
 #[derive(Clone, Copy, PartialEq, Eq, Drop)]
 pub enum Blocked {
-    ContinueBlock = 15,
-    Block = 90,
+    ContinueBlock,
+    Block,
 }
 
 // `pushed` is the entry that went on last. `refused` says why `schedule` refused it, if it did. The walk ends with such a Context. The first `len`
 // entries of the stack count: fixed memory, and paper 01's array.
 // `pushed` is any entry before the first: nobody reads it there, and an option would be unwrapped at the one store.
-#[derive(Drop)]
+#[derive(Clone, Copy, Drop)]
 pub struct Context {
     pub emitted: [bool; 1024],
     pub catch_handlers: [bool; 1024],
@@ -88,15 +87,6 @@ pub struct Context {
     pub refused: Option<Blocked>,
     pub next_schedule_id: u16,
     pub stack: [Entry; 1152],
-}
-
-impl Blocked {
-    // Paper 01's number of the refusal.
-    pub fn code(self) -> u32
-        ensures { result ≡ blocked_number self }
-    {
-        self as u32
-    }
 }
 
 impl ControlFlowTarget {
@@ -148,15 +138,6 @@ impl ReactiveTerminalTargetKind {
 }
 
 // ---- sets of blocks
-
-// Puts a block into a set: emitted, catch handlers or scope fallthroughs.
-#[tactic(auto, unfolding(definition::specs::Context::add))]
-pub fn insert(set: &mut [bool; 1024], block: u16)
-    requires { block < 1024 }
-    ensures { set.new ≡ add set.old block }
-{
-    set[block as usize] = true;
-}
 
 // A catch handler counts as scheduled here, and nowhere else.
 #[tactic(auto, unfolding(definition::specs::Context::has))]

@@ -29,7 +29,8 @@ use Rattle.definition.proofs.Steps.{true_false, none_some, some_eq, Any, Good, g
 use Rattle.definition.proofs.Flags.{has_still, has_new, length_add, length_none, below_blocks}
 use Rattle.definition.proofs.Never.{false_of}
 use Rattle.definition.proofs.Lines.{Unlined, UnlinedStep, unlined_none, break_unlined, continue_unlined, instructions_lined}
-use Rattle.definition.proofs.Flags.{marks, marks_below}
+use Rattle.definition.specs.Marks.{marks}
+use Rattle.definition.proofs.Flags.{marks_below}
 
 -- ---- blocks that are entered one after the other
 

@@ -1,4 +1,4 @@
--- M-101: the lines of a part, put out behind what is out already, beside the rows of proofs/Rows. For machine/proofs/Simulation.
+-- M-101: the lines of a part, put out behind what is out already, beside the rows of proofs/Rows. For the proofs of crate walk.
 use mathlib.Core.Path.{◌≡◌, refl, sym, ap, ◌∙◌}
 use Prim.Native.Nat.{ℕ, ◌+◌, ◌-◌}
 use native.Mathlib.Omega.{arith}
@@ -17,34 +17,11 @@ use Rattle.definition.specs.Tree.{Kind, implicit, labeled, unlabeled, Value, Sta
 use Rattle.definition.specs.Tree.{SCOPE, RETURN, THROW, Statements, done, Cases, no_cases, CASE, Row, row, value_rows, update_rows, statement_rows}
 use Rattle.definition.specs.Tree.{block_rows, instr_row, for_of_row, for_in_row, count_statements, count_cases, or_none, update_present}
 use Rattle.definition.proofs.Steps.{Good, good_unless, good_pick}
-use Rattle.definition.proofs.Rows.{statements_out, cases_out, block_out, block_out_lem, rows_if, rows_else, rows_do_while, rows_while, rows_for, rows_for_of}
+use Rattle.definition.specs.Put.{lines_in, lines_of, list_put, block_put, cases_put, statement_put, step_put, statements_out, cases_out}
+use Rattle.definition.proofs.Rows.{block_out, block_out_lem, rows_if, rows_else, rows_do_while, rows_while, rows_for, rows_for_of}
 use Rattle.definition.proofs.Rows.{rows_for_in, rows_label, rows_try, rows_scope, rows_value, rows_single, rows_case, rows_switch, rows_chain}
 
--- ---- a part put out behind R: its rows, and the lines of what it has
-
-abbrev pub lines_in : ℕ → Statements → List Line
-lines_in first s = map line_of (in_list first s)
-
-abbrev pub lines_of : ℕ → Statement → List Line
-lines_of first s = map line_of (in_parts first s ++ labelled_by (label_of s) first s)
-
-abbrev pub list_put : Output → Statements → Output
-list_put R s = record { rows = R.rows ++ statements_out s; lines = R.lines ++ lines_in (length R.rows) s }
-
--- a nested list and its BLOCK row
-abbrev pub block_put : Output → Statements → Output
-block_put R s = list_put R s ⊕ (block_row (count_statements s) ∷ [])
-
-abbrev pub cases_put : Output → Cases → Output
-cases_put R s = record { rows = R.rows ++ cases_out s; lines = R.lines ++ map line_of (in_cases (length R.rows) s) }
-
-abbrev pub statement_put : Output → Statement → Output
-statement_put R s = record { rows = R.rows ++ statement_out s; lines = R.lines ++ lines_of (length R.rows) s }
-
--- a terminal's statement, if it has one
-abbrev pub step_put : Output → Option Statement → Output
-step_put R none = R ⊕ []
-step_put R (some s) = statement_put R s
+-- ---- rows behind what is out
 
 pub output_eq : {R S : Output} → R.rows ≡ S.rows → R.lines ≡ S.lines → R ≡ S
 output_eq {R} {S} e f = ap (λ (z : List Row). record { rows = z; lines = R.lines }) e ∙ ap (λ (z : List Line). record { rows = S.rows; lines = z }) f

@@ -1,4 +1,4 @@
--- The rows of a part, put out behind what is out already: what the machine has out when it closes a statement is that statement's rows. For machine/proofs/Simulation.
+-- The rows of a part, put out behind what is out already: what the walk has out when it closes a statement is that statement's rows. For the proofs of crate walk.
 use mathlib.Core.Path.{◌≡◌, refl, sym, ap, ◌∙◌}
 use Prim.Native.Nat.{ℕ, suc, ◌+◌}
 use native.Mathlib.Nat.{zero-add, suc-add}
@@ -9,6 +9,7 @@ use mathlib.Core.Bool.{Bool, true, false}
 use lib.ListN.{length}
 use Rattle.table.specs.declared.columns.Span.{Span}
 use Rattle.table.specs.Table.{Table, instruction_at}
+use Rattle.definition.specs.Put.{statements_out, cases_out}
 use Rattle.definition.specs.Output.{value_out, update_out, statement_out, instructions_out, block_row, jump_out, added, scope_row}
 use Rattle.definition.specs.Statement.{instruction_statements, followed_by}
 use Rattle.definition.specs.Tree.{Value, PLAIN, LOAD, UNDEF, SEQ, LOGICAL, COND, OPTIONAL, Instructions, no_instructions, instruction, Statement, INSTR, instr_row, for_of_row, for_in_row}
@@ -87,12 +88,6 @@ mutual
   cases_append (CASE x b r) k l = ap (λ (z : List Row). block_rows b (row 11 x 0 0 0 0 ∷ z)) (cases_append r k l) ∙ block_append b (row 11 x 0 0 0 0 ∷ cases_rows r k) l
 
 -- ---- a part put out behind R, and then the rows k
-
-unfoldable pub statements_out : Statements → List Row
-statements_out s = statements_rows s []
-
-unfoldable pub cases_out : Cases → List Row
-cases_out s = cases_rows s []
 
 -- a nested list and its BLOCK row
 abbrev pub block_out : List Row → Statements → List Row

@@ -19,6 +19,8 @@ pub mod Plain
 pub mod PlainLoops
 pub mod PlainTest
 pub mod Output
+pub mod Put
+pub mod Marks
 pub mod RunLaw
 pub mod LoopLaw
 pub mod Relabeled

@@ -1,10 +1,9 @@
 // What the walk answers: the numbers that paper 01 gives for an accepted table and for a refused one, "Result and refusals".
 ghost use Rattle.std.specs.Prelude.{◌≡◌, ℕ};
 ghost use Rattle.walk.specs.Answer.{code_of, place_of, rows_of, visits_of, numbers};
-ghost use Rattle.walk.specs.declared.answer.WalkError.TheVariants.{Table, Turn};
+ghost use Rattle.walk.specs.declared.answer.WalkError.TheVariants.{Table, Walk};
 
-use control::Blocked;
-use statements::refusal::Refused;
+use crate::refusal::Refused;
 use table::Refusal;
 
 // What the walk of an accepted table put out and began: the rows of its tree, the visits, and the lines of its index (M-101).
@@ -20,14 +19,8 @@ pub struct Walked {
 pub enum WalkError {
     // The words are no table.
     Table(Refusal),
-    // A turn refuses.
-    Turn(Refused),
-    // `schedule` refuses, at the block that it tested.
-    Schedule {
-        reason: Blocked,
-        block: u32,
-        visits: u32,
-    },
+    // The statement walk refuses.
+    Walk(Refused),
 }
 
 impl From<Refusal> for WalkError {
@@ -39,10 +32,10 @@ impl From<Refusal> for WalkError {
 }
 
 impl From<Refused> for WalkError {
-    ghost from_gives = { λ refused error. error ≡ Turn refused };
+    ghost from_gives = { λ refused error. error ≡ Walk refused };
 
     fn from(refused: Refused) -> WalkError {
-        WalkError::Turn(refused)
+        WalkError::Walk(refused)
     }
 }
 
@@ -81,16 +74,14 @@ impl Numbered for WalkError {
     fn code(self) -> u32 {
         match self {
             WalkError::Table(refusal) => refusal.code(),
-            WalkError::Turn(refused) => refused.refusal.code(),
-            WalkError::Schedule { reason, .. } => reason.code(),
+            WalkError::Walk(refused) => refused.refusal.code(),
         }
     }
 
     fn place(self) -> u32 {
         match self {
             WalkError::Table(refusal) => refusal.place(),
-            WalkError::Turn(refused) => refused.refusal.place(),
-            WalkError::Schedule { block, .. } => block,
+            WalkError::Walk(refused) => refused.refusal.place(),
         }
     }
 
@@ -101,8 +92,7 @@ impl Numbered for WalkError {
     fn visits(self) -> u32 {
         match self {
             WalkError::Table(_) => 0,
-            WalkError::Turn(refused) => refused.visits,
-            WalkError::Schedule { visits, .. } => visits,
+            WalkError::Walk(refused) => refused.visits,
         }
     }
 }
