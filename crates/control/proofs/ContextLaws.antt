@@ -160,16 +160,12 @@ module _ (target : ControlFlowTarget) (cx : Context) (named : Named target) (roo
 -- the same where the arms of `schedule` meet
 pub entered : {target t : ControlFlowTarget} {cx : Context} {flags : Flags} {refusal : std.Option Blocked} {owner : Bool} → t ≡ target → flags ≡ scheduled_by (target_of target) cx.scheduled
     → refusal ≡ then_some (is_blocked (target_of target) cx.scheduled) (reason target) → owner ≡ owns (target_of target) cx.scheduled
-    → Scheduled target cx (with_entry target cx) → Scheduled target cx (record {
-      emitted = cx.emitted;
-      catch_handlers = cx.catch_handlers;
-      scope_fallthroughs = cx.scope_fallthroughs;
+    → Scheduled target cx (with_entry target cx) → Scheduled target cx (record cx {
       len = cx.len + 1;
       scheduled = flags;
       pushed = record { id = cx.next_schedule_id; target = t; owns_loop = owner };
       refused = refusal;
       next_schedule_id = cx.next_schedule_id + 1;
-      stack = cx.stack;
     })
 entered t f r o h = rw (t, f, r, o) h
 
@@ -202,15 +198,5 @@ module _ (cx : Context) (last : Entry) (top : Last cx last) where
 
 -- the same where the arms of `unschedule` meet
 pub left : {last : Entry} {cx : Context} {flags : Flags} → flags ≡ unscheduled_by (target_of last.target) last.owns_loop cx.scheduled
-    → Unscheduled last cx (without_last last cx) → Unscheduled last cx (record {
-      emitted = cx.emitted;
-      catch_handlers = cx.catch_handlers;
-      scope_fallthroughs = cx.scope_fallthroughs;
-      len = cx.len - 1;
-      scheduled = flags;
-      pushed = cx.pushed;
-      refused = cx.refused;
-      next_schedule_id = cx.next_schedule_id;
-      stack = cx.stack;
-    })
+    → Unscheduled last cx (without_last last cx) → Unscheduled last cx (record cx { len = cx.len - 1; scheduled = flags })
 left f h = rw f h

@@ -41,34 +41,23 @@ reason (Switch block) = Block
 reason (Case block) = Block
 reason (Loop block continue_block loop_block) = ContinueBlock
 
--- ---- the Contexts that the methods hand back, field by field
+-- ---- the Contexts that the methods hand back
 
 -- a target under the next id, and its blocks in the scheduled set
 abbrev pub with_entry : ControlFlowTarget → Context → Context
-with_entry target cx = record {
-  emitted = cx.emitted;
-  catch_handlers = cx.catch_handlers;
-  scope_fallthroughs = cx.scope_fallthroughs;
+with_entry target cx = record cx {
   len = cx.len + 1;
   scheduled = scheduled_by (target_of target) cx.scheduled;
   pushed = record { id = cx.next_schedule_id; target = target; owns_loop = owns (target_of target) cx.scheduled };
   refused = then_some (is_blocked (target_of target) cx.scheduled) (reason target);
   next_schedule_id = cx.next_schedule_id + 1;
-  stack = cx.stack;
 }
 
 -- one entry less, and its blocks out of the set; the array of entries is as it was
 abbrev pub without_last : Entry → Context → Context
-without_last last cx = record {
-  emitted = cx.emitted;
-  catch_handlers = cx.catch_handlers;
-  scope_fallthroughs = cx.scope_fallthroughs;
+without_last last cx = record cx {
   len = cx.len - 1;
   scheduled = unscheduled_by (target_of last.target) last.owns_loop cx.scheduled;
-  pushed = cx.pushed;
-  refused = cx.refused;
-  next_schedule_id = cx.next_schedule_id;
-  stack = cx.stack;
 }
 
 -- ---- the promises. `context` is the equation with the definition, refusals included. `state` says what every field is

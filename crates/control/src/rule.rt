@@ -1,6 +1,5 @@
-// Which entry is asked for: the public parameter of the build.
-
-// The entry that equals the Rust, and the language entry.
+/// Which entry is asked for: `Rust` builds what the Rust builds, and `Language` gives each jump the meaning that it has
+/// in ECMA-262.
 #[derive(Clone, Copy, PartialEq, Eq, Drop)]
 pub enum Rule {
     Rust,

@@ -17,12 +17,12 @@ use Rattle.definition.specs.Marks.{marks}
 use Rattle.control.specs.Abstraction.{context_of, entry_of, no_entry, stack_of}
 use Rattle.control.specs.declared.Context as code
 use Rattle.control.specs.declared.Entry.{Entry}
+use Rattle.control.specs.Contract.{Unscheduled}
 use Rattle.control.proofs.ContextLaws.{stack_last, stack_length}
 use Rattle.definition.specs.Around.{Around}
 use Rattle.table.specs.Table.{table_of}
 use Rattle.walk.specs.Met.{traverse_outcome}
-use Rattle.walk.specs.State.{state, ids_on, last_ids, refused_by, Whole, Quiet, Shifted}
-use Rattle.walk.specs.declared.refusal.Refused.{Refused}
+use Rattle.walk.specs.State.{state, ids_on, last_ids, Whole, Quiet, Shifted}
 use Rattle.walk.specs.declared.state.Walk.{Walk}
 
 -- ---- what a step makes of the entries
@@ -65,19 +65,11 @@ module _ (cx : definition.Context) (top : definition.Entry) (below : List defini
   unfolding ◌>>=◌
   takes_on n after f e = first_off n f ∙ rw (e, below_left after e) refl
 
-  pub takes_off : (n : ℕ) (e : Refused) → 0 < n → unschedule top.id cx ≡ refused_by e → unschedule_all (last_ids n cx) cx ≡ refused_by e
-  unfolding ◌>>=◌
-  takes_off n e f q = first_off n f ∙ rw q refl
-
 pub takes_none : (n : ℕ) (cx : definition.Context) → n ≡ 0 → unschedule_all (last_ids n cx) cx ≡ ok cx
 unfolding unschedule_all
 takes_none n cx e = rw e refl
 
 -- the stack of the code
-pub on_top : (visits : ℕ) (cx : code.Context) (last : Entry) → 0 < cx.len → last ≡ get_or cx.stack (cx.len - 1) no_entry → (context_of visits cx).stack ≡ entry_of last ∷ stack_of cx.stack (cx.len - 1)
-unfolding context_of
-on_top visits cx last h e = stack_last cx.stack cx.len last h e
-
 pub ids_length : (visits : ℕ) (cx : code.Context) → length (ids_on (context_of visits cx)) ≡ cx.len
 unfolding context_of
 ids_length visits cx = length-map (stack_of cx.stack cx.len) (λ (entry : definition.Entry). entry.id) ∙ stack_length cx.stack cx.len
@@ -107,19 +99,22 @@ none_taken start count whole there = record {
   same = refl;
 }
 
-pub one_taken : {start now after : Walk} {count left : ℕ} → Taken start count left now → 0 < left → Shifted now after 0 1
-    → unschedule_all (last_ids left (state now)) (state now) ≡ unschedule_all (last_ids (left - 1) (state after)) (state after) → Taken start count (left - 1) after
-one_taken taken f off e = record {
-  quiet = record { tree = off.quiet.tree ∙ taken.quiet.tree; index = off.quiet.index ∙ taken.quiet.index; rows = off.quiet.rows ∙ taken.quiet.rows; lines = off.quiet.lines ∙ taken.quiet.lines };
-  visits = off.visits ∙ taken.visits;
-  marks = off.marks ∙ taken.marks;
-  len = omega (arith, taken.len, off.len, f);
-  id = omega (arith, taken.id, off.id);
-  whole = off.whole;
-  few = omega (arith, taken.few);
-  there = omega (arith, taken.there, off.len, f);
-  same = taken.same ∙ e;
-}
+pub one_taken : {start now : Walk} {count left : ℕ} {cx : code.Context} (last : Entry) → Taken start count left now → 0 < left → last ≡ get_or now.cx.stack (now.cx.len - 1) no_entry
+    → Unscheduled last now.cx cx → Taken start count (left - 1) (record { cx = cx; tally = now.tally; lines = now.lines; tree = now.tree; index = now.index })
+unfolding context_of
+one_taken {start} {now} {count} {left} {cx} last taken f is off =
+    let nonempty : 0 < now.cx.len = omega (arith, taken.there, f) in
+    record {
+      quiet = record { tree = taken.quiet.tree; index = taken.quiet.index; rows = taken.quiet.rows; lines = taken.quiet.lines };
+      visits = taken.visits;
+      marks = rw off.state taken.marks;
+      len = omega (arith, taken.len, off.len, nonempty, f);
+      id = omega (arith, taken.id, off.id);
+      whole = record { emitted = rw off.state taken.whole.emitted; stack = rw off.state taken.whole.stack; bounded = off.bounded taken.whole.bounded };
+      few = omega (arith, taken.few);
+      there = omega (arith, taken.there, off.len, f);
+      same = taken.same ∙ takes_on (state now) (entry_of last) (stack_of now.cx.stack (now.cx.len - 1)) (stack_last now.cx.stack now.cx.len last nonempty is) left _ f (off.context now.tally.visits);
+    }
 
 pub all_taken : {start now : Walk} {count left : ℕ} → Taken start count left now → left ≤ 0 → (unschedule_all (last_ids count (state start)) (state start) ≡ ok (state now)) × Shifted start now 0 count
 all_taken {now = now} {left = left} taken e =

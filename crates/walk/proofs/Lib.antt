@@ -8,4 +8,3 @@ pub mod EntryLaws
 pub mod AnswerLaws
 pub mod ListLaws
 pub mod EntriesLaws
-pub mod BuildingLaws

@@ -3,10 +3,6 @@ use mathlib.Core.Path.{◌≡◌, refl, sym, ap, subst, ◌∙◌}
 use mathlib.Core.Bool.{Bool, true, false}
 use mathlib.Core.List.{List, [], ◌∷◌}
 use mathlib.Core.Option.{Option, none, some}
-use mathlib.Core.Logic.{◌⊎◌, inl, inr}
-use Rattle.table.specs.Ending.{ending}
-use Rattle.table.specs.declared.terminals.Terminal as end
-use Rattle.table.specs.declared.terminals.Terminal.TheVariants as end_as
 use Rattle.definition.proofs.Steps.{true_false, refused_ok}
 use Prim.Native.Nat.{ℕ, suc, ◌+◌, ◌-◌, ◌≤◌, ◌<◌}
 use native.Mathlib.Omega.{arith}
@@ -35,7 +31,7 @@ use Rattle.walk.specs.Met.{traverse_outcome, visit_outcome, terminal_outcome, bo
 use Rattle.walk.specs.Out.{Out, RowMade, Closes, InstructionsMade, Valued, Spent}
 use lib.Dec.{eqb}
 use borrow.Author.Tests.{eqb-true}
-use Rattle.table.specs.Table.{unless_none, Block}
+use Rattle.table.specs.Table.{unless_none, Block, absent, unreachable}
 use Rattle.table.specs.Words.{block_count}
 use Rattle.definition.specs.Output.{scope_row}
 use Rattle.definition.specs.Value.{VisitValueBlock}
@@ -68,15 +64,6 @@ module _ {A B : Type 0} {o : Result A} (k : A → Result B) where
   pub off : (e : Refused) → o ≡ refused_by e → (o >>= k) ≡ refused_by e
   unfolding ◌>>=◌
   off e q = rw q refl
-
-module _ {B : Type 0} {test : Bool} (code at visits : ℕ) (k : Unit {0} → Result B) where
-  pub test_on : {x : Result B} → test ≡ false → k tt ≡ x → (refuse_if test code at visits >>= k) ≡ x
-  unfolding ◌>>=◌ refuse_if
-  test_on e q = rw e q
-
-  pub test_off : test ≡ true → (refuse_if test code at visits >>= k) ≡ refused code at visits
-  unfolding ◌>>=◌ refuse_if
-  test_off e = rw e refl
 
 -- ---- a state whose Context is kept
 
@@ -114,12 +101,12 @@ module _ (ws : List ℕ) (around : Around) (block : ℕ) (cx : definition.Contex
       → terminal_outcome ws levels around block cx ≡ visit_terminal (table_of ws) (visit_value_block (table_of ws) levels) (traverse_block (table_of ws) levels) around e block (block_at (table_of ws) block) cx
   terminal_by levels ends = ap (λ (e : Terminal). visit_terminal (table_of ws) (visit_value_block (table_of ws) levels) (traverse_block (table_of ws) levels) around e block (block_at (table_of ws) block) cx) ends.is
 
-  pub nothing_at : (levels : ℕ) (e : end.Terminal) → Ends ws block (ending e) → is_absent (terminal_at (table_of ws) block) ≡ false → (e ≡ end_as.Absent) ⊎ (e ≡ end_as.Unreachable)
-      → terminal_outcome ws levels around block cx ≡ ok (terminal_result none none cx)
+  pub nothing_at : (levels : ℕ) → Ends ws block unreachable → terminal_outcome ws levels around block cx ≡ ok (terminal_result none none cx)
   unfolding visit_terminal
-  nothing_at levels e ends present (inl a) =
-      let gone : is_absent (ending e) ≡ false = rw (← ends.is) present in absurd (true_false (rw a at gone))
-  nothing_at levels e ends present (inr u) = terminal_by levels ends ∙ rw u refl
+  nothing_at levels ends = terminal_by levels ends
+
+pub not_absent : (ws : List ℕ) (block : ℕ) → Ends ws block absent → is_absent (terminal_at (table_of ws) block) ≡ false → ⊥
+not_absent ws block ends present = true_false (rw ends.is at present)
 
 -- ---- counts
 
@@ -268,26 +255,6 @@ consequent_nested o v w (Ok u) f = record { part = f.part; same = f.same; puts =
 consequent_nested o v w (Err e) f = f
 
 -- ---- the other arms
-
-pub fine_marked : {o : definition.Context} {v w : Walk} → Fine v 0 0 → Marked o v w → Fine w 0 0
-fine_marked f k = record {
-  whole = k.whole;
-  visits = omega (arith, f.visits, k.visits);
-  rows = omega (arith, f.rows, k.visits, k.quiet);
-  len = omega (arith, f.len, k.len, k.marks);
-  id = omega (arith, f.id, k.id, k.marks);
-  lines = omega (arith, f.lines, k.quiet, k.marks);
-}
-
-pub fine_spent : {u v : Walk} {n : ℕ} → Fine u 0 n → Spent n u v → Fine v 0 0
-fine_spent {u} {v} f made = let same = kept u v made.cx in record {
-  whole = rw made.cx f.whole;
-  visits = made.visits;
-  rows = omega (arith, f.rows, made.paid, made.rises);
-  len = omega (arith, same, f.len);
-  id = omega (arith, same, f.id);
-  lines = omega (arith, same, made.lines, f.lines);
-}
 
 pub spent_state : (u v : Walk) → v.cx ≡ u.cx → state v ≡ context_of v.tally.visits u.cx
 spent_state u v e = rw e refl

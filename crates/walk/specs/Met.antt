@@ -1,9 +1,9 @@
 -- What the functions of the statement walk promise: the definition's result or refusal, and its rows and lines in the two buffers.
 use Rattle.std.specs.Prelude as std
-use Rattle.std.specs.Prelude.{ℕ, Bool, true, false, not, eqb, List, [], ◌∷◌, ◌≡◌, ◌+◌, ◌*◌, ◌≤◌, ◌<◌, Ok, Err, MatchResult, IfSome}
+use Rattle.std.specs.Prelude.{ℕ, Bool, true, false, List, ◌++◌, length, ◌≡◌, ◌+◌, ◌*◌, ◌≤◌, ◌<◌, Ok, Err, MatchResult, IfSome}
 use Rattle.std.proofs.Math.Option.{Option, none}
 use Rattle.table.specs.Words.{block_count}
-use Rattle.table.specs.Table.{Case, scope, table_of, terminal_at, block_at}
+use Rattle.table.specs.Table.{scope, table_of, terminal_at, block_at}
 use Rattle.table.specs.Promise.{Ends}
 use Rattle.table.specs.declared.terminals.Scope.{Scope}
 use Rattle.values.specs.Ops.{number_of}
@@ -11,16 +11,15 @@ use Rattle.values.specs.declared.op.Op.{Op}
 use Rattle.table.specs.Columns.{maybe_of}
 use Rattle.definition.specs.Around.{Around, a_loop, another, within}
 use Rattle.definition.specs.Context as definition
-use Rattle.definition.specs.Context.{is_scheduled, schedule, unschedule, target_case}
 use Rattle.definition.specs.Output.{Output, added}
 use Rattle.definition.specs.Result.{Result, ok, ◌>>=◌, refuse_if}
-use Rattle.definition.specs.Statement.{AlternateResult, BlockResult, TerminalResult, TraverseBlock, visit_terminal, traverse_block, traverse_consequent, cases_last_first, visit_value_statement}
-use Rattle.definition.specs.Tree.{Statement, Statements, count_statements, flag_of, Cases, no_cases, CASE, count_cases}
+use Rattle.definition.specs.Statement.{AlternateResult, BlockResult, CasesResult, TerminalResult, TraverseBlock, visit_terminal, traverse_block, traverse_cases, traverse_consequent, cases_last_first, visit_value_statement}
+use Rattle.definition.specs.Tree.{Statement, Statements, count_statements, flag_of, Cases, count_cases}
 use Rattle.definition.specs.Value.{visit_value_block}
 use Rattle.definition.specs.Marks.{marks}
 use Rattle.definition.specs.Put.{block_put, list_put, step_put, cases_put}
 use Rattle.walk.specs.Out.{Puts}
-use Rattle.walk.specs.State.{state, refused_by, Whole}
+use Rattle.walk.specs.State.{state, ids_on, refused_by, Whole}
 use Rattle.walk.specs.declared.refusal.Refused.{Refused}
 use Rattle.walk.specs.declared.state.Walk.{Walk}
 use Rattle.walk.specs.declared.visit.TerminalResult as code
@@ -118,39 +117,28 @@ abbrev pub consequent_outcome : List ℕ → (levels : ℕ) → Around → (at c
 consequent_outcome words levels around at consequent cx =
     traverse_consequent around (traverse_outcome words levels (within (another none) around)) at consequent (block_at (table_of words) at).id cx
 
--- a Switch's cases, each with its entry taken off again
-pub record Closed : Type 0 where
-  pub cases : Cases
-  pub context : definition.Context
+-- a Switch's cases, under the ids of the entries that the Switch itself has
+abbrev pub cases_outcome : List ℕ → (levels : ℕ) → Around → (at fallthrough first left : ℕ) → (own : List ℕ) → definition.Context → Result CasesResult
+cases_outcome words levels around at fallthrough first left = traverse_cases (traverse_outcome words levels around) at fallthrough (cases_last_first (table_of words) first left)
 
-unfoldable pub cases_closed : TraverseBlock → (at fallthrough : ℕ) → List Case → definition.Context → Result Closed
-cases_closed traverse at fallthrough [] cx = ok (record { cases = no_cases; context = cx })
-cases_closed traverse at fallthrough (case ∷ earlier) cx =
-    elim (is_scheduled cx case.block) [
-      | true ↦ refuse_if (not (eqb case.block fallthrough)) 14 at cx.visits >>= λ _. cases_closed traverse at fallthrough earlier cx
-      | false ↦
-          traverse case.block cx >>= λ body.
-          schedule (target_case case.block) body.context >>= λ after.
-          cases_closed traverse at fallthrough earlier after >>= λ rest.
-          unschedule body.context.next_id rest.context >>= λ left.
-          ok (record { cases = CASE case.test body.statements rest.cases; context = left })
-    ]
+-- the cases that were built, and the ids of their entries, which are on the stack
+abbrev pub cases_result : (own : List ℕ) → Cases × List ℕ → definition.Context → CasesResult
+cases_result own (cases, ids) cx = record { cases = cases; ids = ids ++ own; context = cx }
 
-abbrev pub closed_result : Cases → definition.Context → Closed
-closed_result cases cx = record { cases = cases; context = cx }
+abbrev pub built_put : Output → Cases × List ℕ → Output
+built_put out (cases, ids) = cases_put out cases
 
-abbrev pub cases_outcome : List ℕ → (levels : ℕ) → Around → (at fallthrough first left : ℕ) → definition.Context → Result Closed
-cases_outcome words levels around at fallthrough first left = cases_closed (traverse_outcome words levels around) at fallthrough (cases_last_first (table_of words) first left)
-
-pub record Built (start end : Walk) (left n : ℕ) (cases : Cases) : Type 0 where
-  pub count : count_cases cases ≡ n
+pub record Built (start end : Walk) (left n : ℕ) (made : Cases × List ℕ) : Type 0 where
+  pub count : count_cases made.0 ≡ n
+  pub held : length made.1 ≡ n
+  pub stack : ids_on (state end) ≡ made.1 ++ ids_on (state start)
   pub lines : end.lines + marks start.cx.emitted ≤ start.lines + marks end.cx.emitted
   pub rows : end.tally.rows + 8210 * start.tally.visits ≤ start.tally.rows + 8210 * end.tally.visits
   pub id : end.cx.next_schedule_id + 2 * marks start.cx.emitted ≤ start.cx.next_schedule_id + 2 * marks end.cx.emitted
   pub few : n ≤ left
 
-abbrev pub Cased : (left : ℕ) → Result Closed → Walk → std.Result ℕ Refused → Walk → Type 0
-Cased left outcome start r end = MatchResult r (λ n. Found closed_result cases_put (Built start end left n) 1 outcome start end) (λ e. outcome ≡ refused_by e)
+abbrev pub Cased : (left : ℕ) → (own : List ℕ) → Result CasesResult → Walk → std.Result ℕ Refused → Walk → Type 0
+Cased left own outcome start r end = MatchResult r (λ n. Found (cases_result own) built_put (Built start end left n) 1 outcome start end) (λ e. outcome ≡ refused_by e)
 
 -- a block whose terminal is a scope or a pruned scope, by its op
 pub record Scoped (words : List ℕ) (block : ℕ) (end : Scope) (op : Op) : Type 0 where

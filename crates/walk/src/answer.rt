@@ -1,4 +1,4 @@
-// What the walk answers: the numbers that paper 01 gives for an accepted table and for a refused one, "Result and refusals".
+// What the walk answers, and the five numbers that its callers tell.
 ghost use Rattle.std.specs.Prelude.{◌≡◌, ℕ};
 ghost use Rattle.walk.specs.Answer.{code_of, place_of, rows_of, visits_of, numbers};
 ghost use Rattle.walk.specs.declared.answer.WalkError.TheVariants.{Table, Walk};
@@ -6,7 +6,7 @@ ghost use Rattle.walk.specs.declared.answer.WalkError.TheVariants.{Table, Walk};
 use crate::refusal::Refused;
 use table::Refusal;
 
-// What the walk of an accepted table put out and began: the rows of its tree, the visits, and the lines of its index (M-101).
+/// What the walk of an accepted table put out and began: the rows of its tree, the visits, and the lines of its index.
 #[derive(Clone, Copy, Debug, PartialEq, Eq)]
 pub struct Walked {
     pub rows: u32,
@@ -14,12 +14,12 @@ pub struct Walked {
     pub lines: u32,
 }
 
-// Why the walk gives no tree. `code_of`, `place_of` and `visits_of` in specs/Answer.antt have paper 01's numbers.
+/// Why the walk gives no tree. docs/FORMAT.md has the numbers of all refusals.
 #[derive(Clone, Copy, PartialEq, Eq)]
 pub enum WalkError {
-    // The words are no table.
+    /// The words are no table.
     Table(Refusal),
-    // The statement walk refuses.
+    /// The statement walk refuses.
     Walk(Refused),
 }
 
@@ -39,7 +39,8 @@ impl From<Refused> for WalkError {
     }
 }
 
-// An error with paper 01's four numbers. "Rows is 0 except at 40, where it is the number needed. Visits counts those begun."
+/// An error with its four numbers. `rows` is 0 unless the rows are more than the buffer has room for: then it is the
+/// number needed. `visits` counts the visits begun.
 pub trait Numbered {
     ghost code_of: { Self → ℕ };
 
@@ -97,7 +98,8 @@ impl Numbered for WalkError {
     }
 }
 
-// Tells an answer to callers in C: the code (0 accepted), and the other four numbers by reference.
+/// Tells an answer to callers in C: gives the code (0 accepted), and writes the other four numbers. Rows and lines are
+/// 0 for a refusal but for the rows of a buffer that is too small.
 pub fn tell<E: Numbered + Copy>(
     answer: Result<Walked, E>,
     at: &mut u32,
@@ -105,7 +107,8 @@ pub fn tell<E: Numbered + Copy>(
     visits: &mut u32,
     lines: &mut u32,
 ) -> u32
-    ensures { record { code = result; at = at.new; rows = rows.new; visits = visits.new; lines = lines.new } ≡ numbers E.code_of E.place_of E.rows_of E.visits_of answer }
+    ensures { record { code = result; at = at.new; rows = rows.new; visits = visits.new; lines = lines.new }
+        ≡ numbers E.code_of E.place_of E.rows_of E.visits_of answer }
 {
     match answer {
         Ok(walked) => {

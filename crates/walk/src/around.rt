@@ -1,4 +1,5 @@
-// What is being built around a jump (M-102): the rule, and the statements, the innermost first. An arm puts its own statement before those around it.
+// What is being built around a jump: the rule, and the statements, the innermost first. An arm puts its own statement
+// before those around it.
 ghost use Rattle.std.specs.Prelude.{◌≡◌, ◌||◌, ◌&&◌, ℕ, Bool, not};
 ghost use Rattle.table.specs.Columns.{maybe_of};
 ghost use Rattle.definition.specs.Around.{is_label, is_switch_inside, names_statement, names_loop, kind_by, unnamed, break_kind_in, break_unnamed, continue_unnamed};
@@ -9,7 +10,7 @@ ghost use Rattle.walk.specs.Around.{around_of};
 use control::rule::Rule;
 use control::{ReactiveTerminalTargetKind, Resolution};
 
-// A statement, with its label: the fallthrough that it took. A scope's row has none.
+/// A statement that is being built, with its label: the fallthrough that it took, if any. A scope has none.
 #[derive(Clone, Copy, Drop)]
 pub enum Enclosing {
     Loop(Option<u32>),
@@ -17,6 +18,7 @@ pub enum Enclosing {
     Another(Option<u32>),
 }
 
+/// The rule, and the statements around, the innermost first.
 #[derive(Clone, Copy, Drop)]
 pub enum Around<'a> {
     Outermost(Rule),
@@ -27,6 +29,7 @@ pub enum Around<'a> {
     },
 }
 
+/// Which entry is built.
 pub fn rule(around: &Around<'_>) -> Rule
     ensures { rule_of result ≡ (around_of around.now).rule }
 {
@@ -35,6 +38,7 @@ pub fn rule(around: &Around<'_>) -> Rule
     }
 }
 
+// The label is this block.
 #[tactic(auto, unfolding(definition::specs::Around::is_label))]
 fn is_label(label: Option<u32>, target: u32) -> bool
     ensures { result ≡ is_label (maybe_of label) target }
@@ -134,11 +138,13 @@ fn asks_label(rule: Rule, kind: ReactiveTerminalTargetKind) -> bool
 // Only an Unlabeled break of the language entry asks for a switch.
 #[tactic(auto, unfolding(definition::specs::Around::kind_by))]
 fn asks_switch(rule: Rule, kind: ReactiveTerminalTargetKind) -> bool
-    ensures { (between : Bool) → kind_by (rule_of rule) between (kind_of kind) ≡ kind_by (rule_of rule) (result && between) (kind_of kind) }
+    ensures { (between : Bool) → kind_by (rule_of rule) between (kind_of kind)
+        ≡ kind_by (rule_of rule) (result && between) (kind_of kind) }
 {
     rule == Rule::Language && kind == ReactiveTerminalTargetKind::Unlabeled
 }
 
+/// The kind of a break that resolves to this kind.
 #[tactic(auto, unfolding(definition::specs::Around::break_kind_in))]
 pub fn break_kind_in(
     around: &Around<'_>,
@@ -154,6 +160,8 @@ pub fn break_kind_in(
     )
 }
 
+/// Whether a break is refused because it is Labeled and no statement around has its label. Only the language entry
+/// asks.
 #[tactic(auto, unfolding(definition::specs::Around::break_unnamed))]
 pub fn break_unnamed(around: &Around<'_>, found: Resolution) -> bool
     ensures { result ≡ break_unnamed (around_of around.now) (resolution_of found) }
@@ -162,6 +170,7 @@ pub fn break_unnamed(around: &Around<'_>, found: Resolution) -> bool
         && !names_statement(around, found.block() as u32)
 }
 
+/// The same of a continue, whose label must be that of the loop that it resolves to.
 #[tactic(auto, unfolding(definition::specs::Around::continue_unnamed))]
 pub fn continue_unnamed(around: &Around<'_>, found: Resolution) -> bool
     ensures { result ≡ continue_unnamed (around_of around.now) (resolution_of found) }

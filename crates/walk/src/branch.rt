@@ -17,6 +17,7 @@ use table::terminals::Branch;
 use values::op::Op;
 
 impl Walk<'_> {
+    /// The If of a Branch: its consequent and its alternate.
     #[cycle(walk)]
     pub fn visit_branch(
         &mut self,
@@ -29,7 +30,9 @@ impl Walk<'_> {
         requires there { block < block_count table.words.now }
         requires ends { Ends table.words.now block (branch end.test end.consequent end.alternate) }
         requires fine { Fine self.old 1 18 }
-        ensures { Ended table.entry.words.now (terminal_outcome table.entry.words.now levels (around_of around.now) block (state self.old)) self.old result self.new }
+        ensures { Ended table.entry.words.now
+            (terminal_outcome table.entry.words.now levels (around_of around.now) block (state self.old))
+            self.old result self.new }
     {
         let first = self.tally.rows;
         let head = table.block(block);
@@ -58,7 +61,9 @@ impl Walk<'_> {
         requires there { block < block_count table.words.now }
         requires consequent_bound { consequent < block_count table.words.now }
         requires fine { Fine self.old 1 18 }
-        ensures { Consequent (consequent_outcome table.entry.words.now levels (around_of around.now) block consequent (state self.old)) self.old result self.new }
+        ensures { Consequent
+            (consequent_outcome table.entry.words.now levels (around_of around.now) block consequent (state self.old))
+            self.old result self.new }
     {
         if self.is_scheduled(consequent) {
             let id = table.block(block).id;

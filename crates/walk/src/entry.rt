@@ -30,6 +30,7 @@ impl Walk<'_> {
     }
 }
 
+// The walk of a table.
 #[tactic(auto, using(crate::proofs::EntryLaws::accepted_in))]
 fn walk_table(
     rule: Rule,
@@ -54,8 +55,9 @@ fn walk_table(
     })
 }
 
-// The walk of the table in the words, which may be any words. It fills the buffers as far as they have room, and goes on counting: nobody has
-// tested yet whether the rows and the lines fit.
+/// The walk of the table in the words, which may be any words. It fills the buffers as far as they have room, and
+/// counts on: whether the rows and the lines fit is its caller's to test. After a refusal the buffers hold what was put
+/// out before it.
 pub fn walk(
     rule: Rule,
     words: &[u32],

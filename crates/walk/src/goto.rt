@@ -16,6 +16,7 @@ use table::Table;
 use table::terminals::{Goto, GotoVariant};
 
 impl Walk<'_> {
+    /// A break, a continue, or no row for the Goto of a Try.
     pub fn visit_goto(
         &mut self,
         table: Table<'_>,
@@ -26,7 +27,9 @@ impl Walk<'_> {
         requires there { block < block_count table.words.now }
         requires ends { Ends table.words.now block (goto end.block (goto_variant end.variant)) }
         requires fine { Fine self.old 1 18 }
-        ensures { (levels : ℕ) → Ended table.entry.words.now (terminal_outcome table.entry.words.now levels (around_of around.now) block (state self.old)) self.old result self.new }
+        ensures { (levels : ℕ) → Ended table.entry.words.now
+            (terminal_outcome table.entry.words.now levels (around_of around.now) block (state self.old))
+            self.old result self.new }
     {
         let id = table.block(block).id;
         match end.variant {

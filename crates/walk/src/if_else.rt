@@ -18,6 +18,7 @@ use table::terminals::If;
 use values::op::Op;
 
 impl Walk<'_> {
+    /// An If: its consequent, and its alternate if that is not the fallthrough.
     #[cycle(walk)]
     pub fn visit_if(
         &mut self,
@@ -30,7 +31,9 @@ impl Walk<'_> {
         requires there { block < block_count table.words.now }
         requires ends { Ends table.words.now block (if end.test end.consequent end.alternate end.fallthrough) }
         requires fine { Fine self.old 1 18 }
-        ensures { Ended table.entry.words.now (terminal_outcome table.entry.words.now levels (around_of around.now) block (state self.old)) self.old result self.new }
+        ensures { Ended table.entry.words.now
+            (terminal_outcome table.entry.words.now levels (around_of around.now) block (state self.old))
+            self.old result self.new }
     {
         let first = self.tally.rows;
         let head = table.block(block);
@@ -77,7 +80,10 @@ impl Walk<'_> {
     ) -> Result<u32, Refused>
         requires there { block < block_count table.words.now }
         requires fine { Fine self.old 0 0 }
-        ensures { Alternated (traverse_alternate (traverse_outcome table.entry.words.now levels (around_of around.now)) block fallthrough (state self.old)) self.old result self.new }
+        ensures { Alternated
+            (traverse_alternate (traverse_outcome table.entry.words.now levels (around_of around.now))
+                block fallthrough (state self.old))
+            self.old result self.new }
     {
         if block == fallthrough {
             return Ok(0);

@@ -15,7 +15,7 @@ use control::{
 };
 use values::op::Op;
 
-// The innermost entry of the stack whose block is this.
+/// What a break to `block` resolves to: the innermost entry of the stack whose block it is.
 pub fn get_break_target(cx: &Context, block: u16) -> Option<Resolution>
     requires { Whole cx.now }
     ensures found { (visits : ℕ) → resolved_of result ≡ get_break_target (context_of visits cx.now) block }
@@ -37,7 +37,7 @@ pub fn get_break_target(cx: &Context, block: u16) -> Option<Resolution>
     }
 }
 
-// The innermost loop with this continue block.
+/// What a continue at `block` resolves to: the innermost loop on the stack with this continue block.
 pub fn get_continue_target(cx: &Context, block: u16) -> Option<Resolution>
     requires { Whole cx.now }
     ensures { (visits : ℕ) → resolved_of result ≡ get_continue_target (context_of visits cx.now) block }
@@ -59,7 +59,8 @@ pub fn get_continue_target(cx: &Context, block: u16) -> Option<Resolution>
 }
 
 impl Walk<'_> {
-    // A break to `block`, by the terminal with this id of the block `at`: its row, if it has one. Gives the number of statements.
+    /// A break to `block`, by the terminal with this id of the block `at`: its row, if it has one. Gives the number of
+    /// statements, 0 or 1.
     pub fn visit_break(
         &mut self,
         around: &Around<'_>,
@@ -89,6 +90,7 @@ impl Walk<'_> {
         Ok(1)
     }
 
+    /// A continue at `block`, by the terminal with this id of the block `at`: its row.
     pub fn visit_continue(
         &mut self,
         around: &Around<'_>,
@@ -98,7 +100,8 @@ impl Walk<'_> {
     ) -> Result<(), Refused>
         requires block_bound { block < 1024 }
         requires fine { Fine self.old 1 18 }
-        ensures { Continued (visit_continue (around_of around.now) at block id (state self.old)) self.old result self.new }
+        ensures { Continued (visit_continue (around_of around.now) at block id (state self.old))
+            self.old result self.new }
     {
         let Some(found) = get_continue_target(&self.cx, block_id(block)) else {
             return Err(Refusal::NoContinueTarget(block).after(self.tally.visits));

@@ -17,6 +17,7 @@ use table::terminals::Label;
 use values::op::Op;
 
 impl Walk<'_> {
+    /// A Label and its block.
     #[cycle(walk)]
     pub fn visit_label(
         &mut self,
@@ -29,7 +30,9 @@ impl Walk<'_> {
         requires there { block < block_count table.words.now }
         requires ends { Ends table.words.now block (label end.block end.fallthrough) }
         requires fine { Fine self.old 1 18 }
-        ensures { Ended table.entry.words.now (terminal_outcome table.entry.words.now levels (around_of around.now) block (state self.old)) self.old result self.new }
+        ensures { Ended table.entry.words.now
+            (terminal_outcome table.entry.words.now levels (around_of around.now) block (state self.old))
+            self.old result self.new }
     {
         let first = self.tally.rows;
         let head = table.block(block);

@@ -29,6 +29,7 @@ fn continue_block_of(update: Option<u32>, test: u32) -> u32
 }
 
 impl Walk<'_> {
+    /// A DoWhile: its body, and then its test.
     #[cycle(walk)]
     pub fn visit_do_while(
         &mut self,
@@ -41,7 +42,9 @@ impl Walk<'_> {
         requires there { block < block_count table.words.now }
         requires ends { Ends table.words.now block (do_while end.loop_block end.test end.fallthrough) }
         requires fine { Fine self.old 1 18 }
-        ensures { Ended table.entry.words.now (terminal_outcome table.entry.words.now levels (around_of around.now) block (state self.old)) self.old result self.new }
+        ensures { Ended table.entry.words.now
+            (terminal_outcome table.entry.words.now levels (around_of around.now) block (state self.old))
+            self.old result self.new }
     {
         let first = self.tally.rows;
         let head = table.block(block);
@@ -56,6 +59,7 @@ impl Walk<'_> {
         Ok(statement(label))
     }
 
+    /// A While: its test, and then its body.
     #[cycle(walk)]
     pub fn visit_while(
         &mut self,
@@ -68,7 +72,9 @@ impl Walk<'_> {
         requires there { block < block_count table.words.now }
         requires ends { Ends table.words.now block (while end.test end.loop_block end.fallthrough) }
         requires fine { Fine self.old 1 18 }
-        ensures { Ended table.entry.words.now (terminal_outcome table.entry.words.now levels (around_of around.now) block (state self.old)) self.old result self.new }
+        ensures { Ended table.entry.words.now
+            (terminal_outcome table.entry.words.now levels (around_of around.now) block (state self.old))
+            self.old result self.new }
     {
         let first = self.tally.rows;
         let head = table.block(block);
@@ -83,6 +89,7 @@ impl Walk<'_> {
         Ok(statement(label))
     }
 
+    /// A For: its init, test and update, and then its body.
     #[cycle(walk)]
     pub fn visit_for(
         &mut self,
@@ -93,9 +100,12 @@ impl Walk<'_> {
         end: For,
     ) -> Result<TerminalResult, Refused>
         requires there { block < block_count table.words.now }
-        requires ends { Ends table.words.now block (for end.init end.test (maybe_of end.update) end.loop_block end.fallthrough) }
+        requires ends { Ends table.words.now block
+            (for end.init end.test (maybe_of end.update) end.loop_block end.fallthrough) }
         requires fine { Fine self.old 1 18 }
-        ensures { Ended table.entry.words.now (terminal_outcome table.entry.words.now levels (around_of around.now) block (state self.old)) self.old result self.new }
+        ensures { Ended table.entry.words.now
+            (terminal_outcome table.entry.words.now levels (around_of around.now) block (state self.old))
+            self.old result self.new }
     {
         let first = self.tally.rows;
         let head = table.block(block);
@@ -122,6 +132,7 @@ impl Walk<'_> {
         Ok(statement(label))
     }
 
+    /// A ForOf: its init and its test, and then its body.
     #[cycle(walk)]
     pub fn visit_for_of(
         &mut self,
@@ -134,7 +145,9 @@ impl Walk<'_> {
         requires there { block < block_count table.words.now }
         requires ends { Ends table.words.now block (for_of end.init end.test end.loop_block end.fallthrough) }
         requires fine { Fine self.old 1 18 }
-        ensures { Ended table.entry.words.now (terminal_outcome table.entry.words.now levels (around_of around.now) block (state self.old)) self.old result self.new }
+        ensures { Ended table.entry.words.now
+            (terminal_outcome table.entry.words.now levels (around_of around.now) block (state self.old))
+            self.old result self.new }
     {
         let first = self.tally.rows;
         let head = table.block(block);
@@ -159,6 +172,7 @@ impl Walk<'_> {
         Ok(statement(label))
     }
 
+    /// A ForIn: its init, and then its body.
     #[cycle(walk)]
     pub fn visit_for_in(
         &mut self,
@@ -171,7 +185,9 @@ impl Walk<'_> {
         requires there { block < block_count table.words.now }
         requires ends { Ends table.words.now block (for_in end.init end.loop_block end.fallthrough) }
         requires fine { Fine self.old 1 18 }
-        ensures { Ended table.entry.words.now (terminal_outcome table.entry.words.now levels (around_of around.now) block (state self.old)) self.old result self.new }
+        ensures { Ended table.entry.words.now
+            (terminal_outcome table.entry.words.now levels (around_of around.now) block (state self.old))
+            self.old result self.new }
     {
         let first = self.tally.rows;
         let head = table.block(block);
@@ -195,7 +211,7 @@ impl Walk<'_> {
         Ok(statement(label))
     }
 
-    // The body of a loop whose values are made.
+    // The body of a loop, refused where the loop block is taken.
     #[cycle(walk)]
     fn traverse_loop(
         &mut self,
@@ -210,7 +226,10 @@ impl Walk<'_> {
         requires there { block < block_count table.words.now }
         requires loop_bound { loop_block < block_count table.words.now }
         requires fine { Fine self.old 0 0 }
-        ensures { Traversed (body_outcome table.entry.words.now levels (around_of around.now) block (maybe_of label) loop_block taken (state self.old)) self.old result self.new }
+        ensures { Traversed
+            (body_outcome table.entry.words.now levels (around_of around.now)
+                block (maybe_of label) loop_block taken (state self.old))
+            self.old result self.new }
     {
         if taken {
             return Err(Refusal::LoopScheduled(block).after(self.tally.visits));

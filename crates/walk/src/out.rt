@@ -19,14 +19,14 @@ use values::rows::put;
 use values::sequence::value_block_result_to_sequence;
 use values::value_walk::{visit_value_block, visit_value_block_terminal};
 
-// A label as a row's word: paper 01's 65,535 where there is none.
+/// A label as a row's word: 65,535 where there is none.
 pub fn or_none(label: Option<u32>) -> u32
     ensures { result ≡ tree_rows.or_none (maybe_of label) }
 {
     label.unwrap_or(65535)
 }
 
-// M-101: a line is written after those that are out, if a whole place is left.
+// A line is written after those that are out, if a whole place is left.
 fn write_line(index: &mut [u32], lines: u32, label: u32, first: u32, closing: u32)
     ensures { index.new ≡ line_placed index.old lines label first closing }
 {
@@ -37,6 +37,7 @@ fn write_line(index: &mut [u32], lines: u32, label: u32, first: u32, closing: u3
 }
 
 impl Walk<'_> {
+    /// A row.
     pub fn put(&mut self, op: Op, a: u32, b: u32, c: u32, d: u32, e: u32)
         requires { self.old.tally.rows < 4000000000 }
         ensures { RowMade (tree_rows.row (number_of op) a b c d e) self.old self.new }
@@ -44,7 +45,7 @@ impl Walk<'_> {
         self.tally.rows = put(self.tree, self.tally.rows, op, a, b, c, d, e);
     }
 
-    // The closing row of a statement, and its line if it has a label. Its own rows begin at row `first`.
+    /// The closing row of a statement, and its line if it has a label. The statement's rows begin at row `first`.
     pub fn close(
         &mut self,
         label: Option<u32>,
@@ -68,7 +69,7 @@ impl Walk<'_> {
         }
     }
 
-    // The rows of a block's own instructions.
+    /// The rows of a block's own instructions.
     pub fn put_instructions(&mut self, table: Table<'_>, first: u32, count: u32)
         requires there { first + count ≤ instruction_count table.words.now }
         requires rows { self.old.tally.rows < 3000000000 }
@@ -77,7 +78,7 @@ impl Walk<'_> {
         self.tally.rows = put_instructions(table, self.tree, self.tally.rows, first, count);
     }
 
-    // The value of a block.
+    /// The value of a block, from its rows on.
     pub fn visit_value(
         &mut self,
         table: Table<'_>,
@@ -87,14 +88,16 @@ impl Walk<'_> {
     ) -> Result<ValueBlockResult, Refused>
         requires there { block < block_count table.words.now }
         requires budget { Budget self.old }
-        ensures { ValueMade table.entry.words.now (visit table.entry.words.now levels block (maybe_of None) span self.old.tally.visits) self.old result self.new }
+        ensures { ValueMade table.entry.words.now
+            (visit table.entry.words.now levels block (maybe_of None) span self.old.tally.visits)
+            self.old result self.new }
     {
         let value = visit_value_block(table, self.tree, self.tally, levels, block, None, span)?;
         self.tally = value.tally;
         Ok(value)
     }
 
-    // The value of the value terminal at the end of a block.
+    /// The value of the value terminal at the end of a block.
     pub fn visit_value_terminal(
         &mut self,
         table: Table<'_>,
@@ -103,14 +106,15 @@ impl Walk<'_> {
     ) -> Result<ValueBlockResult, Refused>
         requires there { block < block_count table.words.now }
         requires budget { Budget self.old }
-        ensures { TerminalMade table.entry.words.now (terminal_outcome table.entry.words.now levels block self.old.tally.visits) self.old result self.new }
+        ensures { TerminalMade table.entry.words.now
+            (terminal_outcome table.entry.words.now levels block self.old.tally.visits) self.old result self.new }
     {
         let value = visit_value_block_terminal(table, self.tree, self.tally, levels, block)?;
         self.tally = value.tally;
         Ok(value)
     }
 
-    // The value of a block as one sequence: an init, or ForOf's test.
+    /// The value of a block as one sequence: an init, or ForOf's test.
     pub fn visit_flat(
         &mut self,
         table: Table<'_>,
@@ -120,14 +124,16 @@ impl Walk<'_> {
     ) -> Result<(), Refused>
         requires there { block < block_count table.words.now }
         requires budget { Budget self.old }
-        ensures { FlatMade table.entry.words.now span (visit table.entry.words.now levels block (maybe_of None) span self.old.tally.visits) self.old result self.new }
+        ensures { FlatMade table.entry.words.now span
+            (visit table.entry.words.now levels block (maybe_of None) span self.old.tally.visits)
+            self.old result self.new }
     {
         let value = self.visit_value(table, levels, block, span)?;
         self.tally.rows = value_block_result_to_sequence(table, self.tree, value, span);
         Ok(())
     }
 
-    // A For's update, if it has one. Gives whether it is present.
+    /// A For's update, if it has one. Gives 1 if it has one, else 0.
     pub fn visit_update(
         &mut self,
         table: Table<'_>,
@@ -137,7 +143,9 @@ impl Walk<'_> {
     ) -> Result<u32, Refused>
         requires there { IfSome update (λ block. block < block_count table.words.now) }
         requires budget { Budget self.old }
-        ensures { UpdateMade (visit_update (visit table.entry.words.now levels) (maybe_of update) span self.old.tally.visits) self.old result self.new }
+        ensures { UpdateMade
+            (visit_update (visit table.entry.words.now levels) (maybe_of update) span self.old.tally.visits)
+            self.old result self.new }
     {
         match update {
             None => Ok(0),

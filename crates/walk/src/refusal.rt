@@ -1,10 +1,11 @@
-// What the statement walk refuses, with the place of each: the block that paper 01 names, else the innermost block still being visited.
+// What the statement walk refuses.
 ghost use Rattle.std.specs.Prelude.{◌≡◌};
 ghost use Rattle.walk.specs.Refusal.{refusal_code, refusal_place, refused_after, refused_value};
 
 use values::refusal;
 
-// Paper 01's number of each: `refusal_code` in specs/Refusal.antt. A value's refusal is passed on as it is.
+/// What the statement walk refuses, with the place of each: the block that the refusal names, else the innermost block
+/// still being visited. A value's refusal is passed on as it is.
 #[derive(Clone, Copy, Debug, PartialEq, Eq, Drop)]
 pub enum Refusal {
     MissingBlock(u32),
@@ -23,13 +24,14 @@ pub enum Refusal {
     NoSuchLabel(u32),
     TooDeep(u32),
     TooManyVisits(u32),
-    // the Rust has messages here that never occur
+    // these two never occur: the Rust has messages for them
     AlreadyScheduled(u32),
     UnscheduleOutOfOrder,
     Value(refusal::Refusal),
 }
 
 impl Refusal {
+    /// The refusal's number.
     pub fn code(self) -> u32
         ensures { result ≡ refusal_code self }
     {
@@ -56,6 +58,7 @@ impl Refusal {
         }
     }
 
+    /// The refusal's place: a block.
     pub fn place(self) -> u32
         ensures { result ≡ refusal_place self }
     {
@@ -82,7 +85,7 @@ impl Refusal {
         }
     }
 
-    // The refusal after the visits begun.
+    /// The refusal after the visits begun.
     pub fn after(self, visits: u32) -> Refused
         ensures { result ≡ refused_after self visits }
     {
@@ -93,9 +96,7 @@ impl Refusal {
     }
 }
 
-// A refusal, and the visits begun before it.
-// (A type of this crate, and no alias of a generic one that `values` would have: `?` passes a value's refusal on by the `From` below, and Rust allows
-// that impl for a type of this crate alone.)
+/// A refusal, and the visits begun before it.
 #[derive(Clone, Copy, Debug, PartialEq, Eq, Drop)]
 pub struct Refused {
     pub refusal: Refusal,

@@ -14,7 +14,8 @@ use table::terminals::Scope;
 use values::op::Op;
 
 impl Walk<'_> {
-    // Two terminals call it: inlined, so that neither takes a frame more.
+    /// A Scope or a PrunedScope, by its op, and its block. Inlined into the visit of a terminal, where it takes no
+    /// frame of its own.
     #[cycle(walk)]
     #[inline(always)]
     pub fn visit_scope(
@@ -29,7 +30,9 @@ impl Walk<'_> {
         requires there { block < block_count table.words.now }
         requires ends { Scoped table.words.now block end op }
         requires fine { Fine self.old 1 18 }
-        ensures { Ended table.entry.words.now (terminal_outcome table.entry.words.now levels (around_of around.now) block (state self.old)) self.old result self.new }
+        ensures { Ended table.entry.words.now
+            (terminal_outcome table.entry.words.now levels (around_of around.now) block (state self.old))
+            self.old result self.new }
     {
         let first = self.tally.rows;
         let next = self.unless_scheduled(end.fallthrough);

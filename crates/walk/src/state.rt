@@ -1,14 +1,16 @@
-// The state of the walk: the Context, what is put out, and the visits begun. Each step changes one part of it, as in the Rust.
+// The state of the walk: the Context, what is put out, and the visits begun. Each step changes one part of it, as in
+// the Rust.
 ghost use Rattle.std.specs.Prelude.{◌≡◌, ◌≤◌, ◌<◌, IfSome};
 ghost use Rattle.table.specs.Words.{block_count};
 ghost use Rattle.table.specs.Table.{table_of};
 ghost use Rattle.table.specs.Columns.{maybe_of};
 ghost use Rattle.definition.specs.Context.{is_scheduled, schedule, unschedule, target_loop, schedule_catch_handler};
 ghost use Rattle.definition.specs.Statement.{enter_block, unless_scheduled, schedule_if, schedule_switch, unschedule_if, unschedule_all, mark_scope_fallthrough_if, loop_is_taken};
+ghost use Rattle.definition.specs.Result.{ok};
 ghost use Rattle.control.specs.Abstraction.{target_of};
 ghost use Rattle.control.specs.Contract as control;
 ghost use Rattle.control.specs.Contract.{Named, Scheduled, Last, Unscheduled};
-ghost use Rattle.walk.specs.State.{state, last_ids, blocked_so, Whole, Fine, Enters, Does, Room, entries_if, Reaches, Refuses, Marked};
+ghost use Rattle.walk.specs.State.{state, last_ids, blocked_so, Whole, Fine, Enters, Does, Room, Shifted, entries_if, Reaches, Refuses, Marked};
 
 use crate::refusal::{Refusal, Refused};
 use control::{Blocked, Context, ControlFlowTarget, Entry, block_id, is_scheduled};
@@ -16,7 +18,8 @@ use table::Table;
 use table::terminals::Terminal;
 use values::result::Tally;
 
-// `tree` and `index` are lent: rows and lines are written as far as they fit, and counted on. `tally` has the rows out and the visits begun.
+/// The state of the walk. `tree` and `index` are lent: rows and lines are written as far as they fit, and counted on.
+/// `tally` has the rows out and the visits begun, and `lines` the lines out.
 #[derive(Drop)]
 pub struct Walk<'a> {
     pub cx: Context,
@@ -37,7 +40,18 @@ fn blocked(reason: Blocked, target: ControlFlowTarget) -> Refusal
     }
 }
 
-// The Context goes in by value, and the next one comes back. A function of its own, so that LLVM sees that the Context need not be copied whole.
+/// The number of entries that a statement has of its own: one if it has a label.
+pub fn entries_if(label: Option<u32>) -> u32
+    ensures { result ≡ entries_if label }
+{
+    match label {
+        None => 0,
+        Some(_) => 1,
+    }
+}
+
+// The Context goes in by value, and the next one comes back. In functions of their own, so that LLVM need not copy the
+// Context whole.
 fn scheduled(cx: &mut Context, target: ControlFlowTarget)
     requires named { Named target }
     requires room { control.Room cx.old }
@@ -54,11 +68,12 @@ fn unscheduled(cx: &mut Context, last: Entry)
 }
 
 impl Walk<'_> {
-    // A visit begins.
+    /// A visit begins: the block is there, and is emitted from now on. Refuses 31, 10 and 11, in this order.
     pub fn enter_block(&mut self, table: Table<'_>, block: u32) -> Result<(), Refused>
         requires there { block < block_count table.words.now }
         requires fine { Fine self.old 0 0 }
-        ensures { Enters table.entry.words.now block (enter_block (table_of table.entry.words.now) block (state self.old)) self.old result self.new }
+        ensures { Enters table.entry.words.now block
+            (enter_block (table_of table.entry.words.now) block (state self.old)) self.old result self.new }
     {
         if self.tally.visits == 8192 {
             return Err(Refusal::TooManyVisits(block).after(self.tally.visits));
@@ -74,7 +89,7 @@ impl Walk<'_> {
         Ok(())
     }
 
-    // A catch handler counts as scheduled here, and nowhere else.
+    /// Whether a block is scheduled. A catch handler counts as scheduled here, and nowhere else.
     #[tactic(auto, unfolding(definition::specs::Context::is_scheduled, control::specs::Abstraction::context_of))]
     pub fn is_scheduled(&self, block: u32) -> bool
         requires { block < 1024 }
@@ -83,7 +98,7 @@ impl Walk<'_> {
         is_scheduled(&self.cx.scheduled, &self.cx.catch_handlers, block_id(block))
     }
 
-    // A nested block that must not be scheduled.
+    /// Refuses a nested block that is scheduled.
     pub fn refuse_scheduled(&self, block: u32, refusal: Refusal) -> Result<(), Refused>
         requires { block < 1024 }
         ensures { Refuses (is_scheduled (state self.now) block) refusal self.now result }
@@ -94,7 +109,7 @@ impl Walk<'_> {
         Ok(())
     }
 
-    // 16 loop scheduled or equal to its fallthrough, asked of the state before the loop is scheduled.
+    /// Whether a loop block is scheduled, or is the loop's fallthrough: 16. It is asked before the loop is scheduled.
     #[tactic(auto, unfolding(definition::specs::Statement::loop_is_taken))]
     pub fn loop_is_taken(&self, loop_block: u32, fallthrough: u32) -> bool
         requires { loop_block < 1024 }
@@ -103,7 +118,7 @@ impl Walk<'_> {
         self.is_scheduled(loop_block) || loop_block == fallthrough
     }
 
-    // The fallthrough as the statement's label: none where it is scheduled.
+    /// The fallthrough as the statement's label: none where it is scheduled.
     #[tactic(auto, unfolding(definition::specs::Statement::unless_scheduled))]
     pub fn unless_scheduled(&self, fallthrough: u32) -> Option<u32>
         requires { fallthrough < 1024 }
@@ -116,7 +131,8 @@ impl Walk<'_> {
         Some(fallthrough)
     }
 
-    // The same for If, Switch, While, Label and Try, which ask first whether it is reachable: 10 where it is missing.
+    /// The same for If, Switch, While, Label and Try, which ask first whether it is reachable. Refuses 10 where it is
+    /// missing.
     pub fn unless_unreachable(
         &self,
         table: Table<'_>,
@@ -132,7 +148,9 @@ impl Walk<'_> {
         }
     }
 
-    // The one way to schedule any target. Not inlined into the recursion: each level would keep copies of the scheduled set.
+    /// Schedules any target: it is on the stack under the next id, and its blocks are scheduled. Refuses 15 a loop
+    /// whose continue block is scheduled. No other function schedules. Inlined into the recursion, each level would
+    /// keep copies of the scheduled set.
     #[inline(never)]
     pub fn schedule(&mut self, target: ControlFlowTarget) -> Result<(), Refused>
         requires named { Named target }
@@ -143,11 +161,11 @@ impl Walk<'_> {
         if let Some(reason) = self.cx.refused {
             return Err(blocked(reason, target).after(self.tally.visits));
         }
-        self.cx.stack[self.cx.len - 1] = self.cx.pushed; // the stack's last, in its place
+        self.cx.stack[self.cx.len - 1] = self.cx.pushed; // the entry, in its place
         Ok(())
     }
 
-    // An If, Label, Try or scope is on the stack only if it has a label.
+    /// An If, Label, Try or scope is on the stack only if it has a label.
     #[tactic(auto, unfolding(definition::specs::Statement::schedule_if))]
     pub fn schedule_if(&mut self, label: Option<u32>) -> Result<(), Refused>
         requires named { IfSome label (λ block. block < 1024) }
@@ -162,12 +180,13 @@ impl Walk<'_> {
         }
     }
 
-    // The same of a Switch.
+    /// The same of a Switch.
     #[tactic(auto, unfolding(definition::specs::Statement::schedule_switch))]
     pub fn schedule_switch(&mut self, label: Option<u32>) -> Result<(), Refused>
         requires named { IfSome label (λ block. block < 1024) }
         requires room { Room self.old.cx }
-        ensures { Does (schedule_switch (maybe_of label) (state self.old)) self.old (entries_if label) 0 result self.new }
+        ensures { Does (schedule_switch (maybe_of label) (state self.old))
+            self.old (entries_if label) 0 result self.new }
     {
         match label {
             None => Ok(()),
@@ -177,7 +196,7 @@ impl Walk<'_> {
         }
     }
 
-    // A scope's fallthrough, if it is taken.
+    /// A scope's fallthrough, if it is taken, is one from now on.
     pub fn mark_scope_fallthrough_if(&mut self, fallthrough: Option<u32>)
         requires named { IfSome fallthrough (λ block. block < 1024) }
         requires whole { Whole self.old.cx }
@@ -188,7 +207,7 @@ impl Walk<'_> {
         }
     }
 
-    // A catch handler counts as scheduled.
+    /// A catch handler counts as scheduled from now on.
     pub fn schedule_catch_handler(&mut self, handler: u32)
         requires named { handler < 1024 }
         requires whole { Whole self.old.cx }
@@ -197,7 +216,7 @@ impl Walk<'_> {
         self.cx.catch_handlers[handler as usize] = true;
     }
 
-    // A loop is always on the control stack, even with no label.
+    /// A loop is always on the stack, even with no label.
     pub fn schedule_loop(
         &mut self,
         fallthrough: u32,
@@ -208,7 +227,8 @@ impl Walk<'_> {
         requires continue_bound { continue_block < 1024 }
         requires loop_bound { loop_block < 1024 }
         requires room { Room self.old.cx }
-        ensures { Does (schedule (target_loop fallthrough continue_block loop_block) (state self.old)) self.old 1 0 result self.new }
+        ensures { Does (schedule (target_loop fallthrough continue_block loop_block) (state self.old))
+            self.old 1 0 result self.new }
     {
         self.schedule(ControlFlowTarget::Loop {
             block: block_id(fallthrough),
@@ -217,7 +237,7 @@ impl Walk<'_> {
         })
     }
 
-    // Takes off the stack's last entry, whose id is this.
+    /// Takes off the stack's last entry, whose id is this.
     #[inline(never)]
     pub fn unschedule(&mut self, id: u16) -> Result<(), Refused>
         requires { Whole self.old.cx }
@@ -234,25 +254,29 @@ impl Walk<'_> {
         Ok(())
     }
 
-    // Takes off so many of the stack's last entries: those of a Switch's cases. The stack has the ids that the Rust keeps in a list.
-    pub fn unschedule_all(&mut self, count: u32) -> Result<(), Refused>
+    /// Takes off so many of the stack's last entries: those of a Switch and its cases. Their ids, which the Rust keeps
+    /// in a list, stand on the stack.
+    #[inline(never)]
+    pub fn unschedule_all(&mut self, count: u32)
         requires whole { Whole self.old.cx }
         requires there { count ≤ self.old.cx.len }
-        ensures { Does (unschedule_all (last_ids count (state self.old)) (state self.old)) self.old 0 count result self.new }
+        ensures same { unschedule_all (last_ids count (state self.old)) (state self.old) ≡ ok (state self.new) }
+        ensures off { Shifted self.old self.new 0 count }
     {
         let mut left = count;
         while left > 0 {
             let last = self.cx.stack[self.cx.len - 1];
-            self.unschedule(last.id)?;
+            unscheduled(&mut self.cx, last);
             left -= 1;
         }
-        Ok(())
     }
 
+    /// Takes off the entry of a statement with a label.
     #[tactic(auto, unfolding(definition::specs::Statement::unschedule_if))]
     pub fn unschedule_if(&mut self, label: Option<u32>, id: u16) -> Result<(), Refused>
         requires { Whole self.old.cx }
-        ensures { Does (unschedule_if (maybe_of label) id (state self.old)) self.old 0 (entries_if label) result self.new }
+        ensures { Does (unschedule_if (maybe_of label) id (state self.old))
+            self.old 0 (entries_if label) result self.new }
     {
         match label {
             None => Ok(()),

@@ -1,5 +1,5 @@
 // The arm Switch: its cases from the last to the first.
-ghost use Rattle.std.specs.Prelude.{◌<◌, ◌≤◌};
+ghost use Rattle.std.specs.Prelude.{◌<◌, ℕ, List};
 ghost use Rattle.table.specs.Words.{block_count};
 ghost use Rattle.table.specs.Promise.{Ends};
 ghost use Rattle.table.specs.Table.{switch};
@@ -10,7 +10,7 @@ ghost use Rattle.walk.specs.State.{state, Fine};
 use crate::around::{Around, Enclosing, rule};
 use crate::out::or_none;
 use crate::refusal::{Refusal, Refused};
-use crate::state::Walk;
+use crate::state::{Walk, entries_if};
 use crate::visit::{TerminalResult, statement};
 use control::{ControlFlowTarget, block_id};
 use table::Table;
@@ -18,6 +18,7 @@ use table::terminals::Switch;
 use values::op::Op;
 
 impl Walk<'_> {
+    /// A Switch and its cases.
     #[cycle(walk)]
     pub fn visit_switch(
         &mut self,
@@ -30,12 +31,13 @@ impl Walk<'_> {
         requires there { block < block_count table.words.now }
         requires ends { Ends table.words.now block (switch end.test end.first end.number end.fallthrough) }
         requires fine { Fine self.old 1 18 }
-        ensures { Ended table.entry.words.now (terminal_outcome table.entry.words.now levels (around_of around.now) block (state self.old)) self.old result self.new }
+        ensures { Ended table.entry.words.now
+            (terminal_outcome table.entry.words.now levels (around_of around.now) block (state self.old))
+            self.old result self.new }
     {
         let first = self.tally.rows;
         let head = table.block(block);
         let label = self.unless_unreachable(table, end.fallthrough)?;
-        let id = self.cx.next_schedule_id;
         self.schedule_switch(label)?;
         let inside = Around::Within {
             rule: rule(around),
@@ -43,7 +45,7 @@ impl Walk<'_> {
             outer: &*around,
         };
         let built = self.traverse_cases(table, &inside, levels, block, end)?;
-        self.unschedule_if(label, id)?;
+        self.unschedule_all(built + entries_if(label));
         self.close(
             label,
             first,
@@ -57,7 +59,8 @@ impl Walk<'_> {
         Ok(statement(label))
     }
 
-    // The cases, the last first, each scheduled after it is built until all are. Gives the number of those built.
+    // The cases, the last first, each scheduled after it is built. Gives the number of those built, whose entries stay
+    // on the stack.
     #[cycle(walk)]
     fn traverse_cases(
         &mut self,
@@ -70,7 +73,10 @@ impl Walk<'_> {
         requires there { block < block_count table.words.now }
         requires ends { Ends table.words.now block (switch end.test end.first end.number end.fallthrough) }
         requires fine { Fine self.old 0 0 }
-        ensures { Cased end.number (cases_outcome table.entry.words.now levels (around_of around.now) block end.fallthrough end.first end.number (state self.old)) self.old result self.new }
+        ensures { (own : List ℕ) → Cased end.number own
+            (cases_outcome table.entry.words.now levels (around_of around.now)
+                block end.fallthrough end.first end.number own (state self.old))
+            self.old result self.new }
     {
         let mut left = end.number;
         let mut built: u32 = 0;
@@ -90,7 +96,6 @@ impl Walk<'_> {
             })?;
             built += 1;
         }
-        self.unschedule_all(built)?;
         Ok(built)
     }
 }

@@ -17,6 +17,7 @@ use table::terminals::Try;
 use values::op::Op;
 
 impl Walk<'_> {
+    /// A Try: its block and its handler.
     #[cycle(walk)]
     pub fn visit_try(
         &mut self,
@@ -27,9 +28,12 @@ impl Walk<'_> {
         end: Try,
     ) -> Result<TerminalResult, Refused>
         requires there { block < block_count table.words.now }
-        requires ends { Ends table.words.now block (try end.block end.handler end.fallthrough (unless_none end.binding)) }
+        requires ends { Ends table.words.now block
+            (try end.block end.handler end.fallthrough (unless_none end.binding)) }
         requires fine { Fine self.old 1 18 }
-        ensures { Ended table.entry.words.now (terminal_outcome table.entry.words.now levels (around_of around.now) block (state self.old)) self.old result self.new }
+        ensures { Ended table.entry.words.now
+            (terminal_outcome table.entry.words.now levels (around_of around.now) block (state self.old))
+            self.old result self.new }
     {
         let first = self.tally.rows;
         let head = table.block(block);

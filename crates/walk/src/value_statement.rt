@@ -12,6 +12,7 @@ use table::Table;
 use values::op::Op;
 
 impl Walk<'_> {
+    /// The value of a value terminal, as an instruction with the terminal's own span.
     pub fn visit_value_statement(
         &mut self,
         table: Table<'_>,
@@ -22,7 +23,8 @@ impl Walk<'_> {
         requires there { block < block_count table.words.now }
         requires ends { ValueEnds table.words.now block fallthrough }
         requires fine { Fine self.old 1 18 }
-        ensures { (around : definition.Around) → Ended table.entry.words.now (terminal_outcome table.entry.words.now levels around block (state self.old)) self.old result self.new }
+        ensures { (around : definition.Around) → Ended table.entry.words.now
+            (terminal_outcome table.entry.words.now levels around block (state self.old)) self.old result self.new }
     {
         let head = table.block(block);
         let next = self.unless_scheduled(fallthrough);

@@ -1,4 +1,5 @@
-// The statement walk: traverse_block and visit_block, and which arm a terminal has. `levels` is the number of levels of depth that nested blocks have left.
+// The statement walk: traverse_block and visit_block, and which arm a terminal has. `levels` is the number of levels of
+// depth that nested blocks have left.
 ghost use Rattle.std.specs.Prelude.{◌≡◌, ◌<◌, false};
 ghost use Rattle.table.specs.Words.{block_count};
 ghost use Rattle.table.specs.Table.{table_of, terminal_at, is_absent};
@@ -13,21 +14,21 @@ use table::Table;
 use table::terminals::Terminal;
 use values::op::Op;
 
-// What a terminal gives: the number of its statements, 0 or 1, and the block to go on with at the same depth, if any.
+/// What a terminal gives: the number of its statements, 0 or 1, and the block to go on with at the same depth, if any.
 #[derive(Clone, Copy, Drop)]
 pub struct TerminalResult {
     pub count: u32,
     pub next: Option<u32>,
 }
 
-// No statement, and the block to go on with.
+/// No statement, and the block to go on with.
 pub fn nothing(next: Option<u32>) -> TerminalResult
     ensures { result ≡ record { count = 0; next = next } }
 {
     TerminalResult { count: 0, next }
 }
 
-// One statement, and the block to go on with.
+/// One statement, and the block to go on with.
 pub fn statement(next: Option<u32>) -> TerminalResult
     ensures { result ≡ record { count = 1; next = next } }
 {
@@ -35,7 +36,7 @@ pub fn statement(next: Option<u32>) -> TerminalResult
 }
 
 impl Walk<'_> {
-    // A nested block, one level deeper.
+    /// A nested block, one level deeper, and its BLOCK row. Refuses 30 where no level is left.
     #[cycle(walk)]
     pub fn traverse_block(
         &mut self,
@@ -46,7 +47,9 @@ impl Walk<'_> {
     ) -> Result<(), Refused>
         requires there { block < block_count table.words.now }
         requires fine { Fine self.old 0 0 }
-        ensures { Traversed (traverse_outcome table.entry.words.now levels (around_of around.now) block (state self.old)) self.old result self.new }
+        ensures { Traversed
+            (traverse_outcome table.entry.words.now levels (around_of around.now) block (state self.old))
+            self.old result self.new }
     {
         if levels == 0 {
             return Err(Refusal::TooDeep(block).after(self.tally.visits));
@@ -67,7 +70,8 @@ impl Walk<'_> {
     ) -> Result<u32, Refused>
         requires there { block < block_count table.words.now }
         requires fine { Fine self.old 0 0 }
-        ensures { Listed (visit_outcome table.entry.words.now levels (around_of around.now) block (state self.old)) self.old result self.new }
+        ensures { Listed (visit_outcome table.entry.words.now levels (around_of around.now) block (state self.old))
+            self.old result self.new }
     {
         let mut block = block;
         let mut count: u32 = 0;
@@ -96,10 +100,13 @@ impl Walk<'_> {
         requires there { block < block_count table.words.now }
         requires present { is_absent (terminal_at (table_of table.words.now) block) ≡ false }
         requires fine { Fine self.old 1 18 }
-        ensures { Ended table.entry.words.now (terminal_outcome table.entry.words.now levels (around_of around.now) block (state self.old)) self.old result self.new }
+        ensures { Ended table.entry.words.now
+            (terminal_outcome table.entry.words.now levels (around_of around.now) block (state self.old))
+            self.old result self.new }
     {
         match table.terminal(block) {
-            Terminal::Absent | Terminal::Unreachable => Ok(nothing(None)),
+            Terminal::Absent => unreachable!(), // the block was entered
+            Terminal::Unreachable => Ok(nothing(None)),
             Terminal::Throw(end) => Ok(self.visit_throw(table, block, end)),
             Terminal::Return(end) => Ok(self.visit_return(table, block, end)),
             Terminal::Goto(end) => self.visit_goto(table, around, block, end),

@@ -2,7 +2,7 @@
 -- the calls ensure, in their order; `refuses` hands on a refusal. At a return the parts stand behind one another (`puts`), and omega adds up the bounds.
 use Rattle.definition.specs.Context.{with_visits}
 use Rattle.definition.specs.Result.{ok, ◌>>=◌, refuse_if}
-use Rattle.definition.specs.Statement.{visit_terminal, traverse_alternate, traverse_unscheduled, traverse_enclosed, traverse_consequent, then_next, instruction_statements, followed_by}
+use Rattle.definition.specs.Statement.{visit_terminal, traverse_alternate, traverse_unscheduled, traverse_enclosed, traverse_consequent, traverse_cases, schedule_ids, then_next, instruction_statements, followed_by}
 use Rattle.definition.specs.Tree.{done, IF, LABEL, WHILE, DOWHILE, FOR, FOROF, FORIN, SWITCH, TRY, SCOPE, no_cases, CASE}
 use Rattle.definition.proofs.Lines.{chain_put, no_list_put, parts_label, parts_while, parts_do_while, parts_try, parts_scope, parts_for, parts_for_of, parts_for_in, parts_switch, no_case_put, case_put, parts_else, single_put, out_nil}
 use Rattle.control.specs.Abstraction.{context_of}
@@ -10,20 +10,19 @@ use Rattle.table.specs.Table.{table_of, rows_from, block_at, unless_none}
 use Rattle.table.proofs.ColumnLaws.{head_rows}
 use Rattle.table.proofs.BlockLaws.{length_rows}
 use Rattle.walk.proofs.MetLaws.{refuses, same_state, kept, traverse_30, traverse_more, visit_unroll, terminal_by, chain_count}
-use Rattle.walk.proofs.MetLaws.{room_of, line_room, entries_one, fine_shifted, fine_after, fine_next, fine_entered, quiet_out, closes, parts_of_if, loop_is, fallthrough_there, nothing_at, fine_valued, valued_state, fine_less, spent_state, binding_word, scope_row_is, value_ends, room_built, fine_case, consequent_nested, then_body, then_body_off}
+use Rattle.walk.proofs.MetLaws.{room_of, line_room, entries_one, fine_shifted, fine_after, fine_next, fine_entered, quiet_out, closes, parts_of_if, loop_is, fallthrough_there, nothing_at, not_absent, fine_valued, valued_state, fine_less, spent_state, binding_word, scope_row_is, value_ends, room_built, fine_case, consequent_nested, then_body, then_body_off}
 use Rattle.walk.proofs.JumpLaws.{break_unlined_by}
 use Rattle.definition.specs.Output.{◌⊕◌, instructions_out}
 use Rattle.definition.specs.Put.{step_put}
 use Rattle.walk.proofs.ListLaws.{first_follows, ends_ok, ends_refused, goes_on, then_more}
-use Rattle.walk.proofs.EntriesLaws.{same_ids, scheduled_ids}
-use Rattle.walk.proofs.BuildingLaws.{none_built, builds_refused, builds_on, skips, few_entries, closes_refused, closes_ok}
-use Rattle.walk.proofs.CasesLaws.{closes_switch, cases_split}
+use Rattle.walk.proofs.EntriesLaws.{same_ids, scheduled_ids, ids_length}
+use Rattle.walk.proofs.CasesLaws.{cases_split, none_built, builds_refused, builds_same, builds_on, all_built, switch_ids, last_are, last_there}
 use Rattle.definition.specs.Value.{value_block_result_to_sequence}
 use Rattle.values.specs.declared.result.Tally.{Tally}
 use Rattle.walk.specs.Around.{around_of}
 use Rattle.walk.proofs.AroundLaws.{around_within}
 use Rattle.walk.proofs.OutLaws.{out_length}
-use Rattle.walk.specs.Met.{terminal_result, block_result, body_outcome, cases_closed}
+use Rattle.walk.specs.Met.{terminal_result, block_result, body_outcome}
 use mathlib.Core.Bool.{true, false}
 use mathlib.Core.Option.{none, some}
 use mathlib.Core.Path.{◌≡◌, refl, sym, ap, ◌∙◌}
@@ -482,11 +481,14 @@ visit_terminal-returns-in-MaybeThrow t c =
       numbers = omega (arith, c.requires.fine.visits);
     })
 
-pub visit_terminal-returns-in-Absent : goal.visit_terminal-returns-in-Absent
-visit_terminal-returns-in-Absent t c =
+pub visit_terminal-unreachable-requires : goal.visit_terminal-unreachable-requires
+visit_terminal-unreachable-requires t c = not_absent _ _ (rw c.in-Absent.is at c.terminal.ensures) c.requires.present
+
+pub visit_terminal-returns-in-Unreachable : goal.visit_terminal-returns-in-Unreachable
+visit_terminal-returns-in-Unreachable t c =
     rw c.nothing.ensures (record {
       part = none;
-      same = nothing_at _ _ _ _ _ c.terminal.result c.terminal.ensures c.requires.present c.in-Absent.is;
+      same = nothing_at _ _ _ _ _ (rw c.in-Unreachable.is at c.terminal.ensures);
       puts = λ origin out o. rw (out_nil out) o;
       says = record { count = refl; few = omega arith; there = tt };
       whole = c.requires.fine.whole;
@@ -1186,26 +1188,38 @@ visit_switch-returns-in_err-schedule_switch t c =
 pub visit_switch-returns-in_err-built : goal.visit_switch-returns-in_err-built
 unfolding visit_terminal ◌>>=◌ context_of
 visit_switch-returns-in_err-built t c =
+    let own = schedule_ids (maybe_of c.in_ok-label.label) c.args.self.now.cx.next_schedule_id in
     refuses _ _ _ c.from_residual-in_err-built.ensures
-    (terminal_by _ _ _ _ _ c.requires.ends ∙ rw (c.in_ok-label.ensures.0, c.in_ok-schedule_switch.ensures.0)
-    (closes_switch _ _ _ _ (maybe_of c.in_ok-label.label) c.args.self.now.cx.next_schedule_id _ (λ cases after. ok (terminal_result (maybe_of c.in_ok-label.label) (some (SWITCH c.args.end.test (block_at (table_of c.args.table.words.now) c.args.block).id (maybe_of c.in_ok-label.label) cases)) after))
-    ∙ rw (rw (around_within c.rule.result _ c.args.around c.rule.ensures) at c.in_err-built.ensures) refl))
+    (terminal_by _ _ _ _ _ c.requires.ends ∙ rw (c.in_ok-label.ensures.0, c.in_ok-schedule_switch.ensures.0, rw (around_within c.rule.result _ c.args.around c.rule.ensures) at c.in_err-built.ensures own) refl)
 
-pub visit_switch-returns-in_err-unschedule_if : goal.visit_switch-returns-in_err-unschedule_if
-unfolding visit_terminal ◌>>=◌ context_of
-visit_switch-returns-in_err-unschedule_if t c =
-    let built = rw (around_within c.rule.result _ c.args.around c.rule.ensures) at c.in_ok-built.ensures in
-    refuses _ _ _ c.from_residual-in_err-unschedule_if.ensures
-    (terminal_by _ _ _ _ _ c.requires.ends ∙ rw (c.in_ok-label.ensures.0, c.in_ok-schedule_switch.ensures.0)
-    (closes_switch _ _ _ _ (maybe_of c.in_ok-label.label) c.args.self.now.cx.next_schedule_id _ (λ cases after. ok (terminal_result (maybe_of c.in_ok-label.label) (some (SWITCH c.args.end.test (block_at (table_of c.args.table.words.now) c.args.block).id (maybe_of c.in_ok-label.label) cases)) after))
-    ∙ rw (built.same, c.in_err-unschedule_if.ensures) refl))
+pub visit_switch-unschedule_all-requires : goal.visit_switch-unschedule_all-requires
+unfolding context_of
+visit_switch-unschedule_all-requires t c =
+    let built = c.in_ok-built.ensures [] in
+    let id = c.args.self.now.cx.next_schedule_id in
+    let before = ids_on (state c.args.self.now) in
+    let there =
+        last_there c.in_ok-label.label id built.part.1 before (state c.schedule_switch.new.self) (state c.traverse_cases.new.self)
+        (switch_ids c.in_ok-label.label _ _ c.in_ok-schedule_switch.ensures.0) built.says.stack in
+    record { whole = built.whole; there = rw c.entries_if.ensures (omega (arith, there, built.says.held, ids_length c.traverse_cases.new.self.tally.visits c.traverse_cases.new.self.cx)) }
+
+pub visit_switch-overflow_add-built : goal.visit_switch-overflow_add-built
+visit_switch-overflow_add-built t c =
+    let built = c.in_ok-built.ensures [] in
+    omega (arith, c.entries_if.ensures, entries_one c.in_ok-label.label, built.says.few, c.requires.ends.named.1, c.requires.ends.few)
+
+pub visit_switch-close-requires-clause-rows : goal.visit_switch-close-requires-clause-rows
+visit_switch-close-requires-clause-rows t c =
+    let sched = c.in_ok-schedule_switch.ensures.1 in
+    let built = c.in_ok-built.ensures [] in
+    omega (arith, sched.visits, sched.quiet, built.numbers, c.unschedule_all.ensures.off.quiet, c.requires.fine.visits, c.requires.fine.rows)
 
 pub visit_switch-close-requires-clause-lines : goal.visit_switch-close-requires-clause-lines
 visit_switch-close-requires-clause-lines t c =
     let sched = c.in_ok-schedule_switch.ensures.1 in
-    let off = c.in_ok-unschedule_if.ensures.1 in
-    line_room c.args.self.now c.unschedule_if.new.self c.requires.fine off.whole
-    (omega (arith, sched.quiet, sched.marks, c.in_ok-built.ensures.says.lines, off.quiet, off.marks, c.requires.fine.lines))
+    let off = c.unschedule_all.ensures.off in
+    line_room c.args.self.now c.unschedule_all.new.self c.requires.fine off.whole
+    (omega (arith, sched.quiet, sched.marks, (c.in_ok-built.ensures []).says.lines, off.quiet, off.marks, c.requires.fine.lines))
 
 pub visit_switch-returns : goal.visit_switch-returns
 unfolding visit_terminal ◌>>=◌ context_of
@@ -1214,17 +1228,22 @@ visit_switch-returns t c =
     let label = c.in_ok-label.ensures in
     let next = fallthrough_there c.in_ok-label.label label.1 c.requires.ends.named.2 in
     let sched = c.in_ok-schedule_switch.ensures in
-    let built = rw (around_within c.rule.result _ c.args.around c.rule.ensures) at c.in_ok-built.ensures in
-    let off = c.in_ok-unschedule_if.ensures in
+    let id = c.args.self.now.cx.next_schedule_id in
+    let own = schedule_ids (maybe_of c.in_ok-label.label) id in
+    let built = rw (around_within c.rule.result _ c.args.around c.rule.ensures) at c.in_ok-built.ensures own in
+    let before = ids_on (state c.args.self.now) in
+    let ids =
+        last_are c.in_ok-label.label id built.part.1 before (state c.schedule_switch.new.self) (state c.traverse_cases.new.self)
+        (switch_ids c.in_ok-label.label _ _ sched.0) built.says.stack in
+    let same = rw (c.entries_if.ensures, ← built.says.held, ids) at c.unschedule_all.ensures.same in
+    let off = c.unschedule_all.ensures.off in
     let close = rw (c.or_none.ensures, ← built.says.count) at c.close.ensures in
     rw c.statement.ensures (record {
-      part = some (SWITCH c.args.end.test c.block-head.result.id (maybe_of c.in_ok-label.label) built.part);
-      same = terminal_by _ _ _ _ _ c.requires.ends ∙ rw (label.0, sched.0)
-          (closes_switch _ _ _ _ (maybe_of c.in_ok-label.label) c.args.self.now.cx.next_schedule_id _ (λ cases after. ok (terminal_result (maybe_of c.in_ok-label.label) (some (SWITCH c.args.end.test (block_at (table_of c.args.table.words.now) c.args.block).id (maybe_of c.in_ok-label.label) cases)) after))
-          ∙ rw (built.same, off.0, head.is_id, same_state c.unschedule_if.new.self c.close.new.self close.cx close.visits) refl);
-      puts = λ origin out o. closes out _ close (parts_switch out _ _ _ built.part) (sym (out_length o)) refl (quiet_out off.1.quiet (built.puts origin out (quiet_out sched.1.quiet o)));
+      part = some (SWITCH c.args.end.test c.block-head.result.id (maybe_of c.in_ok-label.label) built.part.0);
+      same = terminal_by _ _ _ _ _ c.requires.ends ∙ rw (label.0, sched.0, built.same, same, head.is_id, same_state c.unschedule_all.new.self c.close.new.self close.cx close.visits) refl;
+      puts = λ origin out o. closes out _ close (parts_switch out _ _ _ built.part.0) (sym (out_length o)) refl (quiet_out off.quiet (built.puts origin out (quiet_out sched.1.quiet o)));
       says = record { count = refl; few = omega arith; there = next };
-      whole = rw close.cx off.1.whole;
+      whole = rw close.cx off.whole;
       numbers = omega (
         arith,
         sched.1,
@@ -1233,12 +1252,12 @@ visit_switch-returns t c =
         built.says.lines,
         built.says.rows,
         built.says.id,
-        off.1,
-        off.1.quiet,
+        off,
+        off.quiet,
         close.rows,
         close.visits,
         close.lines,
-        kept c.unschedule_if.new.self c.close.new.self close.cx,
+        kept c.unschedule_all.new.self c.close.new.self close.cx,
         entries_one c.in_ok-label.label,
       );
     })
@@ -1247,42 +1266,76 @@ pub traverse_cases-loop-left-init : goal.traverse_cases-loop-left-init
 traverse_cases-loop-left-init t c = none_built _ _ _ _ _ _ _ _ c.requires.fine
 
 pub traverse_cases-returns-then-case-end : goal.traverse_cases-returns-then-case-end
-unfolding cases_closed ◌>>=◌ refuse_if context_of
+unfolding traverse_cases ◌>>=◌ refuse_if context_of
 traverse_cases-returns-then-case-end t c =
     let cases = c.loop-left.invariant in
-    builds_refused _ _ _ _ _ _ _ _ cases c.after.result
+    λ own. builds_refused _ _ _ _ _ _ _ _ cases own c.after.result
     (rw (
-      cases_split _ (λ (e : c.loop-left.left ≡ 0). omega (arith, c.loop-left-test.true, e)) (omega (arith, cases.within, c.requires.ends.named.1)) c.case-case.ensures,
-      cases_closed,
+      cases_split _ c.loop-left-test.true (omega (arith, cases.within, c.requires.ends.named.1)) c.case-case.ensures,
+      traverse_cases,
       sym c.is_scheduled.ensures ∙ c.if-is_scheduled.true,
       ne_eqb _ _ c.if-case-end.true,
       c.after.ensures,
     ) refl)
 
 pub traverse_cases-loop-left-preserved-then-is_scheduled : goal.traverse_cases-loop-left-preserved-then-is_scheduled
-unfolding cases_closed ◌>>=◌ refuse_if
+unfolding traverse_cases ◌>>=◌ refuse_if
 traverse_cases-loop-left-preserved-then-is_scheduled t c =
     let cases = c.loop-left.invariant in
-    skips _ _ _ _ _ _ _ _ cases
-    (rw (cases_split _ (λ (e : c.loop-left.left ≡ 0). omega (arith, c.loop-left-test.true, e)) (omega (arith, cases.within, c.requires.ends.named.1)) c.case-case.ensures, cases_closed, sym c.is_scheduled.ensures ∙ c.if-is_scheduled.true, eq-eqb _ _ c.if-case-end.false) refl)
+    record {
+      wrap = cases.wrap;
+      put = cases.put;
+      ids = cases.ids;
+      same = λ own. builds_same _ _ _ _ _ _ _ _ cases own _
+          (rw (
+            cases_split _ c.loop-left-test.true (omega (arith, cases.within, c.requires.ends.named.1)) c.case-case.ensures,
+      traverse_cases,
+            sym c.is_scheduled.ensures ∙ c.if-is_scheduled.true,
+            eq-eqb _ _ c.if-case-end.false,
+          ) refl);
+      puts = cases.puts;
+      splits = cases.splits;
+      counts = cases.counts;
+      held = cases.held;
+      stack = cases.stack;
+      within = omega (arith, cases.within);
+      fine = cases.fine;
+      rises = cases.rises;
+      rows = cases.rows;
+      len = cases.len;
+      id = cases.id;
+      lines = cases.lines;
+    }
 
 pub traverse_cases-returns-in_err-traverse_block : goal.traverse_cases-returns-in_err-traverse_block
-unfolding cases_closed ◌>>=◌
+unfolding traverse_cases ◌>>=◌
 traverse_cases-returns-in_err-traverse_block t c =
     let cases = c.loop-left.invariant in
-    refuses _ _ _ c.from_residual.ensures (builds_refused _ _ _ _ _ _ _ _ cases _
-    (rw (cases_split _ (λ (e : c.loop-left.left ≡ 0). omega (arith, c.loop-left-test.true, e)) (omega (arith, cases.within, c.requires.ends.named.1)) c.case-case.ensures, cases_closed, sym c.is_scheduled.ensures ∙ c.if-is_scheduled.false, c.in_err-traverse_block.ensures) refl))
+    λ own. refuses _ _ _ c.from_residual.ensures (builds_refused _ _ _ _ _ _ _ _ cases own _
+    (rw (
+      cases_split _ c.loop-left-test.true (omega (arith, cases.within, c.requires.ends.named.1)) c.case-case.ensures,
+      traverse_cases,
+      sym c.is_scheduled.ensures ∙ c.if-is_scheduled.false,
+      c.in_err-traverse_block.ensures,
+    ) refl))
 
 pub traverse_cases-returns-in_err-schedule : goal.traverse_cases-returns-in_err-schedule
-unfolding cases_closed ◌>>=◌
+unfolding traverse_cases ◌>>=◌
 traverse_cases-returns-in_err-schedule t c =
     let cases = c.loop-left.invariant in
     let put = c.put.ensures in
-    refuses _ _ _ c.from_residual-in_err-schedule.ensures (builds_refused _ _ _ _ _ _ _ _ cases _
-    (rw (cases_split _ (λ (e : c.loop-left.left ≡ 0). omega (arith, c.loop-left-test.true, e)) (omega (arith, cases.within, c.requires.ends.named.1)) c.case-case.ensures, cases_closed, sym c.is_scheduled.ensures ∙ c.if-is_scheduled.false, c.in_ok-traverse_block.ensures.same, ← same_state c.traverse_block.new.self c.put.new.self put.cx put.visits, rw c.block_id.ensures at c.in_err-schedule.ensures) refl))
+    λ own. refuses _ _ _ c.from_residual-in_err-schedule.ensures (builds_refused _ _ _ _ _ _ _ _ cases own _
+    (rw (
+      cases_split _ c.loop-left-test.true (omega (arith, cases.within, c.requires.ends.named.1)) c.case-case.ensures,
+      traverse_cases,
+      sym c.is_scheduled.ensures ∙ c.if-is_scheduled.false,
+      c.in_ok-traverse_block.ensures.same,
+      ← same_state c.traverse_block.new.self c.put.new.self put.cx put.visits,
+      rw c.block_id.ensures at c.in_err-schedule.ensures,
+    ) refl))
 
 pub traverse_cases-loop-left-preserved : goal.traverse_cases-loop-left-preserved
-unfolding cases_closed ◌>>=◌
+unfolding traverse_cases ◌>>=◌
 traverse_cases-loop-left-preserved t c =
     let cases = c.loop-left.invariant in
     let body = c.in_ok-traverse_block.ensures in
@@ -1295,8 +1348,15 @@ traverse_cases-loop-left-preserved t c =
       wrap = λ more. cases.wrap (CASE test body.part more);
       put = λ out. block_put (cases.put out) body.part ⊕ (row 11 test 0 0 0 0 ∷ []);
       ids = id ∷ cases.ids;
-      same = builds_on _ _ _ _ _ _ _ _ cases _ id test body.part
-          (rw (cases_split _ (λ (e : c.loop-left.left ≡ 0). omega (arith, c.loop-left-test.true, e)) (omega (arith, cases.within, c.requires.ends.named.1)) c.case-case.ensures, cases_closed, sym c.is_scheduled.ensures ∙ c.if-is_scheduled.false, body.same, ← same_state c.traverse_block.new.self c.put.new.self put.cx put.visits, rw c.block_id.ensures at sched.0) refl);
+      same = λ own. builds_on _ _ _ _ _ _ _ _ cases own _ (CASE test body.part)
+          (rw (
+            cases_split _ c.loop-left-test.true (omega (arith, cases.within, c.requires.ends.named.1)) c.case-case.ensures,
+      traverse_cases,
+            sym c.is_scheduled.ensures ∙ c.if-is_scheduled.false,
+            body.same,
+            ← same_state c.traverse_block.new.self c.put.new.self put.cx put.visits,
+            rw c.block_id.ensures at sched.0,
+          ) refl);
       puts = λ origin out o. quiet_out sched.1.quiet (put.puts origin _ (body.puts origin _ (cases.puts origin out o)));
       splits = λ out more. cases.splits out (CASE test body.part more) ∙ case_put (cases.put out) test body.part more;
       counts = λ more. omega (arith, cases.counts (CASE test body.part more));
@@ -1317,30 +1377,24 @@ traverse_cases-schedule-requires-clause-room t c =
     let put = c.put.ensures in
     rw put.cx (room_built c.loop-left.invariant.fine body.whole body.numbers)
 
-pub traverse_cases-unschedule_all-requires : goal.traverse_cases-unschedule_all-requires
-traverse_cases-unschedule_all-requires t c = record { whole = c.loop-left.invariant.fine.whole; there = few_entries _ _ _ _ _ _ _ _ c.loop-left.invariant }
-
-pub traverse_cases-returns-in_err-unschedule_all : goal.traverse_cases-returns-in_err-unschedule_all
-traverse_cases-returns-in_err-unschedule_all t c =
-    refuses _ _ _ c.from_residual-in_err-unschedule_all.ensures (closes_refused _ _ _ _ _ _ _ _ c.loop-left.invariant (omega (arith, c.loop-left-test.false)) _ c.in_err-unschedule_all.ensures)
-
 pub traverse_cases-returns : goal.traverse_cases-returns
 traverse_cases-returns t c =
     let cases = c.loop-left.invariant in
-    let off = c.in_ok-unschedule_all.ensures in
-    record {
-      part = cases.wrap no_cases;
-      same = closes_ok _ _ _ _ _ _ _ _ cases (omega (arith, c.loop-left-test.false)) _ off.0;
-      puts = λ origin out o. rw (cases.splits out no_cases, no_case_put) (quiet_out off.1.quiet (cases.puts origin out o));
+    λ own. record {
+      part = (cases.wrap no_cases, cases.ids);
+      same = all_built _ _ _ _ _ _ _ _ cases own (omega (arith, c.loop-left-test.false));
+      puts = λ origin out o. rw (cases.splits out no_cases, no_case_put) (cases.puts origin out o);
       says = record {
         count = omega (arith, cases.counts no_cases);
-        lines = omega (arith, cases.lines, off.1, off.1.quiet);
-        rows = omega (arith, cases.rows, off.1, off.1.quiet);
-        id = omega (arith, cases.id, off.1);
+        held = cases.held;
+        stack = cases.stack;
+        lines = cases.lines;
+        rows = cases.rows;
+        id = cases.id;
         few = omega (arith, cases.within);
       };
-      whole = off.1.whole;
-      numbers = omega (arith, cases.fine.visits, cases.rises, cases.rows, cases.len, cases.id, cases.lines, off.1, off.1.quiet);
+      whole = cases.fine.whole;
+      numbers = omega (arith, cases.fine.visits, cases.rises, cases.rows, cases.len, cases.id, cases.lines);
     }
 
 pub visit_terminal-visit_switch-requires : goal.visit_terminal-visit_switch-requires

@@ -2,7 +2,7 @@
 use Prim.Native.Nat.{◌*◌, ◌+◌, ◌-◌}
 use Rattle.walk.specs.Around.{around_of}
 use Rattle.walk.proofs.ListLaws.{Followed}
-use Rattle.walk.proofs.BuildingLaws.{Building}
+use Rattle.walk.proofs.CasesLaws.{Building}
 use Rattle.walk.proofs.state.Walk.+walk.Given as goal
 
 abbrev pub decreases-traverse_block : goal.decreases-traverse_block
