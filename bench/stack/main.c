@@ -1,5 +1,6 @@
 /* How much stack each function of the library takes: the call is made on a stack of its own that is full of one byte, and the bytes from
- * its top down to the lowest that was written are counted. Prints a line for each function, its name and the most of all inputs.
+ * its top down to the lowest that was written are counted. Prints a line for each function, its name and the most of all inputs; with an
+ * argument, what each group of shapes takes of the build.
  * tools/check-stack builds and runs it. */
 #include <stddef.h>
 #include <stdint.h>
@@ -220,7 +221,7 @@ static const char *shape_name(int number) {
     return name;
 }
 
-/* `by shape`: the most of each group, of both entries, with the sorts or ways that take it */
+/* the most of each group of shapes, by both entries, with the sorts or ways that take it; then each sort in itself */
 static void by_shape(size_t own) {
     struct {
         const char *name;

@@ -3,15 +3,16 @@
 //
 // A step copies the scheduled set into a local and back, and leaves the stack's array to its caller: `schedule` gives
 // the entry that went on in `pushed`, to be stored at `len - 1`, and `unschedule` is handed the entry that its caller
-// reads there. A store into an array of a Context that goes by value, or a read from it, copies the whole Context; so
-// does a step that writes no `len`. docs/PERFORMANCE.md has the times.
+// reads there: a store into an array of a Context that goes by value, or a read from it, copies the whole Context, and
+// so does a step that leaves `len` as it was. docs/PERFORMANCE.md has the times.
 #![tactic(auto)]
 
-/// Which of the two entries is built.
+/// Which entry is asked for.
 pub mod rule;
 
 ghost use Rattle.std.specs.Prelude.{◌≡◌, ◌+◌, ◌≤◌, ◌<◌, ◌||◌};
-ghost use Rattle.definition.specs.Context.{has, target_block, is_loop, loops_of, continues_at, block_asked, break_kind, continue_kind};
+ghost use Rattle.definition.specs.Context.{has, target_block, is_loop, loops_of, continues_at, block_asked, break_kind};
+ghost use Rattle.definition.specs.Context.{continue_kind};
 ghost use Rattle.definition.specs.Tree.{kind_number};
 ghost use Rattle.control.specs.Abstraction.{target_of, kind_of, found_block, resolution_of};
 ghost use Rattle.control.specs.Contract.{Named, Room, Last, Created, Scheduled, Unscheduled, break_to, continue_to};

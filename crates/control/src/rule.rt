@@ -1,5 +1,5 @@
-/// Which entry is asked for: `Rust` builds what the Rust builds, and `Language` gives each jump the meaning that it has
-/// in ECMA-262.
+/// Which entry is asked for. `Rust` builds what the Rust builds. `Language` also labels a break to a loop out of a
+/// switch that is being built in between, and refuses a label that no statement around has.
 #[derive(Clone, Copy, PartialEq, Eq, Drop)]
 pub enum Rule {
     Rust,

@@ -1,4 +1,4 @@
--- What the walk's own answer means, by paper 01's numbers.
+-- The numbers of the walk's own answer.
 use Rattle.std.specs.Prelude.{ℕ, Result, Ok, Err}
 use Rattle.table.specs.Answer.{refusal_code, refusal_place}
 use Rattle.walk.specs.Refusal as walk
@@ -15,7 +15,7 @@ abbrev pub place_of : WalkError → ℕ
 place_of (Table refusal) = refusal_place refusal
 place_of (Walk refused) = walk.refusal_place refused.refusal
 
--- "Rows is 0 except at 40"
+-- the walk counts rows beyond the buffer: its callers refuse them
 abbrev pub rows_of : WalkError → ℕ
 rows_of _ = 0
 
@@ -25,7 +25,7 @@ visits_of (Table _) = 0
 visits_of (Walk refused) = refused.visits
 
 module _ {E : Type 0} (code_of place_of rows_of visits_of : E → ℕ) where
-  -- an answer's five numbers, by those of its errors: "code (0 accepted), at, rows, visits", and the number of lines
+  -- an answer's five numbers, by those of its errors: the code (0 accepted), the place, and the numbers of rows, visits and lines
   abbrev pub numbers : Result Walked E → Preview
   numbers (Ok walked) = record { code = 0; at = 0; rows = walked.rows; visits = walked.visits; lines = walked.lines }
   numbers (Err error) = record { code = code_of error; at = place_of error; rows = rows_of error; visits = visits_of error; lines = 0 }

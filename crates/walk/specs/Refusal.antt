@@ -1,4 +1,4 @@
--- What the statement walk's own refusals mean, by paper 01's numbers and places.
+-- The numbers and places of the statement walk's own refusals.
 use Rattle.std.specs.Prelude.{ℕ}
 use Rattle.definition.specs.Result.{already_scheduled, unschedule_out_of_order}
 use Rattle.values.specs.Refusal.{code_of, place_of}
@@ -9,9 +9,7 @@ use Rattle.walk.specs.declared.refusal.Refusal.TheVariants.{ScopeBlockScheduled,
 use Rattle.walk.specs.declared.refusal.Refusal.TheVariants.{NoContinueTarget, ScopeBreak, NoSuchLabel, TooDeep, TooManyVisits, AlreadyScheduled, UnscheduleOutOfOrder, Value}
 use Rattle.walk.specs.declared.refusal.Refused.{Refused}
 
--- "10 missing block (named); 11 already emitted (named); 12 If consequent scheduled (named), 13 alternate (named); 14 switch case; 16 loop scheduled or equal
--- to its fallthrough; 17 Label block; 18 Scope block; 19 Branch alternate scheduled; 20 no break target (named); 21 no continue target (named); 22 scope break
--- not Implicit"; M-102: 29 Labeled, and no statement around has the label; "30 depth, 31 visits"
+-- each refusal's number, as docs/FORMAT.md has it; two of them never occur
 abbrev pub refusal_code : Refusal → ℕ
 refusal_code (MissingBlock _) = 10
 refusal_code (AlreadyEmitted _) = 11
@@ -33,7 +31,7 @@ refusal_code (AlreadyScheduled _) = already_scheduled
 refusal_code UnscheduleOutOfOrder = unschedule_out_of_order
 refusal_code (Value refusal) = code_of refusal
 
--- "At is the block named; else the innermost block still being visited"; at 30 and 31 "the block not visited"
+-- each refusal's place: the block that is named, else the innermost block still being visited; at 30 and 31 the block that is not visited
 abbrev pub refusal_place : Refusal → ℕ
 refusal_place (MissingBlock at) = at
 refusal_place (AlreadyEmitted at) = at

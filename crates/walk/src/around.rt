@@ -2,7 +2,8 @@
 // before those around it.
 ghost use Rattle.std.specs.Prelude.{◌≡◌, ◌||◌, ◌&&◌, ℕ, Bool, not};
 ghost use Rattle.table.specs.Columns.{maybe_of};
-ghost use Rattle.definition.specs.Around.{is_label, is_switch_inside, names_statement, names_loop, kind_by, unnamed, break_kind_in, break_unnamed, continue_unnamed};
+ghost use Rattle.definition.specs.Around.{is_label, is_switch_inside, names_statement, names_loop, kind_by, unnamed};
+ghost use Rattle.definition.specs.Around.{break_kind_in, break_unnamed, continue_unnamed};
 ghost use Rattle.control.specs.Abstraction.{kind_of, resolution_of};
 ghost use Rattle.control.specs.Rule.{rule_of};
 ghost use Rattle.walk.specs.Around.{around_of};
@@ -10,7 +11,8 @@ ghost use Rattle.walk.specs.Around.{around_of};
 use control::rule::Rule;
 use control::{ReactiveTerminalTargetKind, Resolution};
 
-/// A statement that is being built, with its label: the fallthrough that it took, if any. A scope has none.
+/// A statement that is being built, with its label: the fallthrough that it took, if any. A scope and a Branch have
+/// none.
 #[derive(Clone, Copy, Drop)]
 pub enum Enclosing {
     Loop(Option<u32>),
@@ -29,7 +31,7 @@ pub enum Around<'a> {
     },
 }
 
-/// Which entry is built.
+/// Which entry is asked for.
 pub fn rule(around: &Around<'_>) -> Rule
     ensures { rule_of result ≡ (around_of around.now).rule }
 {

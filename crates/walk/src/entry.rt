@@ -56,8 +56,7 @@ fn walk_table(
 }
 
 /// The walk of the table in the words, which may be any words. It fills the buffers as far as they have room, and
-/// counts on: whether the rows and the lines fit is its caller's to test. After a refusal the buffers hold what was put
-/// out before it.
+/// counts on: its caller tests whether the rows and the lines fit, and clears the buffers after a refusal.
 pub fn walk(
     rule: Rule,
     words: &[u32],

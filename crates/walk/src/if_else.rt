@@ -82,7 +82,7 @@ impl Walk<'_> {
         requires fine { Fine self.old 0 0 }
         ensures { Alternated
             (traverse_alternate (traverse_outcome table.entry.words.now levels (around_of around.now))
-                block fallthrough (state self.old))
+            block fallthrough (state self.old))
             self.old result self.new }
     {
         if block == fallthrough {

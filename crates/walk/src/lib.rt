@@ -3,7 +3,7 @@
 
 // The statements around a block, the innermost first.
 mod around;
-// What the statement walk refuses.
+/// What the statement walk refuses.
 pub mod refusal;
 // The state of the walk, and the steps that change one part of it.
 mod state;
@@ -33,7 +33,7 @@ mod scope;
 mod leaf;
 // Branch.
 mod branch;
-// What the walk answers.
+/// What the walk answers.
 pub mod answer;
-// The whole walk, of a table and of any words.
+/// The whole walk, of any words.
 pub mod entry;

@@ -228,7 +228,7 @@ impl Walk<'_> {
         requires fine { Fine self.old 0 0 }
         ensures { Traversed
             (body_outcome table.entry.words.now levels (around_of around.now)
-                block (maybe_of label) loop_block taken (state self.old))
+            block (maybe_of label) loop_block taken (state self.old))
             self.old result self.new }
     {
         if taken {

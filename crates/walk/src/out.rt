@@ -6,7 +6,8 @@ ghost use Rattle.definition.specs.Tree as tree_rows;
 ghost use Rattle.definition.specs.Statement.{visit_update};
 ghost use Rattle.values.specs.Ops.{number_of};
 ghost use Rattle.values.specs.WalkOutcome.{visit, terminal_outcome};
-ghost use Rattle.walk.specs.Out.{line_placed, ValueMade, TerminalMade, RowMade, Closes, InstructionsMade, Budget, FlatMade, UpdateMade};
+ghost use Rattle.walk.specs.Out.{line_placed, ValueMade, TerminalMade, RowMade, Closes, InstructionsMade, Budget};
+ghost use Rattle.walk.specs.Out.{FlatMade, UpdateMade};
 
 use crate::refusal::Refused;
 use crate::state::Walk;

@@ -58,7 +58,7 @@ impl Refusal {
         }
     }
 
-    /// The refusal's place: a block.
+    /// The refusal's place: the number of a block.
     pub fn place(self) -> u32
         ensures { result ≡ refusal_place self }
     {

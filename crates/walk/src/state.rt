@@ -5,12 +5,14 @@ ghost use Rattle.table.specs.Words.{block_count};
 ghost use Rattle.table.specs.Table.{table_of};
 ghost use Rattle.table.specs.Columns.{maybe_of};
 ghost use Rattle.definition.specs.Context.{is_scheduled, schedule, unschedule, target_loop, schedule_catch_handler};
-ghost use Rattle.definition.specs.Statement.{enter_block, unless_scheduled, schedule_if, schedule_switch, unschedule_if, unschedule_all, mark_scope_fallthrough_if, loop_is_taken};
+ghost use Rattle.definition.specs.Statement.{enter_block, unless_scheduled, schedule_if, schedule_switch};
+ghost use Rattle.definition.specs.Statement.{unschedule_if, unschedule_all, mark_scope_fallthrough_if, loop_is_taken};
 ghost use Rattle.definition.specs.Result.{ok};
 ghost use Rattle.control.specs.Abstraction.{target_of};
 ghost use Rattle.control.specs.Contract as control;
 ghost use Rattle.control.specs.Contract.{Named, Scheduled, Last, Unscheduled};
-ghost use Rattle.walk.specs.State.{state, last_ids, blocked_so, Whole, Fine, Enters, Does, Room, Shifted, entries_if, Reaches, Refuses, Marked};
+ghost use Rattle.walk.specs.State.{state, last_ids, blocked_so, Whole, Fine, Enters, Does, Room, Shifted, entries_if};
+ghost use Rattle.walk.specs.State.{Reaches, Refuses, Marked};
 
 use crate::refusal::{Refusal, Refused};
 use control::{Blocked, Context, ControlFlowTarget, Entry, block_id, is_scheduled};

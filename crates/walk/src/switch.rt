@@ -75,7 +75,7 @@ impl Walk<'_> {
         requires fine { Fine self.old 0 0 }
         ensures { (own : List ℕ) → Cased end.number own
             (cases_outcome table.entry.words.now levels (around_of around.now)
-                block end.fallthrough end.first end.number own (state self.old))
+            block end.fallthrough end.first end.number own (state self.old))
             self.old result self.new }
     {
         let mut left = end.number;

@@ -105,7 +105,7 @@ impl Walk<'_> {
             self.old result self.new }
     {
         match table.terminal(block) {
-            Terminal::Absent => unreachable!(), // the block was entered
+            Terminal::Absent => unreachable!(), // a block that was entered is there
             Terminal::Unreachable => Ok(nothing(None)),
             Terminal::Throw(end) => Ok(self.visit_throw(table, block, end)),
             Terminal::Return(end) => Ok(self.visit_return(table, block, end)),

@@ -1199,8 +1199,8 @@ visit_switch-unschedule_all-requires t c =
     let id = c.args.self.now.cx.next_schedule_id in
     let before = ids_on (state c.args.self.now) in
     let there =
-        last_there c.in_ok-label.label id built.part.1 before (state c.schedule_switch.new.self) (state c.traverse_cases.new.self)
-        (switch_ids c.in_ok-label.label _ _ c.in_ok-schedule_switch.ensures.0) built.says.stack in
+    last_there c.in_ok-label.label id built.part.1 before (state c.schedule_switch.new.self) (state c.traverse_cases.new.self)
+    (switch_ids c.in_ok-label.label _ _ c.in_ok-schedule_switch.ensures.0) built.says.stack in
     record { whole = built.whole; there = rw c.entries_if.ensures (omega (arith, there, built.says.held, ids_length c.traverse_cases.new.self.tally.visits c.traverse_cases.new.self.cx)) }
 
 pub visit_switch-overflow_add-built : goal.visit_switch-overflow_add-built
@@ -1233,8 +1233,8 @@ visit_switch-returns t c =
     let built = rw (around_within c.rule.result _ c.args.around c.rule.ensures) at c.in_ok-built.ensures own in
     let before = ids_on (state c.args.self.now) in
     let ids =
-        last_are c.in_ok-label.label id built.part.1 before (state c.schedule_switch.new.self) (state c.traverse_cases.new.self)
-        (switch_ids c.in_ok-label.label _ _ sched.0) built.says.stack in
+    last_are c.in_ok-label.label id built.part.1 before (state c.schedule_switch.new.self) (state c.traverse_cases.new.self)
+    (switch_ids c.in_ok-label.label _ _ sched.0) built.says.stack in
     let same = rw (c.entries_if.ensures, ← built.says.held, ids) at c.unschedule_all.ensures.same in
     let off = c.unschedule_all.ensures.off in
     let close = rw (c.or_none.ensures, ← built.says.count) at c.close.ensures in
@@ -1289,7 +1289,7 @@ traverse_cases-loop-left-preserved-then-is_scheduled t c =
       same = λ own. builds_same _ _ _ _ _ _ _ _ cases own _
           (rw (
             cases_split _ c.loop-left-test.true (omega (arith, cases.within, c.requires.ends.named.1)) c.case-case.ensures,
-      traverse_cases,
+            traverse_cases,
             sym c.is_scheduled.ensures ∙ c.if-is_scheduled.true,
             eq-eqb _ _ c.if-case-end.false,
           ) refl);
@@ -1351,7 +1351,7 @@ traverse_cases-loop-left-preserved t c =
       same = λ own. builds_on _ _ _ _ _ _ _ _ cases own _ (CASE test body.part)
           (rw (
             cases_split _ c.loop-left-test.true (omega (arith, cases.within, c.requires.ends.named.1)) c.case-case.ensures,
-      traverse_cases,
+            traverse_cases,
             sym c.is_scheduled.ensures ∙ c.if-is_scheduled.false,
             body.same,
             ← same_state c.traverse_block.new.self c.put.new.self put.cx put.visits,
