@@ -1,6 +1,6 @@
 -- How large the walk's state grows. Each entered block pays for one entry of the stack, and at most 1,024 are entered; so a build that is watched for a
 -- stack without room for one entry more, or for a block that is too deep, is the definition's. Between two watched states an arm adds at most one entry.
-use mathlib.Core.Path.{◌≡◌, refl, ap, ◌∙◌}
+use mathlib.Core.Path.{◌≡◌, refl, ap, ◌∙◌, subst}
 use Prim.Native.Nat.{ℕ, zero, suc, ◌+◌, ◌≤◌, ◌<◌}
 use native.Mathlib.Omega.{arith}
 use mathlib.Core.List.{List, [], ◌∷◌}
@@ -350,18 +350,24 @@ AtMost most entries emitted = entries ≤ most
 fewer_most : (most n : ℕ) (e : Flags) → AtMost most (suc n) e → AtMost most n e
 fewer_most most n e h = omega (arith, h)
 
+of_ok : {A : Type 0} (P : A → Type 0) (step : Result A) → ((a : A) → step ≡ ok a → P a) → Good P step
+of_ok P (ok a) h = h a refl
+of_ok P (refused code at visits) h = tt
+
+-- whatever the walk of the nested blocks: if each ends with fewer than so many entries, as the arm begins, then none begins with more than so many, and the
+-- arm ends with fewer
 pub one_entry_an_arm : (most : ℕ) (t : Table) (visit : VisitValueBlock) (traverse : TraverseInside)
-    → ((around : Around) (block : ℕ) (cx : Context) → length cx.stack ≤ most → Good (λ r. length r.context.stack < most) (traverse around block cx))
+    → ((around : Around) (block : ℕ) (cx : Context) (result : BlockResult) → length cx.stack ≤ most → traverse around block cx ≡ ok result → length result.context.stack < most)
     → (around : Around) (m : Terminal) (at : ℕ) (block : Block) (cx : Context) → length cx.stack < most
     → (visit_terminal t visit (λ around. watch (at_most_entries most) around (traverse around)) around m at block cx ≡ visit_terminal t visit traverse around m at block cx)
-    × Good (λ r. length r.context.stack < most) (visit_terminal t visit traverse around m at block cx)
+    × ((result : TerminalResult) → visit_terminal t visit traverse around m at block cx ≡ ok result → length result.context.stack < most)
 unfolding Walks
-one_entry_an_arm most t visit traverse ends around m at block cx h = (arm.is, arm.good)
+one_entry_an_arm most t visit traverse ends around m at block cx h = (arm.is, λ result e. subst (λ (s : Result TerminalResult). Good (λ r. length r.context.stack < most) s) e arm.good)
   where
     arm : Same (λ r. length r.context.stack < most) (visit_terminal t visit traverse around m at block cx)
         (visit_terminal t visit (λ around. watch (at_most_entries most) around (traverse around)) around m at block cx)
     arm =
         arm_same (AtMost most) (fewer_most most) t visit traverse (λ around. watch (at_most_entries most) around (traverse around)) around
         (λ e b c few. watch_same (AtMost most) (fewer_most most) (at_most_entries most) (within e around) (traverse (within e around)) b c _ (le-leb (length c.stack) most few)
-        (λ d room. le-leb (length d.stack) most (omega (arith, room))) (same_of _ _ (ends (within e around) b c few)))
+        (λ d room. le-leb (length d.stack) most (omega (arith, room))) (same_of _ _ (of_ok _ _ (λ r. ends (within e around) b c r few))))
         m at block cx h

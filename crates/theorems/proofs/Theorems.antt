@@ -29,11 +29,11 @@ use Rattle.table_check.proofs.table_check.Met as check_export_proved
 use Rattle.table_check.proofs.table_check.Reads as check_export
 use Rattle.definition.specs.Around.{Rule, rust, language, Around, is_switch_inside, kind_by}
 use Rattle.definition.specs.Relabeled.{relabeled}
-use Rattle.definition.specs.Result.{already_scheduled, unschedule_out_of_order, maybe_throw_in_value_terminal}
+use Rattle.definition.specs.Result.{ok, already_scheduled, unschedule_out_of_order, maybe_throw_in_value_terminal}
 use Rattle.definition.specs.Tree.{Value, unlabeled, WHILE, BREAK, Statements, done, ◌▸◌, rows}
 use Rattle.definition.specs.Context.{ControlFlowTarget, target_if, target_switch, target_case, target_loop, target_block, continues_at, Context, Resolution, get_break_target, get_continue_target}
 use Rattle.definition.specs.Value.{most_visits, VisitValueBlock, visit_value_block}
-use Rattle.definition.specs.Statement.{TraverseInside, visit_terminal, visit_block, traverse_block, build_tree}
+use Rattle.definition.specs.Statement.{BlockResult, TerminalResult, TraverseInside, visit_terminal, visit_block, traverse_block, build_tree}
 use Rattle.definition.specs.Watched.{at_most_entries, at_most_deep, watch, watched}
 use Rattle.definition.specs.Build.{rejected, report, refusal, built}
 use Rattle.definition.specs.Build as definition
@@ -52,7 +52,6 @@ use Rattle.definition.proofs.Never.{target_known, never_already_scheduled, never
 use Rattle.definition.proofs.Enough.{blocks_enough}
 use Rattle.definition.proofs.Bounds.{stack_most, depth_most, one_entry_an_arm}
 use Rattle.definition.proofs.Checked.{ranged}
-use Rattle.definition.proofs.Steps.{Good}
 use Rattle.definition.specs.PlainLoops.{PlainLoops}
 use Rattle.definition.specs.LoopLaw.{LawOfLoops, LawOfLoopsAndSwitches}
 use Rattle.definition.proofs.PlainEnough.{plain_enough}
@@ -356,13 +355,13 @@ pub the_stack_holds_at_most_1152_entries : (rule : Rule) (words : List ℕ) → 
     → watched (at_most_entries 1151) rule (table_of words) ≡ build_tree rule (table_of words)
 the_stack_holds_at_most_1152_entries rule words passed = stack_most rule (table_of words) (ranged words passed).few
 
--- and between two of those points at most one is added: an arm that begins with fewer than so many hands at most so many to the blocks nested in it, and
--- ends with fewer, where each of those blocks ends with fewer. Of any walk of the nested blocks, and of any number
+-- and between two of those points at most one is added, whatever the walk of the blocks nested in an arm: if each of them ends with fewer than so many
+-- entries, as the arm begins, then none of them begins with more than so many, and the arm ends with fewer
 pub an_arm_adds_at_most_one_entry : (most : ℕ) (t : Table) (visit : VisitValueBlock) (traverse : TraverseInside)
-    → ((around : Around) (block : ℕ) (cx : Context) → length cx.stack ≤ most → Good (λ r. length r.context.stack < most) (traverse around block cx))
+    → ((around : Around) (block : ℕ) (cx : Context) (result : BlockResult) → length cx.stack ≤ most → traverse around block cx ≡ ok result → length result.context.stack < most)
     → (around : Around) (terminal : Terminal) (at : ℕ) (block : Block) (cx : Context) → length cx.stack < most
     → (visit_terminal t visit (λ around. watch (at_most_entries most) around (traverse around)) around terminal at block cx ≡ visit_terminal t visit traverse around terminal at block cx)
-    × Good (λ r. length r.context.stack < most) (visit_terminal t visit traverse around terminal at block cx)
+    × ((result : TerminalResult) → visit_terminal t visit traverse around terminal at block cx ≡ ok result → length result.context.stack < most)
 an_arm_adds_at_most_one_entry = one_entry_an_arm
 
 -- "Depth at most 128": a build that is refused where a block has more than 127 statements around it is the definition's
