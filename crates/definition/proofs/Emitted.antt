@@ -473,7 +473,7 @@ marks_grow (true ∷ e) (false ∷ f) g = absurd (true_false (sym (g.kept 0 refl
 marks_grow (false ∷ e) (true ∷ f) g = omega (arith, marks_grow e f (grows_tail false true e f g))
 marks_grow (false ∷ e) (false ∷ f) g = marks_grow e f (grows_tail false false e f g)
 
-marks_enter : (b : ℕ) (e f : Flags) → Grows e f → has e b ≡ false → has f b ≡ true → marks e < marks f
+pub marks_enter : (b : ℕ) (e f : Flags) → Grows e f → has e b ≡ false → has f b ≡ true → marks e < marks f
 unfolding has
 marks_enter b [] [] g h k = absurd (true_false (sym k))
 marks_enter b [] (y ∷ f) g h k = absurd (omega (arith, g.size))

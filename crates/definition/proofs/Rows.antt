@@ -117,7 +117,7 @@ block_split b k = block_rows_lem b k ∙ sym (append_assoc (statements_out b) (b
 pub block_out_lem : (R : List Row) (s : Statements) (k : List Row) → block_out R s ++ k ≡ R ++ block_rows s k
 block_out_lem R s k = simp append_assoc (ap (λ (z : List Row). R ++ z) (sym (block_rows_lem s k)))
 
--- ---- what the machine has put out when it closes a statement
+-- ---- what is out when a statement is closed
 
 pub rows_if : (R : List Row) (x id : ℕ) (g : Option ℕ) (c a : Statements) → block_out R c ++ (row 10 x 0 id (or_none g) 0 ∷ []) ≡ R ++ statement_out (IF x id g c false a)
 unfolding statement_out

@@ -9,6 +9,7 @@ pub mod Named
 pub mod Crossed
 pub mod Value
 pub mod Statement
+pub mod Watched
 pub mod Build
 pub mod Preview
 pub mod Run

@@ -10,8 +10,8 @@ use lib.Dec.{T, eqb}
 use contract.Lifetimes.{Lfts}
 use denote.Ref.{Bor, MutBor}
 use Rattle.std.specs.Prelude.{Result, Ok, Err, IfOk, is_ok}
-use Rattle.table.specs.Check.{checked}
-use Rattle.table.specs.Table.{Table, table_of}
+use Rattle.table.specs.Check.{checked, accepted}
+use Rattle.table.specs.Table.{Table, Block, Terminal, table_of}
 use Rattle.table.specs.Answer as table
 use Rattle.table.specs.declared.Refusal.{Refusal}
 use Rattle.table.specs.declared.checked.Table.{Table as CheckedTable}
@@ -29,11 +29,12 @@ use Rattle.table_check.proofs.table_check.Met as check_export_proved
 use Rattle.table_check.proofs.table_check.Reads as check_export
 use Rattle.definition.specs.Around.{Rule, rust, language, Around, is_switch_inside, kind_by}
 use Rattle.definition.specs.Relabeled.{relabeled}
-use Rattle.definition.specs.Result.{already_scheduled, unschedule_out_of_order, maybe_throw_in_value_terminal}
+use Rattle.definition.specs.Result.{ok, already_scheduled, unschedule_out_of_order, maybe_throw_in_value_terminal}
 use Rattle.definition.specs.Tree.{Value, unlabeled, WHILE, BREAK, Statements, done, ◌▸◌, rows}
 use Rattle.definition.specs.Context.{ControlFlowTarget, target_if, target_switch, target_case, target_loop, target_block, continues_at, Context, Resolution, get_break_target, get_continue_target}
-use Rattle.definition.specs.Value.{most_visits, visit_value_block}
-use Rattle.definition.specs.Statement.{visit_block, traverse_block}
+use Rattle.definition.specs.Value.{most_visits, VisitValueBlock, visit_value_block}
+use Rattle.definition.specs.Statement.{BlockResult, TerminalResult, TraverseInside, visit_terminal, visit_block, traverse_block, build_tree}
+use Rattle.definition.specs.Watched.{at_most_entries, at_most_deep, watch, watched}
 use Rattle.definition.specs.Build.{rejected, report, refusal, built}
 use Rattle.definition.specs.Build as definition
 use Rattle.definition.specs.Run.{Answers, Reason, stopped}
@@ -49,6 +50,8 @@ use Rattle.definition.proofs.Outcomes.{outcome_code, refused_form, refused_rows,
 use Rattle.definition.proofs.Visits.{visits_most}
 use Rattle.definition.proofs.Never.{target_known, never_already_scheduled, never_unschedule_out_of_order, never_maybe_throw_in_value_terminal}
 use Rattle.definition.proofs.Enough.{blocks_enough}
+use Rattle.definition.proofs.Bounds.{stack_most, depth_most, one_entry_an_arm}
+use Rattle.definition.proofs.Checked.{ranged}
 use Rattle.definition.specs.PlainLoops.{PlainLoops}
 use Rattle.definition.specs.LoopLaw.{LawOfLoops, LawOfLoopsAndSwitches}
 use Rattle.definition.proofs.PlainEnough.{plain_enough}
@@ -345,12 +348,31 @@ pub no_target_type_is_unknown : (target : ControlFlowTarget)
     ⊎ ((block continue_block loop_block : ℕ) × (target ≡ target_loop block continue_block loop_block))))
 no_target_type_is_unknown = target_known
 
--- ---- a bound of the control stack
+-- ---- the bounds of the control stack and of the depth: of the definition, wherever a block's walk begins or ends (definition/specs/Watched)
 
--- "The stack holds at most 1,152 entries, also proved." `schedule` alone puts an entry onto it, and asks this of its caller, who had to prove it
-pub the_stack_holds_at_most_1152_entries : (κs : Lfts 0) (before : CodeContext × (CodeTarget × Unit {0})) → schedule.Asked κs before → length (context_of 0 before.0).stack < 1152
+-- "The stack holds at most 1,152 entries, also proved.": a build that is refused where a block's walk begins or ends with more than 1,151 is the definition's
+pub the_stack_holds_at_most_1152_entries : (rule : Rule) (words : List ℕ) → checked words ≡ accepted
+    → watched (at_most_entries 1151) rule (table_of words) ≡ build_tree rule (table_of words)
+the_stack_holds_at_most_1152_entries rule words passed = stack_most rule (table_of words) (ranged words passed).few
+
+-- and between two of those points at most one is added, whatever the walk of the blocks nested in an arm: if each of them ends with fewer than so many
+-- entries, as the arm begins, then none of them begins with more than so many, and the arm ends with fewer
+pub an_arm_adds_at_most_one_entry : (most : ℕ) (t : Table) (visit : VisitValueBlock) (traverse : TraverseInside)
+    → ((around : Around) (block : ℕ) (cx : Context) (result : BlockResult) → length cx.stack ≤ most → traverse around block cx ≡ ok result → length result.context.stack < most)
+    → (around : Around) (terminal : Terminal) (at : ℕ) (block : Block) (cx : Context) → length cx.stack < most
+    → (visit_terminal t visit (λ around. watch (at_most_entries most) around (traverse around)) around terminal at block cx ≡ visit_terminal t visit traverse around terminal at block cx)
+    × ((result : TerminalResult) → visit_terminal t visit traverse around terminal at block cx ≡ ok result → length result.context.stack < most)
+an_arm_adds_at_most_one_entry = one_entry_an_arm
+
+-- "Depth at most 128": a build that is refused where a block has more than 127 statements around it is the definition's
+pub the_depth_is_at_most_128 : (rule : Rule) (words : List ℕ) → checked words ≡ accepted
+    → watched (at_most_deep 128) rule (table_of words) ≡ build_tree rule (table_of words)
+the_depth_is_at_most_128 rule words passed = depth_most rule (table_of words) (ranged words passed).few
+
+-- the code's `schedule` alone puts an entry onto the code's stack, and asks of its caller, who had to prove it, that one more fits
+pub the_code_schedules_where_an_entry_fits : (κs : Lfts 0) (before : CodeContext × (CodeTarget × Unit {0})) → schedule.Asked κs before → length (context_of 0 before.0).stack < 1152
 unfolding context_of
-the_stack_holds_at_most_1152_entries κs before asked = rw (stack_length before.0.stack before.0.len) asked.1.len
+the_code_schedules_where_an_entry_fits κs before asked = rw (stack_length before.0.stack before.0.len) asked.1.len
 
 -- ---- M-107: how many loops a jump leaves
 
