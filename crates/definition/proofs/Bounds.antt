@@ -328,7 +328,7 @@ module _ (allowed : Allowed)
       (λ w below. good_unless (Room Paid fewer_paid) _ 11 b w _ (λ fresh.
       let size : length (add c.emitted b) ≡ 1024 = length_add c.emitted b 1024 h.flags in
       let grows : Grows c.emitted (add c.emitted b) =
-          record { size = length_add c.emitted b (length c.emitted) refl; kept = λ x. has_still c.emitted b x } in
+      record { size = length_add c.emitted b (length c.emitted) refl; kept = λ x. has_still c.emitted b x } in
       let new : has (add c.emitted b) b ≡ true = has_new c.emitted b (omega (arith, below, few, h.flags)) in
       record {
         few = omega (arith, h.few, marks_enter b c.emitted (add c.emitted b) grows fresh new);
