@@ -1,5 +1,6 @@
--- The build, watched from outside: wherever a block's walk begins, and wherever it ends, at every depth and after every fallthrough, the build is refused
--- unless the statements being built around the block, and the state, are allowed. A bound of the walk is a theorem that such a build is the definition's.
+-- The build, watched from outside: wherever a block's walk begins and wherever it ends, at every depth and after every fallthrough, the
+-- build is refused unless the statements being built around the block, and the state, are allowed. A bound of the walk is a theorem that
+-- such a build is the definition's. An arm schedules onto the state that it begins with, or onto one that a nested block's walk ends with.
 use Rattle.std.specs.Prelude.{ℕ, zero, suc, Bool, not, leb, length}
 use Rattle.table.specs.Table.{Table, block_at, terminal_at}
 use Rattle.definition.specs.Around.{Rule, Around, outermost}
