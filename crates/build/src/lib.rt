@@ -7,14 +7,14 @@ pub mod file;
 ghost use Rattle.std.specs.Prelude.{◌≡◌, length};
 ghost use Rattle.definition.specs.Around.{rust, language};
 ghost use Rattle.definition.specs.Build.{built};
-ghost use Rattle.control.specs.AroundAbstraction.{rule_of};
+ghost use Rattle.control.specs.Rule.{rule_of};
 ghost use Rattle.build.specs.Entry.{outcome, outcome_cleared};
 
 use crate::answer::BuildError;
 use control::rule::Rule;
 use values::rows::clear;
 use walk::answer::{Walked, tell};
-use walk::walk;
+use walk::entry::walk;
 
 // The build, before what is left of the buffers is cleared. The code is 40 if the rows do not fit, else 41 if the lines do not.
 fn try_build(

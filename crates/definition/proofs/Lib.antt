@@ -16,6 +16,7 @@ pub mod Crossed
 pub mod Formed
 pub mod Labels
 pub mod Emitted
+pub mod Bounds
 pub mod Sits
 pub mod Rises
 pub mod Preview

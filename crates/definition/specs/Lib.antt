@@ -9,6 +9,7 @@ pub mod Named
 pub mod Crossed
 pub mod Value
 pub mod Statement
+pub mod Watched
 pub mod Build
 pub mod Preview
 pub mod Run
@@ -19,6 +20,8 @@ pub mod Plain
 pub mod PlainLoops
 pub mod PlainTest
 pub mod Output
+pub mod Put
+pub mod Marks
 pub mod RunLaw
 pub mod LoopLaw
 pub mod Relabeled

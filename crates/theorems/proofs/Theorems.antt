@@ -1,6 +1,6 @@
 -- The final theorems: statements only, each by the lemma that proves it. What must be believed to read them are the definitions that they name
 -- (docs/DEFINITION.md gives an order to read them in), and the kit. One section for each demand; a request adds its own.
-use Prim.Native.Nat.{ℕ, suc, ◌+◌, ◌*◌, ◌≤◌}
+use Prim.Native.Nat.{ℕ, suc, ◌+◌, ◌*◌, ◌≤◌, ◌<◌}
 use mathlib.Core.Path.{◌≡◌, refl, sym, subst}
 use mathlib.Core.List.{List, [], map}
 use mathlib.Core.Logic.{◌⊎◌}
@@ -10,12 +10,11 @@ use lib.Dec.{T, eqb}
 use contract.Lifetimes.{Lfts}
 use denote.Ref.{Bor, MutBor}
 use Rattle.std.specs.Prelude.{Result, Ok, Err, IfOk, is_ok}
-use Rattle.table.specs.Check.{accepted, checked}
-use Rattle.table.specs.Table.{Table, table_of}
+use Rattle.table.specs.Check.{checked, accepted}
+use Rattle.table.specs.Table.{Table, Block, Terminal, table_of}
 use Rattle.table.specs.Answer as table
 use Rattle.table.specs.declared.Refusal.{Refusal}
 use Rattle.table.specs.declared.checked.Table.{Table as CheckedTable}
-use Rattle.table.proofs.PromiseLaws.{promised}
 use Rattle.table.proofs.Refusal.code.Statement as code_stated
 use Rattle.table.proofs.Refusal.code.Met as code_proved
 use Rattle.table.proofs.Refusal.code.Reads as code_method
@@ -30,14 +29,14 @@ use Rattle.table_check.proofs.table_check.Met as check_export_proved
 use Rattle.table_check.proofs.table_check.Reads as check_export
 use Rattle.definition.specs.Around.{Rule, rust, language, Around, is_switch_inside, kind_by}
 use Rattle.definition.specs.Relabeled.{relabeled}
-use Rattle.definition.specs.Result.{already_scheduled, unschedule_out_of_order, maybe_throw_in_value_terminal}
+use Rattle.definition.specs.Result.{ok, already_scheduled, unschedule_out_of_order, maybe_throw_in_value_terminal}
 use Rattle.definition.specs.Tree.{Value, unlabeled, WHILE, BREAK, Statements, done, ◌▸◌, rows}
 use Rattle.definition.specs.Context.{ControlFlowTarget, target_if, target_switch, target_case, target_loop, target_block, continues_at, Context, Resolution, get_break_target, get_continue_target}
-use Rattle.definition.specs.Value.{most_visits, visit_value_block}
-use Rattle.definition.specs.Statement.{visit_block, traverse_block}
+use Rattle.definition.specs.Value.{most_visits, VisitValueBlock, visit_value_block}
+use Rattle.definition.specs.Statement.{BlockResult, TerminalResult, TraverseInside, visit_terminal, visit_block, traverse_block, build_tree}
+use Rattle.definition.specs.Watched.{at_most_entries, at_most_deep, watch, watched}
 use Rattle.definition.specs.Build.{rejected, report, refusal, built}
 use Rattle.definition.specs.Build as definition
-use Rattle.machine.specs.Machine.{State, begin, Gives, run}
 use Rattle.definition.specs.Run.{Answers, Reason, stopped}
 use Rattle.definition.specs.BlockRun.{block_run}
 use Rattle.definition.specs.Plain.{Width, paper_01, with_switch, Plain}
@@ -50,10 +49,9 @@ use Rattle.definition.specs.RunLaw.{RunLaw, SwitchLaw, LawOfSwitches}
 use Rattle.definition.proofs.Outcomes.{outcome_code, refused_form, refused_rows, accepted_form}
 use Rattle.definition.proofs.Visits.{visits_most}
 use Rattle.definition.proofs.Never.{target_known, never_already_scheduled, never_unschedule_out_of_order, never_maybe_throw_in_value_terminal}
-use Rattle.machine.proofs.Simulation.{machine_builds}
-use Rattle.machine.specs.Reached.{Reached, context_of, frames_of}
-use Rattle.machine.proofs.Invariant.{Small, sound_small, reached_going, stack_bound, machine_turns}
 use Rattle.definition.proofs.Enough.{blocks_enough}
+use Rattle.definition.proofs.Bounds.{stack_most, depth_most, one_entry_an_arm}
+use Rattle.definition.proofs.Checked.{ranged}
 use Rattle.definition.specs.PlainLoops.{PlainLoops}
 use Rattle.definition.specs.LoopLaw.{LawOfLoops, LawOfLoopsAndSwitches}
 use Rattle.definition.proofs.PlainEnough.{plain_enough}
@@ -85,12 +83,16 @@ use Rattle.tree_check.proofs.tree_check.Reads as tree_export
 use Rattle.text.specs.Ascii.{ascii}
 use Rattle.text.specs.Decimal.{digits_of}
 use Rattle.text.proofs.DecimalLaws.{steps}
+use Rattle.control.specs.Abstraction.{context_of}
+use Rattle.control.specs.declared.Context.{Context as CodeContext}
+use Rattle.control.specs.declared.ControlFlowTarget.{ControlFlowTarget as CodeTarget}
+use Rattle.control.proofs.ContextLaws.{stack_length}
+use Rattle.control.proofs.Context.schedule.Reads as schedule
 use Rattle.walk.specs.declared.answer.Walked.{Walked}
 use Rattle.build.specs.declared.answer.BuildError.{BuildError}
 use Rattle.build.specs.Entry.{numbers, outcome}
 use Rattle.build.proofs.EntryLaws.{code_some as build_refuses}
 use Rattle.std.proofs.lemmas.Bool.{ne_eqb}
-use Rattle.walk.proofs.CheckedLaws.{checked_table}
 use Rattle.build.proofs.Demand3.{entry_tree, entry_law, language_law}
 use Rattle.build.proofs.build_reactive_function.Statement as entry_stated
 use Rattle.build.proofs.build_reactive_function.Met as entry_proved
@@ -346,17 +348,36 @@ pub no_target_type_is_unknown : (target : ControlFlowTarget)
     ⊎ ((block continue_block loop_block : ℕ) × (target ≡ target_loop block continue_block loop_block))))
 no_target_type_is_unknown = target_known
 
--- ---- bounds, in every state that the build of checked words comes to
+-- ---- the bounds of the control stack and of the depth, of the definition (definition/specs/Watched)
 
--- "The stack holds at most 1,152 entries, also proved."
-pub the_stack_holds_at_most_1152_entries : (rule : Rule) (words : List ℕ) → checked words ≡ accepted → (s : State) → Reached rule (table_of words) s
-    → length (context_of s).stack ≤ 1152
-the_stack_holds_at_most_1152_entries rule words passed s reached = stack_bound rule (table_of words) (checked_table words (promised words passed)) s reached
+-- "The stack holds at most 1,152 entries, also proved.": a build that is refused where a block's walk begins or ends with more than
+-- 1,151 is the definition's
+pub the_stack_holds_at_most_1152_entries : (rule : Rule) (words : List ℕ) → checked words ≡ accepted
+    → watched (at_most_entries 1151) rule (table_of words) ≡ build_tree rule (table_of words)
+the_stack_holds_at_most_1152_entries rule words passed = stack_most rule (table_of words) (ranged words passed).few
 
-pub the_depth_is_at_most_128 : (rule : Rule) (words : List ℕ) → checked words ≡ accepted → (s : State) → Reached rule (table_of words) s → length (frames_of s) ≤ 128
-the_depth_is_at_most_128 rule words passed s reached =
-    let checks = checked_table words (promised words passed) in
-    let small : Small s = sound_small (table_of words) s (reached_going rule (table_of words) checks s reached).sound in small.frames
+-- and between two of those points at most one is added, whatever the walk of the blocks nested in an arm: if each of them ends with fewer
+-- than so many entries, as the arm begins, then none of them begins with more than so many, and the arm ends with fewer
+pub an_arm_adds_at_most_one_entry : (most : ℕ) (t : Table) (visit : VisitValueBlock) (traverse : TraverseInside)
+    → ((around : Around) (block : ℕ) (cx : Context) (result : BlockResult) → length cx.stack ≤ most → traverse around block cx ≡ ok result
+    → length result.context.stack < most)
+    → (around : Around) (terminal : Terminal) (at : ℕ) (block : Block) (cx : Context) → length cx.stack < most
+    → (visit_terminal t visit (λ around. watch (at_most_entries most) around (traverse around)) around terminal at block cx
+    ≡ visit_terminal t visit traverse around terminal at block cx)
+    × ((result : TerminalResult) → visit_terminal t visit traverse around terminal at block cx ≡ ok result
+    → length result.context.stack < most)
+an_arm_adds_at_most_one_entry = one_entry_an_arm
+
+-- "Depth at most 128": a build that is refused where a block has more than 127 statements around it is the definition's
+pub the_depth_is_at_most_128 : (rule : Rule) (words : List ℕ) → checked words ≡ accepted
+    → watched (at_most_deep 128) rule (table_of words) ≡ build_tree rule (table_of words)
+the_depth_is_at_most_128 rule words passed = depth_most rule (table_of words) (ranged words passed).few
+
+-- the code's `schedule` alone puts an entry onto the code's stack, and asks of its caller, who had to prove it, that one more fits
+pub the_code_schedules_where_an_entry_fits : (κs : Lfts 0) (before : CodeContext × (CodeTarget × Unit {0})) → schedule.Asked κs before
+    → length (context_of 0 before.0).stack < 1152
+unfolding context_of
+the_code_schedules_where_an_entry_fits κs before asked = rw (stack_length before.0.stack before.0.len) asked.1.len
 
 -- ---- M-107: how many loops a jump leaves
 
@@ -501,22 +522,12 @@ pub the_sample_file_prints_its_output :
     (ascii "code at rows visits\n0 0 2 1\nop a b c d e\n22 0 7 0 0 0\n9 1 0 0 0 0\n")
 the_sample_file_prints_its_output = sample_prints
 
--- ---- the machine, which the code follows turn by turn, gives what the definition gives
-
-pub the_machine_gives_the_definition : (rule : Rule) (t : Table) → Gives rule t (begin t) (report rule t)
-the_machine_gives_the_definition = machine_builds
-
 -- ---- no count that a definition recurses on is ever too small. (The depth, 128, is the paper's own bound, and gives 30.)
 
 -- 8,193 blocks at one depth: more change nothing
 pub more_blocks_change_nothing : (t : Table) (around : Around) (depth_left more block : ℕ) (cx : Context)
     → visit_block t (visit_value_block t depth_left) (traverse_block t depth_left) around (more + suc most_visits) block cx ≡ traverse_block t (suc depth_left) around block cx
 more_blocks_change_nothing = blocks_enough
-
--- 16,818,177 turns of the machine, for words that are checked
-pub more_turns_change_nothing : (rule : Rule) (words : List ℕ) → checked words ≡ accepted → (turns : ℕ) → 16818177 ≤ turns
-    → run rule (table_of words) turns (begin (table_of words)) ≡ report rule (table_of words)
-more_turns_change_nothing rule words passed = machine_turns rule (table_of words) (checked_table words (promised words passed))
 
 -- a block run that has stopped
 pub more_steps_change_nothing : (t : Table) (more steps block : ℕ) (answers : Answers) (performed : List ℕ) (left : Answers) (reason : Reason)
