@@ -26,6 +26,7 @@ pub mod PartingRows
 pub mod PlainEnough
 pub mod Runnable
 pub mod Loops
+pub mod Reasons
 pub mod Semantics
 pub mod Resolve
 pub mod State

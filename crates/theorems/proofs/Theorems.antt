@@ -9,7 +9,7 @@ use lib.ListN.{length, take}
 use lib.Dec.{T, eqb}
 use contract.Lifetimes.{Lfts}
 use denote.Ref.{Bor, MutBor}
-use Rattle.std.specs.Prelude.{Result, Ok, Err, IfOk, is_ok}
+use Rattle.std.specs.Prelude.{Result, Ok, Err, IfOk, OnOk, is_ok}
 use Rattle.table.specs.Check.{checked, accepted}
 use Rattle.table.specs.Table.{Table, Block, Terminal, table_of}
 use Rattle.table.specs.Answer as table
@@ -140,14 +140,25 @@ build_asks_nothing κs before = tt
 -- what a caller learns from that contract: code, at, rows, visits, lines and every lent word of both buffers, refused or not
 pub build_gives_the_definition : (κs : Lfts 3) (before after : Lent) (answer : Result Walked BuildError) → entry.Learnt κs before answer after
     → outcome answer after.1.0.now after.1.1.0.now ≡ built rust before.0.now (length before.1.0.now) (length before.1.1.0.now)
-build_gives_the_definition κs before after answer learnt = learnt
+build_gives_the_definition κs before after answer learnt = learnt.0
+
+pub build_gives_the_run_law : (κs : Lfts 3) (before after : Lent) (answer : Result Walked BuildError) → entry.Learnt κs before answer after
+    → OnOk answer (Plain paper_01 (table_of before.0.now) → RunLaw before.0.now (outcome answer after.1.0.now after.1.1.0.now))
+build_gives_the_run_law κs before after answer learnt = learnt.1
 
 pub the_language_entry_asks_nothing : (κs : Lfts 3) (before : Lent) → language_entry.Asked κs before
 the_language_entry_asks_nothing κs before = tt
 
 pub the_language_entry_gives_the_definition : (κs : Lfts 3) (before after : Lent) (answer : Result Walked BuildError) → language_entry.Learnt κs before answer after
     → outcome answer after.1.0.now after.1.1.0.now ≡ built language before.0.now (length before.1.0.now) (length before.1.1.0.now)
-the_language_entry_gives_the_definition κs before after answer learnt = learnt
+the_language_entry_gives_the_definition κs before after answer learnt = learnt.0
+
+-- without Switch, and with it
+pub the_language_entry_gives_the_run_laws : (κs : Lfts 3) (before after : Lent) (answer : Result Walked BuildError)
+    → language_entry.Learnt κs before answer after
+    → OnOk answer (Plain paper_01 (table_of before.0.now) → RunLaw before.0.now (outcome answer after.1.0.now after.1.1.0.now))
+    × OnOk answer (Plain with_switch (table_of before.0.now) → SwitchLaw before.0.now (outcome answer after.1.0.now after.1.1.0.now))
+the_language_entry_gives_the_run_laws κs before after answer learnt = (learnt.1.0, learnt.1.1)
 
 -- a build's answer is Ok where it is accepted
 pub ok_is_built : (answer : Result Walked BuildError) → is_ok answer ≡ eqb (numbers answer).code 0
@@ -393,7 +404,8 @@ a_continue_gives_the_loops_above_its_loop = continue_found
 
 -- the same of the tree whose rows the buffer holds: d counts the loops between a jump and the statement that it was resolved on, with none between that bears its
 -- label; and in the first entry a jump whose target is a loop is Labeled exactly when d is above 0 (definition/specs/Named, `Lands`, `LandedKind`, `VeryLoop`)
-pub the_jumps_of_a_tree_count_their_loops : (rule : Rule) (words : List ℕ) (lent lent_index : ℕ) → (built rule words lent lent_index).code ≡ 0 → LabelsThere rule words lent lent_index
+pub the_jumps_of_a_tree_count_their_loops : (rule : Rule) (words : List ℕ) (lent lent_index : ℕ)
+    → (built rule words lent lent_index).code ≡ 0 → LabelsThere rule (built rule words lent lent_index)
 the_jumps_of_a_tree_count_their_loops = labels_there
 
 pub no_row_has_more_than_128_loops : (rule : Rule) (words : List ℕ) (lent lent_index : ℕ) → (built rule words lent lent_index).code ≡ 0
@@ -483,7 +495,8 @@ the_first_entry_never_gives_29 = first_never_29
 
 -- in an accepted tree of the language entry each Labeled jump stands in a statement with its label, a continue in its own loop with it, and the nearest loop
 -- or SWITCH around an Unlabeled break is a loop (definition/specs/Named)
-pub the_labels_are_there : (words : List ℕ) (lent lent_index : ℕ) → (built language words lent lent_index).code ≡ 0 → LabelsThere language words lent lent_index
+pub the_labels_are_there : (words : List ℕ) (lent lent_index : ℕ) → (built language words lent lent_index).code ≡ 0
+    → LabelsThere language (built language words lent lent_index)
 the_labels_are_there = labels_there language
 
 -- ---- M-101: find a statement by its label
