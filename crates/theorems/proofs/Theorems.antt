@@ -52,7 +52,8 @@ use Rattle.definition.proofs.Enough.{blocks_enough}
 use Rattle.definition.specs.PlainLoops.{PlainLoops}
 use Rattle.definition.specs.LoopLaw.{LawOfLoops, LawOfLoopsAndSwitches}
 use Rattle.definition.proofs.PlainEnough.{plain_enough}
-use Rattle.definition.proofs.Law.{switch_law, loops_law as law_of_loops, loops_and_switches_law, more_steps, one_tree}
+use Rattle.definition.proofs.TreeInBuffer.{one_tree}
+use Rattle.definition.proofs.Law.{switch_law, loops_law as law_of_loops, loops_and_switches_law, more_steps}
 use Rattle.definition.specs.Crossed.{Found}
 use Rattle.definition.proofs.Crossed.{break_found, continue_found}
 use Rattle.definition.proofs.JumpRows.{built_within}
