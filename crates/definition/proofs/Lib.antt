@@ -28,6 +28,8 @@ pub mod Loops
 pub mod Frames
 pub mod Arrive
 pub mod ValueReads
+pub mod Chains
+pub mod ChainsRead
 pub mod SeenConditions
 pub mod ValueLead
 pub mod Flattened

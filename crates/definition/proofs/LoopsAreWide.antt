@@ -20,7 +20,9 @@ use Rattle.definition.proofs.PlainTest.{or_right}
 use Rattle.definition.proofs.Steps.{true_false, none_some, some_eq}
 use Rattle.definition.proofs.StraightValues.{value_codes, NoValues}
 use Rattle.definition.specs.ValueEnds.{ValueEnd, ends_at, value_end_at, value_end, end_of, store_at_end, store_of_end, unseen_of, unseen_of_all, seen, seen_rows}
-use Rattle.definition.specs.PlainValue.{test_of, Asks, GoesTo, NoStore, PlainValues}
+use Rattle.definition.specs.PlainValue.{test_of, Asks, GoesTo, NoStore, owns_test, PlainValues}
+use Rattle.definition.proofs.Chains.{Owns}
+use Rattle.definition.proofs.ChainsRead.{owns_is}
 use Rattle.definition.specs.WideLoops.{wide_codes, wide_entered_by, WideLoops}
 
 ends_eq : {a b c d : ℕ} → some (ends_at a b) ≡ some (ends_at c d) → (a ≡ c) × (b ≡ d)
@@ -104,14 +106,18 @@ module _ (t : Table) where
         at (try block handler fallthrough binding) e q = none_some q
         at (scope pruned block fallthrough number) e q = none_some q
 
+    owns_none : (b e : ℕ) → owns_test t e (terminal_at t b) ≡ true → ⊥
+    owns_none b e h = let o : Owns t e b = owns_is t e b h in asks_none b o.holder e o.consequent o.alternate (optional o.flag o.test o.fallthrough) o.asks
+
     pub old_values : PlainValues t
     old_values = record {
       yes_arm = λ b m h y c d f holder e a q k. absurd (asks_none b h y c d m a);
       no_arm = λ b m h y c d f holder e a o q k. absurd (asks_none b h y c d m a);
       block_arm = λ b c f holder e q k. absurd (not_coded b (sequence c f) q refl);
       left = λ b o x f h y c d a. absurd (asks_none b h y c d (logical o x f) a);
-      no_value = λ b o x f h y c d exit a k. absurd (asks_none b h y c d (optional o x f) a);
       exits = λ b o x f e. absurd (not_coded b (optional o x f) e refl);
+      no_value = λ b o x f h y c d exit a k. absurd (asks_none b h y c d (optional o x f) a);
+      one_owner = λ e b b' h k. absurd (owns_none b e h);
       tests = λ b m h y c d a. absurd (asks_none b h y c d m a);
     }
 

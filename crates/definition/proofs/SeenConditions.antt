@@ -8,7 +8,8 @@ use mathlib.Core.Bool.{Bool, false}
 use Rattle.table.specs.Table.{Table, Terminal, for, logical, optional, sequence, terminal_at, instruction_rows_at}
 use Rattle.definition.specs.Plain.{fallthrough_of}
 use Rattle.definition.specs.ValueEnds.{ends_at, end_of, value_fallthrough, store_at_end, seen_rows}
-use Rattle.definition.specs.PlainValue.{is_optional, Asks, GoesTo, Silent, NoStore, Exits}
+use Rattle.definition.specs.PlainValue.{is_optional, Asks, GoesTo, NoStore}
+use Rattle.definition.proofs.Chains.{Silent, Exits}
 
 -- the value in the block h is no store to an unnamed identifier, or that store is not seen
 abbrev pub Quiet : Table → (seen_row : ℕ → Bool) → ℕ → Type 0

@@ -44,7 +44,8 @@ use Rattle.definition.specs.ValueEnds.{ends_at, end_of, value_fallthrough}
 use Rattle.definition.specs.ValueRun.{Valued, valued, run_value}
 use Rattle.definition.specs.WideTreeRun.{run_update, wide_statement, wide_statements}
 use Rattle.definition.specs.WideLoops.{wide_codes, wide_entered_by, WideLoops}
-use Rattle.definition.specs.PlainValue.{is_optional, GoesTo, Silent, silent_goto, silent_throw, Bare, bare_branch, bare_throw, Owns, Exits, exit_last, exit_linked}
+use Rattle.definition.specs.PlainValue.{is_optional, GoesTo}
+use Rattle.definition.proofs.Chains.{Silent, silent_goto, silent_throw, Bare, bare_branch, bare_throw, Owns, Exits, exit_last, exit_linked}
 use Rattle.definition.proofs.SeenConditions.{SeenValues, SeenInits}
 use Rattle.definition.proofs.Arrive.{onward_here, TermOn, ValueOn}
 use Rattle.definition.proofs.ValueReads.{Placed, Reads, ReadsTerminal, reads_logical, reads_ternary, reads_optional, reads_sequence, ReadTo, TerminalRead, ends_in, value_reads, terminal_reads}

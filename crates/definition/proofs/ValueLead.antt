@@ -23,7 +23,8 @@ use Rattle.definition.specs.ValueEnds.{value_fallthrough, ends_at, end_of, store
 use Rattle.definition.specs.WideRun.{wide_move}
 use Rattle.definition.specs.ValueRun.{Ending, in_whole, in_short, stopping, Valued, valued, value_prefix, then_value_on, then_value, ask, without, taken_over_on, taken_over}
 use Rattle.definition.specs.ValueRun.{is_load, is_link, run_value, run_optional, run_all}
-use Rattle.definition.specs.PlainValue.{is_optional, Asks, GoesTo, Silent, silent_goto, silent_throw, NoStore, Bare, bare_branch, bare_throw, Owns, Unowned, Exits, exit_last, exit_linked}
+use Rattle.definition.specs.PlainValue.{is_optional, Asks, GoesTo, NoStore}
+use Rattle.definition.proofs.Chains.{Silent, silent_goto, silent_throw, Bare, bare_branch, bare_throw, Owns, Unowned, Exits, exit_last, exit_linked}
 use Rattle.definition.proofs.SeenConditions.{Quiet, SeenValues}
 use Rattle.definition.proofs.ValueReads.{end_value, Reads, reads_goto, reads_branch, reads_empty, reads_last_throw, reads_throw, reads_on, ReadsTerminal, reads_logical, reads_ternary}
 use Rattle.definition.proofs.ValueReads.{reads_optional, reads_sequence}

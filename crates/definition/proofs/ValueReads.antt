@@ -19,7 +19,7 @@ use Rattle.definition.specs.Value.{visit_value_block_at, is_empty_goto}
 use Rattle.definition.proofs.Steps.{none_some, some_eq, Good, good_bind, good_unless}
 use Rattle.definition.specs.ValueEnds.{ValueEnd, ends_at, value_end_at, value_end, end_of}
 
-branch_of_ways : (m : Terminal) (w : Ways) → branch_ways m ≡ some w → (place : ℕ) × (m ≡ branch place w.consequent w.alternate)
+pub branch_of_ways : (m : Terminal) (w : Ways) → branch_ways m ≡ some w → (place : ℕ) × (m ≡ branch place w.consequent w.alternate)
 branch_of_ways absent w e = absurd (none_some e)
 branch_of_ways unreachable w e = absurd (none_some e)
 branch_of_ways (throw value) w e = absurd (none_some e)

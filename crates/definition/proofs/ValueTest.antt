@@ -1,60 +1,44 @@
--- What passes the test has the conditions: a table is shown to be one that the law with values speaks of by computation.
+-- The Boolean test of the conditions on wide plain tables (specs/ValueTest, `is_wide`) holds exactly of these tables: a table is shown to be one by computation. One
+-- direction takes the test apart, the other puts it together.
 use mathlib.Core.Path.{◌≡◌, refl, sym, ap, ◌∙◌, subst}
-use Prim.Native.Nat.{ℕ, zero, suc}
+use mathlib.Core.Logic.{◌↔◌}
+use Prim.Native.Nat.{ℕ}
 use mathlib.Core.List.{List, [], ◌∷◌}
 use mathlib.Core.Option.{Option, none, some}
-use mathlib.Core.Bool.{Bool, true, false, not, ◌&&◌, ◌||◌, cond}
-use lib.ListN.{get_or}
+use mathlib.Core.Bool.{Bool, true, false, not, ◌&&◌, ◌||◌}
 use lib.Dec.{eqb}
-use borrow.Author.Tests.{eqb-true, eq-eqb}
-use Rattle.table.specs.Table.{Table, Block, Case, Terminal, Try, absent, unreachable, throw, return, goto, if, branch, switch, do_while, while, for, for_of, for_in}
-use Rattle.table.specs.Table.{logical, ternary, optional, label, sequence, maybe_throw, try, scope, code_of, is_unreachable, no_block, block_at, terminal_at, instruction_rows_at}
+use borrow.Author.Tests.{eqb-true, eq-eqb, ne_eqb}
+use Rattle.table.specs.Table.{Table, Terminal, Break, Continue, Try, absent, unreachable, throw, return, goto, if, branch, switch, do_while, while, for, for_of, for_in}
+use Rattle.table.specs.Table.{logical, ternary, optional, label, sequence, maybe_throw, try, scope, code_of, is_unreachable, terminal_at, instruction_rows_at}
 use Rattle.definition.specs.Completion.{contains}
 use Rattle.definition.specs.Statement.{cases_last_first}
-use Rattle.definition.specs.Value.{most_depth, is_fallthrough, is_empty, branch_ways, is_empty_goto}
-use Rattle.definition.specs.Plain.{Width, paper_01, with_switch, fallthrough_of, is_branch, All}
-use Rattle.definition.specs.PlainLoops.{Loop, new_loop, loop_of, ends_in_own_load, drop_own, proper_blocks_of, IsProper, Reached, may_be_open}
+use Rattle.definition.specs.Value.{most_depth, is_fallthrough, is_empty, Ways, branch_ways}
+use Rattle.definition.specs.Plain.{Width, paper_01, with_switch, fallthrough_of, All}
+use Rattle.definition.specs.PlainLoops.{Loop, new_loop, loop_of, ends_in_own_load, proper_blocks_of, IsProper, Reached, may_be_open}
 use Rattle.definition.specs.PlainTest.{every_of, all_of, goto_block, shape_of, is_branch_to, not_in_loop, last_is_own, all_reached, only_of}
-use Rattle.definition.proofs.Steps.{true_false, none_some, some_eq}
-use Rattle.definition.proofs.PlainTest.{and_left, and_right, or_else, or_right, not_is, by_cases, every_at, all_at, branch_of, fallthrough_is, is_fallthrough_lem, goto_of, only_at}
-use Rattle.definition.specs.ValueEnds.{ValueEnd, ends_at, end_of, value_fallthrough, store_at_end, seen, seen_rows}
+use Rattle.definition.specs.ValueEnds.{ValueEnd, ends_at, end_of, value_fallthrough, store_at_end}
 use Rattle.definition.specs.WideLoops.{wide_codes, wide_entered_by, WideLoops}
-use Rattle.definition.specs.PlainValue.{test_of, is_optional, Asks, GoesTo, Silent, silent_goto, silent_throw, NoStore, Bare, bare_branch, bare_throw, Owns, Unowned, Exits, exit_last, exit_linked, PlainValues}
-use Rattle.definition.specs.ValueTest.{find_of, goes_test, no_store_test, end_passes, arm_test, ways_pass, asks_test, silent_at, silent_test, bare_at, bare, end_is, owns_test, owner, exit_by, exit_on, exit_at, exit_of, exit_passes}
-use Rattle.definition.specs.ValueTest.{one_owner, value_test, wide_update_test, wide_part_test, wide_loop_test, wide_end_test, wide_proper_test, wide_block_test, is_wide}
+use Rattle.definition.specs.PlainValue.{test_of, is_optional, Asks, GoesTo, NoStore, straight_to, only_its_store, owns_test, exit_of, PlainValues}
+use Rattle.definition.specs.ValueLaw.{WidePlain}
+use Rattle.definition.specs.ValueTest.{goes_test, no_store_test, end_passes, arm_test, ways_pass, asks_test, exit_passes, one_owner, value_test, wide_update_test, wide_part_test, wide_loop_test}
+use Rattle.definition.specs.ValueTest.{wide_end_test, wide_proper_test, wide_block_test, is_wide}
+use Rattle.definition.proofs.Steps.{true_false, none_some, some_eq}
+use Rattle.definition.proofs.PlainTest.{and_left, and_right, and_both, or_else, or_left, or_right, not_is, is_not, by_cases, every_at, every_of_lem, all_at, all_of_lem}
+use Rattle.definition.proofs.PlainTest.{branch_of, is_branch_to_lem, fallthrough_is, is_fallthrough_lem, goto_of, only_at, only_of_lem}
+use Rattle.definition.proofs.LoopTest.{drop_none, drops_none, reached_all, all_reached_lem}
+use Rattle.definition.proofs.ValueReads.{branch_of_ways}
+use Rattle.definition.proofs.Chains.{Owns}
+use Rattle.definition.proofs.ChainsRead.{owns_is, owns_passes}
 
 both : (a b : Bool) → a && b ≡ true → (a ≡ true) × (b ≡ true)
 both a b h = (and_left a b h, and_right a b h)
 
+last_of : (a b c d : Bool) → a && (b && (c && d)) ≡ true → d ≡ true
+last_of a b c d h = and_right c d (and_right b (c && d) (and_right a (b && (c && d)) h))
+
 empty_is : (rows : List ℕ) → is_empty rows ≡ true → rows ≡ []
 empty_is [] h = refl
 empty_is (r ∷ rs) h = absurd (true_false (sym h))
-
-find_sound : (bs : List Block) (p : ℕ → Terminal → Bool) (b : ℕ) → find_of bs p ≡ some b → p b (get_or bs b no_block).terminal ≡ true
-find_sound [] p b h = absurd (none_some h)
-find_sound (k ∷ ks) p b h = at (p 0 k.terminal) refl (find_of ks (λ n. p (suc n))) refl h (λ n q. find_sound ks (λ m. p (suc m)) n q)
-  where
-    at : (y : Bool) → p 0 k.terminal ≡ y → (o : Option ℕ) → find_of ks (λ n. p (suc n)) ≡ o
-        → cond y (some 0) (elim o [ none ↦ none | some n ↦ some (suc n) ]) ≡ some b
-        → ((n : ℕ) → find_of ks (λ m. p (suc m)) ≡ some n → p (suc n) (get_or ks n no_block).terminal ≡ true) → p b (get_or (k ∷ ks) b no_block).terminal ≡ true
-    at true q o r e ih = subst (λ (z : ℕ). p z (get_or (k ∷ ks) z no_block).terminal ≡ true) (some_eq e) q
-    at false q none r e ih = absurd (none_some e)
-    at false q (some n) r e ih = subst (λ (z : ℕ). p z (get_or (k ∷ ks) z no_block).terminal ≡ true) (some_eq e) (ih n r)
-
-find_some : (bs : List Block) (p : ℕ → Terminal → Bool) (b : ℕ) → ((c : ℕ) → p c no_block.terminal ≡ false) → p b (get_or bs b no_block).terminal ≡ true → find_of bs p ≡ none → ⊥
-find_some [] p b n h e = true_false (sym h ∙ n b)
-find_some (k ∷ ks) p b n h e = at (p 0 k.terminal) refl (find_of ks (λ m. p (suc m))) refl b h e (λ c q. find_some ks (λ m. p (suc m)) c (λ d. n (suc d)) q)
-  where
-    at : (y : Bool) → p 0 k.terminal ≡ y → (o : Option ℕ) → find_of ks (λ m. p (suc m)) ≡ o → (b : ℕ) → p b (get_or (k ∷ ks) b no_block).terminal ≡ true
-        → cond {A = Option ℕ} y (some 0) (elim o [ none ↦ none | some m ↦ some (suc m) ]) ≡ none
-        → ((c : ℕ) → p (suc c) (get_or ks c no_block).terminal ≡ true → find_of ks (λ m. p (suc m)) ≡ none → ⊥) → ⊥
-    at true q o r b h e ih = none_some (sym e)
-    at false q (some m) r b h e ih = none_some (sym e)
-    at false q none r zero h e ih = true_false (sym h ∙ q)
-    at false q none r (suc b) h e ih = ih b h r
-
-some_none : {A : Type 0} {a : A} → ◌≡◌ {A = Option A} (some a) none → ⊥
-some_none e = none_some (sym e)
 
 module _ (t : Table) where
   end_at : (c h e : ℕ) (p : ℕ → ℕ → Bool) → end_passes t (end_of t c) p ≡ true → end_of t c ≡ some (ends_at h e) → p h e ≡ true
@@ -72,152 +56,6 @@ module _ (t : Table) where
   asks_at : (x h y c d place : ℕ) (p : ℕ → ℕ → ℕ → ℕ → Bool) → asks_test t x p ≡ true → end_of t x ≡ some (ends_at h y) → terminal_at t y ≡ branch place c d → p h y c d ≡ true
   asks_at x h y c d place p k q e =
       sym (ap (λ (z : Terminal). ways_pass t (branch_ways z) (λ c' d'. p h y c' d')) e) ∙ end_at x h y (λ h' y'. ways_pass t (branch_ways (terminal_at t y')) (λ c' d'. p h' y' c' d')) k q
-
-  silent_is : (n b f : ℕ) → silent_test t n b f ≡ true → Silent t (seen t) b f
-  silent_is zero b f h = absurd (true_false (sym h))
-  silent_is (suc n) b f h =
-      let (r, s) = both (is_empty (seen_rows (seen t) (instruction_rows_at t b))) (silent_at t (λ k. silent_test t n k f) f (terminal_at t b)) h in
-      at (terminal_at t b) refl s (empty_is (seen_rows (seen t) (instruction_rows_at t b)) r) (λ k q. silent_is n k f q)
-    where
-      at : (m : Terminal) → terminal_at t b ≡ m → silent_at t (λ k. silent_test t n k f) f m ≡ true → seen_rows (seen t) (instruction_rows_at t b) ≡ []
-          → ((k : ℕ) → silent_test t n k f ≡ true → Silent t (seen t) k f) → Silent t (seen t) b f
-      at absent e s r ih = absurd (true_false (sym s))
-      at unreachable e s r ih = absurd (true_false (sym s))
-      at (throw value) e s r ih = absurd (true_false (sym s))
-      at (return value) e s r ih = absurd (true_false (sym s))
-      at (goto block variant) e s r ih = silent_goto variant (e ∙ ap (λ (z : ℕ). goto z variant) (eqb-true block f s)) r
-      at (if test consequent alternate fallthrough) e s r ih = absurd (true_false (sym s))
-      at (branch test consequent alternate) e s r ih = absurd (true_false (sym s))
-      at (switch test first number fallthrough) e s r ih = absurd (true_false (sym s))
-      at (do_while loop test fallthrough) e s r ih = absurd (true_false (sym s))
-      at (while test loop fallthrough) e s r ih = absurd (true_false (sym s))
-      at (for init test update loop fallthrough) e s r ih = absurd (true_false (sym s))
-      at (for_of init test loop fallthrough) e s r ih = absurd (true_false (sym s))
-      at (for_in init loop fallthrough) e s r ih = absurd (true_false (sym s))
-      at (logical operator test fallthrough) e s r ih = absurd (true_false (sym s))
-      at (ternary test fallthrough) e s r ih = absurd (true_false (sym s))
-      at (optional flag test fallthrough) e s r ih = absurd (true_false (sym s))
-      at (label block fallthrough) e s r ih = absurd (true_false (sym s))
-      at (sequence block fallthrough) e s r ih = absurd (true_false (sym s))
-      at (maybe_throw continuation) e s r ih = silent_throw continuation e r (ih continuation s)
-      at (try block handler fallthrough binding) e s r ih = absurd (true_false (sym s))
-      at (scope pruned block fallthrough number) e s r ih = absurd (true_false (sym s))
-
-  -- ---- chains
-
-  bare_is : (n f e : ℕ) → bare t n f ≡ some (some e) → Bare t f e
-  bare_is zero f e h = absurd (none_some h)
-  bare_is (suc n) f e h = at (instruction_rows_at t f) refl (terminal_at t f) refl h (λ k q. bare_is n k e q)
-    where
-      on : (c : ℕ) (y : Bool) → is_empty_goto (block_at t c) ≡ y → instruction_rows_at t f ≡ [] → terminal_at t f ≡ maybe_throw c
-          → elim y [ true ↦ some none | false ↦ bare t n c ] ≡ some (some e) → ((k : ℕ) → bare t n k ≡ some (some e) → Bare t k e) → Bare t f e
-      on c true k q w h ih = absurd (none_some (some_eq h))
-      on c false k q w h ih = bare_throw c w k q (ih c h)
-
-      at : (rs : List ℕ) → instruction_rows_at t f ≡ rs → (m : Terminal) → terminal_at t f ≡ m → bare_at t (λ k. bare t n k) f rs m ≡ some (some e)
-          → ((k : ℕ) → bare t n k ≡ some (some e) → Bare t k e) → Bare t f e
-      at (r ∷ rs) q m w h ih = absurd (none_some (some_eq h))
-      at [] q absent w h ih = absurd (none_some (some_eq h))
-      at [] q unreachable w h ih = absurd (none_some (some_eq h))
-      at [] q (throw value) w h ih = absurd (none_some (some_eq h))
-      at [] q (return value) w h ih = absurd (none_some (some_eq h))
-      at [] q (goto block variant) w h ih = absurd (none_some (some_eq h))
-      at [] q (if test consequent alternate fallthrough) w h ih = absurd (none_some (some_eq h))
-      at [] q (branch test consequent alternate) w h ih = subst (λ (z : ℕ). Bare t f z) (some_eq (some_eq h)) (bare_branch test consequent alternate w q)
-      at [] q (switch test first number fallthrough) w h ih = absurd (none_some (some_eq h))
-      at [] q (do_while loop test fallthrough) w h ih = absurd (none_some (some_eq h))
-      at [] q (while test loop fallthrough) w h ih = absurd (none_some (some_eq h))
-      at [] q (for init test update loop fallthrough) w h ih = absurd (none_some (some_eq h))
-      at [] q (for_of init test loop fallthrough) w h ih = absurd (none_some (some_eq h))
-      at [] q (for_in init loop fallthrough) w h ih = absurd (none_some (some_eq h))
-      at [] q (logical operator test fallthrough) w h ih = absurd (none_some (some_eq h))
-      at [] q (ternary test fallthrough) w h ih = absurd (none_some (some_eq h))
-      at [] q (optional flag test fallthrough) w h ih = absurd (none_some (some_eq h))
-      at [] q (label block fallthrough) w h ih = absurd (none_some (some_eq h))
-      at [] q (sequence block fallthrough) w h ih = absurd (none_some (some_eq h))
-      at [] q (maybe_throw continuation) w h ih = on continuation (is_empty_goto (block_at t continuation)) refl q w h ih
-      at [] q (try block handler fallthrough binding) w h ih = absurd (none_some (some_eq h))
-      at [] q (scope pruned block fallthrough number) w h ih = absurd (none_some (some_eq h))
-
-  bare_only : (n f e : ℕ) (r : Option ℕ) → Bare t f e → bare t n f ≡ some r → r ≡ some e
-  bare_only zero f e r z h = absurd (none_some h)
-  bare_only (suc n) f e r (bare_branch p c d w q) h =
-      sym (some_eq (sym (ap (λ (z : List ℕ). bare_at t (λ k. bare t n k) f z (terminal_at t f)) q ∙ ap (λ (z : Terminal). bare_at t (λ k. bare t n k) f [] z) w) ∙ h))
-  bare_only (suc n) f e r (bare_throw c w i q z) h =
-      bare_only n c e r z
-      (sym (ap (λ (z : List ℕ). bare_at t (λ k. bare t n k) f z (terminal_at t f)) q ∙ ap (λ (z : Terminal). bare_at t (λ k. bare t n k) f [] z) w
-      ∙ ap (λ (y : Bool). elim y [ true ↦ some none | false ↦ bare t n c ]) i) ∙ h)
-
-  branch_is : (m : Terminal) → is_branch m ≡ true → (p : ℕ) × (c : ℕ) × (d : ℕ) × (m ≡ branch p c d)
-  branch_is absent h = absurd (true_false (sym h))
-  branch_is unreachable h = absurd (true_false (sym h))
-  branch_is (throw value) h = absurd (true_false (sym h))
-  branch_is (return value) h = absurd (true_false (sym h))
-  branch_is (goto block variant) h = absurd (true_false (sym h))
-  branch_is (if test consequent alternate fallthrough) h = absurd (true_false (sym h))
-  branch_is (branch test consequent alternate) h = (test, consequent, alternate, refl)
-  branch_is (switch test first number fallthrough) h = absurd (true_false (sym h))
-  branch_is (do_while loop test fallthrough) h = absurd (true_false (sym h))
-  branch_is (while test loop fallthrough) h = absurd (true_false (sym h))
-  branch_is (for init test update loop fallthrough) h = absurd (true_false (sym h))
-  branch_is (for_of init test loop fallthrough) h = absurd (true_false (sym h))
-  branch_is (for_in init loop fallthrough) h = absurd (true_false (sym h))
-  branch_is (logical operator test fallthrough) h = absurd (true_false (sym h))
-  branch_is (ternary test fallthrough) h = absurd (true_false (sym h))
-  branch_is (optional flag test fallthrough) h = absurd (true_false (sym h))
-  branch_is (label block fallthrough) h = absurd (true_false (sym h))
-  branch_is (sequence block fallthrough) h = absurd (true_false (sym h))
-  branch_is (maybe_throw continuation) h = absurd (true_false (sym h))
-  branch_is (try block handler fallthrough binding) h = absurd (true_false (sym h))
-  branch_is (scope false block fallthrough number) h = absurd (true_false (sym h))
-  branch_is (scope true block fallthrough number) h = absurd (true_false (sym h))
-
-  owns_is : (e b : ℕ) → owns_test t e (terminal_at t b) ≡ true → Owns t e b
-  owns_is e b h = at (terminal_at t b) refl h
-    where
-      ended : (o x f : ℕ) → terminal_at t b ≡ optional o x f → (z : Option ValueEnd) → end_of t x ≡ z → end_is t z e ≡ true → Owns t e b
-      ended o x f q none k w = absurd (true_false (sym w))
-      ended o x f q (some at) k w =
-          let (u, v) = both (eqb at.end e) (is_branch (terminal_at t at.end)) w in
-          let (p, c, d, s) = branch_is (terminal_at t at.end) v in
-          let same : at.end ≡ e = eqb-true at.end e u in
-          record {
-            flag = o;
-            test = x;
-            fallthrough = f;
-            holder = at.holder;
-            consequent = c;
-            alternate = d;
-            asks = record { test = x; place = p; terminal = q; tested = refl; ends = k ∙ ap (λ (z : ℕ). some (ends_at at.holder z)) same; ways = ap (λ (z : ℕ). terminal_at t z) (sym same) ∙ s };
-          }
-
-      at : (m : Terminal) → terminal_at t b ≡ m → owns_test t e m ≡ true → Owns t e b
-      at absent q h = absurd (true_false (sym h))
-      at unreachable q h = absurd (true_false (sym h))
-      at (throw value) q h = absurd (true_false (sym h))
-      at (return value) q h = absurd (true_false (sym h))
-      at (goto block variant) q h = absurd (true_false (sym h))
-      at (if test consequent alternate fallthrough) q h = absurd (true_false (sym h))
-      at (branch test consequent alternate) q h = absurd (true_false (sym h))
-      at (switch test first number fallthrough) q h = absurd (true_false (sym h))
-      at (do_while loop test fallthrough) q h = absurd (true_false (sym h))
-      at (while test loop fallthrough) q h = absurd (true_false (sym h))
-      at (for init test update loop fallthrough) q h = absurd (true_false (sym h))
-      at (for_of init test loop fallthrough) q h = absurd (true_false (sym h))
-      at (for_in init loop fallthrough) q h = absurd (true_false (sym h))
-      at (logical operator test fallthrough) q h = absurd (true_false (sym h))
-      at (ternary test fallthrough) q h = absurd (true_false (sym h))
-      at (optional flag test fallthrough) q h = ended flag test fallthrough q (end_of t test) refl h
-      at (label block fallthrough) q h = absurd (true_false (sym h))
-      at (sequence block fallthrough) q h = absurd (true_false (sym h))
-      at (maybe_throw continuation) q h = absurd (true_false (sym h))
-      at (try block handler fallthrough binding) q h = absurd (true_false (sym h))
-      at (scope pruned block fallthrough number) q h = absurd (true_false (sym h))
-
-  owns_passes : (e b : ℕ) → Owns t e b → owns_test t e (terminal_at t b) ≡ true
-  owns_passes e b o =
-      ap (λ (z : Terminal). owns_test t e z) o.asks.terminal ∙ ap (λ (z : Option ValueEnd). end_is t z e) (ap (λ (z : ℕ). end_of t z) (some_eq o.asks.tested) ∙ o.asks.ends)
-      ∙ ap (λ (y : Bool). y && is_branch (terminal_at t e)) (eq-eqb e e refl) ∙ ap is_branch o.asks.ways
 
   module _ (width : Width) (h : is_wide t width ≡ true) where
     record Passed (b : ℕ) (m : Terminal) : Type 0 where
@@ -256,115 +94,63 @@ module _ (t : Table) where
     exit_is none q k = absurd (true_false (sym k))
     exit_is (some x) q k = (x, refl, k)
 
-    abbrev OptionalParts : (b o x f : ℕ) → Type 0
-    OptionalParts b o x f = (exit : ℕ) × (exit_of t most_depth b ≡ some exit)
-        × (asks_test t x (λ h y c d. no_store_test t h && (arm_test t c f && (silent_test t most_depth d exit && one_owner t b y))) ≡ true)
+    -- of a Logical's, a Ternary's and an Optional's ways
+    abbrev LogicalAt : (f h y c d : ℕ) → Bool
+    LogicalAt f h y c d = no_store_test t h && (arm_test t c f && (arm_test t d f && (is_fallthrough (straight_to t most_depth c) f && only_its_store t c)))
 
-    optional_at : (b o x f : ℕ) → terminal_at t b ≡ optional o x f → OptionalParts b o x f
-    optional_at b o x f e = exit_is (exit_of t most_depth b) (λ exit. asks_test t x (λ h y c d. no_store_test t h && (arm_test t c f && (silent_test t most_depth d exit && one_owner t b y)))) (value_at b (optional o x f) e)
+    abbrev TernaryAt : (f h y c d : ℕ) → Bool
+    TernaryAt f h y c d = no_store_test t h && (arm_test t c f && arm_test t d f)
+
+    abbrev OptionalAt : (b f exit h y c d : ℕ) → Bool
+    OptionalAt b f exit h y c d = no_store_test t h && (arm_test t c f && (is_fallthrough (straight_to t most_depth d) exit && one_owner t b y))
+
+    ways_at : (b x : ℕ) (m : Terminal) (h y c d : ℕ) (p : ℕ → ℕ → ℕ → ℕ → Bool) → test_of m ≡ some x → asks_test t x p ≡ true → Asks t b m h y c d → p h y c d ≡ true
+    ways_at b x m h y c d p q k a = asks_at x h y c d a.place p k (ap (λ (z : ℕ). end_of t z) (some_eq (sym q ∙ a.tested)) ∙ a.ends) a.ways
+
+    optional_at : (b o x f : ℕ) → terminal_at t b ≡ optional o x f → (exit : ℕ) × (exit_of t most_depth b ≡ some exit) × (asks_test t x (OptionalAt b f exit) ≡ true)
+    optional_at b o x f e = exit_is (exit_of t most_depth b) (λ exit. asks_test t x (OptionalAt b f exit)) (value_at b (optional o x f) e)
 
     alone : (e b : ℕ) → Owns t e b → one_owner t b e ≡ true
     alone e b o =
-        let (exit, q', k) = optional_at b o.flag o.test o.fallthrough o.asks.terminal in
-        and_right (silent_test t most_depth o.alternate exit) _ (and_right (arm_test t o.consequent o.fallthrough) _ (and_right (no_store_test t o.holder) _ (asks_at o.test o.holder e o.consequent o.alternate o.asks.place
-        (λ h y c d. no_store_test t h && (arm_test t c o.fallthrough && (silent_test t most_depth d exit && one_owner t b y))) k
-        (ap (λ (z : ℕ). end_of t z) (some_eq o.asks.tested) ∙ o.asks.ends) o.asks.ways)))
-
-    owner_is : (e b : ℕ) → Owns t e b → owner t e ≡ some b
-    owner_is e b o = at (owner t e) refl
-      where
-        at : (r : Option ℕ) → owner t e ≡ r → owner t e ≡ some b
-        at none q = absurd (find_some t.blocks (λ c m. owns_test t e m) b (λ c. refl) (owns_passes e b o) q)
-        at (some b') q =
-            let w : one_owner t b e ≡ true = alone e b o in
-            let s : eqb b b' || not (owns_test t e (terminal_at t b')) ≡ true = every_at t.blocks (λ c m. eqb b c || not (owns_test t e m)) (λ c. or_right (eqb b c) true refl) w b' in
-            q ∙ ap (λ (z : ℕ). some z) (sym (by_cases (eqb b b') (eqb-true b b')
-            (λ n. absurd (true_false (sym (find_sound t.blocks (λ c m. owns_test t e m) b' q) ∙ not_is (owns_test t e (terminal_at t b')) (or_else (eqb b b') (not (owns_test t e (terminal_at t b'))) s n))))))
-
-    -- the exit is one
-    exit_only : {b x : ℕ} → Exits t b x → (n y : ℕ) → exit_of t n b ≡ some y → x ≡ y
-    exit_only (exit_last o u f e k) zero y q = absurd (none_some q)
-    exit_only {b} (exit_last o u f e k) (suc n) y q = at (bare t most_depth f) refl (sym (ap (λ (z : Terminal). exit_at t (λ c. exit_of t n c) z) e) ∙ q)
-      where
-        on : (g : ℕ) → bare t most_depth f ≡ some (some g) → (r : Option ℕ) → owner t g ≡ r → exit_by t (λ c. exit_of t n c) f r ≡ some y → f ≡ y
-        on g w none s v = some_eq v
-        on g w (some b') s v = absurd (k g (bare_is most_depth f g w) b' (owns_is g b' (find_sound t.blocks (λ c m. owns_test t g m) b' s)))
-
-        at : (r : Option (Option ℕ)) → bare t most_depth f ≡ r → exit_on t (λ c. exit_of t n c) f r ≡ some y → f ≡ y
-        at none w v = absurd (none_some v)
-        at (some none) w v = some_eq v
-        at (some (some g)) w v = on g w (owner t g) refl v
-    exit_only (exit_linked o u f e b' w z s k) zero y q = absurd (none_some q)
-    exit_only {b} {x} (exit_linked o u f e b' w z s k) (suc n) y q =
-        at (bare t most_depth f) refl (sym (ap (λ (z : Terminal). exit_at t (λ c. exit_of t n c) z) w) ∙ q) (λ v. exit_only k n y v)
-      where
-        at : (r : Option (Option ℕ)) → bare t most_depth f ≡ r → exit_on t (λ c. exit_of t n c) f r ≡ some y → (exit_of t n b' ≡ some y → x ≡ y) → x ≡ y
-        at none p v ih = absurd (none_some v)
-        at (some none) p v ih = absurd (none_some (bare_only most_depth f e none z p))
-        at (some (some g)) p v ih =
-            ih (sym (ap (λ (r : Option ℕ). exit_by t (λ c. exit_of t n c) f r) (ap (λ (x : ℕ). owner t x) (some_eq (bare_only most_depth f e (some g) z p)) ∙ owner_is e b' s)) ∙ v)
-
-    -- and there is one
-    exit_there : (n b o u f y : ℕ) → terminal_at t b ≡ optional o u f → exit_of t n b ≡ some y → Exits t b y
-    exit_there zero b o u f y e q = absurd (none_some q)
-    exit_there (suc n) b o u f y e q = at (bare t most_depth f) refl (sym (ap (λ (z : Terminal). exit_at t (λ c. exit_of t n c) z) e) ∙ q) (λ b' o' u' f' e' q'. exit_there n b' o' u' f' y e' q')
-      where
-        last : (f ≡ y) → ((g : ℕ) → Bare t f g → Unowned t g) → Exits t b y
-        last s k = subst (λ (z : ℕ). Exits t b z) s (exit_last o u f e k)
-
-        on : (g : ℕ) → bare t most_depth f ≡ some (some g) → (r : Option ℕ) → owner t g ≡ r → exit_by t (λ c. exit_of t n c) f r ≡ some y
-            → ((b' o' u' f' : ℕ) → terminal_at t b' ≡ optional o' u' f' → exit_of t n b' ≡ some y → Exits t b' y) → Exits t b y
-        on g w none s v ih =
-            last (some_eq v) (λ g' z b' owns.
-            let same : some g ≡ some g' = bare_only most_depth f g' (some g) z w in
-            none_some (sym s ∙ ap (λ (x : ℕ). owner t x) (some_eq same) ∙ owner_is g' b' owns))
-        on g w (some b') s v ih =
-            let owns : Owns t g b' = owns_is g b' (find_sound t.blocks (λ c m. owns_test t g m) b' s) in
-            exit_linked o u f g b' e (bare_is most_depth f g w) owns (ih b' owns.flag owns.test owns.fallthrough owns.asks.terminal v)
-
-        at : (r : Option (Option ℕ)) → bare t most_depth f ≡ r → exit_on t (λ c. exit_of t n c) f r ≡ some y
-            → ((b' o' u' f' : ℕ) → terminal_at t b' ≡ optional o' u' f' → exit_of t n b' ≡ some y → Exits t b' y) → Exits t b y
-        at none w v ih = absurd (none_some v)
-        at (some none) w v ih = last (some_eq v) (λ g z. absurd (none_some (bare_only most_depth f g none z w)))
-        at (some (some g)) w v ih = on g w (owner t g) refl v ih
-
-    -- ---- values
+        let (exit, q, k) = optional_at b o.flag o.test o.fallthrough o.asks.terminal in
+        last_of (no_store_test t o.holder) (arm_test t o.consequent o.fallthrough) (is_fallthrough (straight_to t most_depth o.alternate) exit) (one_owner t b e)
+        (ways_at b o.test (optional o.flag o.test o.fallthrough) o.holder e o.consequent o.alternate (OptionalAt b o.fallthrough exit) refl k o.asks)
 
     abbrev Parts : (m : Terminal) (h c d : ℕ) → Type 0
     Parts m h c d = (f : ℕ) × (value_fallthrough m ≡ some f) × (no_store_test t h ≡ true) × (arm_test t c f ≡ true) × (is_optional m ≡ false → arm_test t d f ≡ true)
 
-    parts_of : (b : ℕ) (m : Terminal) (x h y c d place : ℕ) → value_test t b m ≡ true → test_of m ≡ some x → end_of t x ≡ some (ends_at h y) → terminal_at t y ≡ branch place c d → Parts m h c d
-    parts_of b absent x' h y c d place v q e w = absurd (none_some q)
-    parts_of b unreachable x' h y c d place v q e w = absurd (none_some q)
-    parts_of b (throw value) x' h y c d place v q e w = absurd (none_some q)
-    parts_of b (return value) x' h y c d place v q e w = absurd (none_some q)
-    parts_of b (goto block variant) x' h y c d place v q e w = absurd (none_some q)
-    parts_of b (if test consequent alternate fallthrough) x' h y c d place v q e w = absurd (none_some q)
-    parts_of b (branch test consequent alternate) x' h y c d place v q e w = absurd (none_some q)
-    parts_of b (switch test first number fallthrough) x' h y c d place v q e w = absurd (none_some q)
-    parts_of b (do_while loop test fallthrough) x' h y c d place v q e w = absurd (none_some q)
-    parts_of b (while test loop fallthrough) x' h y c d place v q e w = absurd (none_some q)
-    parts_of b (for init test update loop fallthrough) x' h y c d place v q e w = absurd (none_some q)
-    parts_of b (for_of init test loop fallthrough) x' h y c d place v q e w = absurd (none_some q)
-    parts_of b (for_in init loop fallthrough) x' h y c d place v q e w = absurd (none_some q)
-    parts_of b (logical operator test fallthrough) x' h y c d place v q e w =
-        let k = asks_at test h y c d place (λ h y c d. no_store_test t h && (arm_test t c fallthrough && (arm_test t d fallthrough && silent_test t most_depth c fallthrough))) v (ap (λ (z : ℕ). end_of t z) (some_eq q) ∙ e) w in
+    parts_of : (b : ℕ) (m : Terminal) (h y c d : ℕ) → Asks t b m h y c d → value_test t b m ≡ true → Parts m h c d
+    parts_of b absent h y c d a v = absurd (none_some a.tested)
+    parts_of b unreachable h y c d a v = absurd (none_some a.tested)
+    parts_of b (throw value) h y c d a v = absurd (none_some a.tested)
+    parts_of b (return value) h y c d a v = absurd (none_some a.tested)
+    parts_of b (goto block variant) h y c d a v = absurd (none_some a.tested)
+    parts_of b (if test consequent alternate fallthrough) h y c d a v = absurd (none_some a.tested)
+    parts_of b (branch test consequent alternate) h y c d a v = absurd (none_some a.tested)
+    parts_of b (switch test first number fallthrough) h y c d a v = absurd (none_some a.tested)
+    parts_of b (do_while loop test fallthrough) h y c d a v = absurd (none_some a.tested)
+    parts_of b (while test loop fallthrough) h y c d a v = absurd (none_some a.tested)
+    parts_of b (for init test update loop fallthrough) h y c d a v = absurd (none_some a.tested)
+    parts_of b (for_of init test loop fallthrough) h y c d a v = absurd (none_some a.tested)
+    parts_of b (for_in init loop fallthrough) h y c d a v = absurd (none_some a.tested)
+    parts_of b (logical operator test fallthrough) h y c d a v =
+        let k : LogicalAt fallthrough h y c d ≡ true = ways_at b test (logical operator test fallthrough) h y c d (LogicalAt fallthrough) refl v a in
         (fallthrough, refl, and_left _ _ k, and_left _ _ (and_right _ _ k), λ _. and_left _ _ (and_right _ _ (and_right _ _ k)))
-    parts_of b (ternary test fallthrough) x' h y c d place v q e w =
-        let k = asks_at test h y c d place (λ h y c d. no_store_test t h && (arm_test t c fallthrough && arm_test t d fallthrough)) v (ap (λ (z : ℕ). end_of t z) (some_eq q) ∙ e) w in
+    parts_of b (ternary test fallthrough) h y c d a v =
+        let k : TernaryAt fallthrough h y c d ≡ true = ways_at b test (ternary test fallthrough) h y c d (TernaryAt fallthrough) refl v a in
         (fallthrough, refl, and_left _ _ k, and_left _ _ (and_right _ _ k), λ _. and_right _ _ (and_right _ _ k))
-    parts_of b (optional flag test fallthrough) x' h y c d place v q e w =
-        let (exit, s, u) = exit_is (exit_of t most_depth b) (λ exit. asks_test t test (λ h y c d. no_store_test t h && (arm_test t c fallthrough && (silent_test t most_depth d exit && one_owner t b y)))) v in
-        let k = asks_at test h y c d place (λ h y c d. no_store_test t h && (arm_test t c fallthrough && (silent_test t most_depth d exit && one_owner t b y))) u (ap (λ (z : ℕ). end_of t z) (some_eq q) ∙ e) w in
+    parts_of b (optional flag test fallthrough) h y c d a v =
+        let (exit, s, u) = exit_is (exit_of t most_depth b) (λ exit. asks_test t test (OptionalAt b fallthrough exit)) v in
+        let k : OptionalAt b fallthrough exit h y c d ≡ true = ways_at b test (optional flag test fallthrough) h y c d (OptionalAt b fallthrough exit) refl u a in
         (fallthrough, refl, and_left _ _ k, and_left _ _ (and_right _ _ k), λ o. absurd (true_false o))
-    parts_of b (label block fallthrough) x' h y c d place v q e w = absurd (none_some q)
-    parts_of b (sequence block fallthrough) x' h y c d place v q e w = absurd (none_some q)
-    parts_of b (maybe_throw continuation) x' h y c d place v q e w = absurd (none_some q)
-    parts_of b (try block handler fallthrough binding) x' h y c d place v q e w = absurd (none_some q)
-    parts_of b (scope pruned block fallthrough number) x' h y c d place v q e w = absurd (none_some q)
+    parts_of b (label block fallthrough) h y c d a v = absurd (none_some a.tested)
+    parts_of b (sequence block fallthrough) h y c d a v = absurd (none_some a.tested)
+    parts_of b (maybe_throw continuation) h y c d a v = absurd (none_some a.tested)
+    parts_of b (try block handler fallthrough binding) h y c d a v = absurd (none_some a.tested)
+    parts_of b (scope pruned block fallthrough number) h y c d a v = absurd (none_some a.tested)
 
     parts_at : (b : ℕ) (m : Terminal) (h y c d : ℕ) → Asks t b m h y c d → Parts m h c d
-    parts_at b m h y c d a = parts_of b m a.test h y c d a.place (value_at b m a.terminal) a.tested a.ends a.ways
+    parts_at b m h y c d a = parts_of b m h y c d a (value_at b m a.terminal)
 
     end_parts : (b f : ℕ) → fallthrough_of (terminal_at t b) ≡ some f
         → (only_of t b f ≡ true) × (every_of t.blocks (λ w n. not_in_loop f (loop_of n)) ≡ true) × (not (is_unreachable (terminal_at t f)) || may_be_open (terminal_at t b) ≡ true)
@@ -383,22 +169,22 @@ module _ (t : Table) where
           let (f', q', s, u, v) = parts_at b m h y c d a in arm_at d f holder e (subst (λ (z : ℕ). arm_test t d z ≡ true) (some_eq (sym q' ∙ q)) (v o)) k;
       block_arm = λ b c f holder e q k. arm_at c f holder e (value_at b (sequence c f) q) k;
       left = λ b o x f h y c d a.
-          silent_is most_depth c f (and_right (arm_test t d f) _ (and_right (arm_test t c f) _ (and_right (no_store_test t h) _ (asks_at x h y c d a.place
-          (λ h y c d. no_store_test t h && (arm_test t c f && (arm_test t d f && silent_test t most_depth c f))) (value_at b (logical o x f) a.terminal)
-          (ap (λ (z : ℕ). end_of t z) (some_eq a.tested) ∙ a.ends) a.ways))));
-      no_value = λ b o x f h y c d exit a k.
-          let (exit', q, u) = optional_at b o x f a.terminal in
-          silent_is most_depth d exit (subst (λ (z : ℕ). silent_test t most_depth d z ≡ true) (sym (exit_only k most_depth exit' q))
-          (and_left _ (one_owner t b y) (and_right (arm_test t c f) _ (and_right (no_store_test t h) _ (asks_at x h y c d a.place
-          (λ h y c d. no_store_test t h && (arm_test t c f && (silent_test t most_depth d exit' && one_owner t b y))) u
-          (ap (λ (z : ℕ). end_of t z) (some_eq a.tested) ∙ a.ends) a.ways)))));
-      exits = λ b o x f e. let (exit, q, u) = optional_at b o x f e in (exit, exit_there most_depth b o x f exit e q);
+          let k : LogicalAt f h y c d ≡ true = ways_at b x (logical o x f) h y c d (LogicalAt f) refl (value_at b (logical o x f) a.terminal) a in
+          let (to, only) = both (is_fallthrough (straight_to t most_depth c) f) (only_its_store t c)
+          (last_of (no_store_test t h) (arm_test t c f) (arm_test t d f) (is_fallthrough (straight_to t most_depth c) f && only_its_store t c) k) in
+          (fallthrough_is f (straight_to t most_depth c) to, only);
+      exits = λ b o x f e. let (exit, q, u) = optional_at b o x f e in (exit, q);
+      no_value = λ b o x f h y c d exit a q.
+          let (exit', q', u) = optional_at b o x f a.terminal in
+          let k : OptionalAt b f exit' h y c d ≡ true = ways_at b x (optional o x f) h y c d (OptionalAt b f exit') refl u a in
+          fallthrough_is exit' (straight_to t most_depth d) (and_left (is_fallthrough (straight_to t most_depth d) exit') (one_owner t b y)
+          (and_right (arm_test t c f) _ (and_right (no_store_test t h) _ k))) ∙ sym q' ∙ q;
+      one_owner = λ e b b' p q.
+          let s : eqb b b' || not (owns_test t e (terminal_at t b')) ≡ true =
+          every_at t.blocks (λ c m. eqb b c || not (owns_test t e m)) (λ c. or_right (eqb b c) true refl) (alone e b (owns_is t e b p)) b' in
+          by_cases (eqb b b') (eqb-true b b') (λ n. absurd (true_false (sym q ∙ not_is (owns_test t e (terminal_at t b')) (or_else (eqb b b') (not (owns_test t e (terminal_at t b'))) s n))));
       tests = λ b m h y c d a. let (f', q', s, u, v) = parts_at b m h y c d a in no_store_at h s;
     }
-
-    reached_all : (ns : List ℕ) → all_reached t ns ≡ true → All (Reached t) ns
-    reached_all [] k = tt
-    reached_all (n ∷ ns) k = (not_is (is_unreachable (terminal_at t n)) (and_left _ _ k), reached_all ns (and_right _ _ k))
 
     proper_at : (k : ℕ) → IsProper t k → wide_proper_test t k ≡ true
     proper_at k c = all_at (proper_blocks_of t (terminal_at t c.of)) (wide_proper_test t) k (passed c.of).proper c.among
@@ -430,10 +216,6 @@ module _ (t : Table) where
         let (a, k) = both _ _ (every_at t.blocks (λ w m. not (is_fallthrough (fallthrough_of m) n) && (not_in_loop n (loop_of m) && not (contains (proper_blocks_of t m) n))) (λ c. refl) (part_at b (maybe_throw n) e) w) in
         let (a', k') = both _ _ k in (not_is _ a, a', not_is _ k')
 
-    drop_none : (f : ℕ) (cases : List Case) → last_is_own f cases ≡ false → drop_own f cases ≡ cases
-    drop_none f [] k = refl
-    drop_none f (c ∷ cs) k = ap (λ (z : Bool). cond z (drop_own f cs) (c ∷ cs)) k
-
     pub test_loops : WideLoops width t
     test_loops = record {
       ends = λ b. (passed b).code;
@@ -451,7 +233,7 @@ module _ (t : Table) where
           true_false (sym (is_fallthrough_lem k (fallthrough_of (terminal_at t b)) e) ∙ not_is (is_fallthrough (fallthrough_of (terminal_at t b)) k)
           (every_at t.blocks (λ w m. not (is_fallthrough (fallthrough_of m) k)) (λ n. refl) (and_right _ _ (proper_at k c)) b));
       entry_reached = not_is (is_unreachable (terminal_at t t.entry)) (and_left _ _ h);
-      entered = λ b. reached_all (wide_entered_by (terminal_at t b)) (passed b).entered;
+      entered = λ b. reached_all t (wide_entered_by (terminal_at t b)) (passed b).entered;
       case_reached = λ k c. not_is (is_unreachable (terminal_at t k)) (and_left _ _ (proper_at k c));
       open_ends = λ b f e q. or_else (not (is_unreachable (terminal_at t f))) (may_be_open (terminal_at t b)) (end_parts b f e).2 (ap not q);
       open_cases = λ b x i n f e q.
@@ -461,3 +243,193 @@ module _ (t : Table) where
       throw_loop = λ b n w x f k e q. true_false (sym (eq-eqb n n refl) ∙ not_is (eqb n n) (and_left _ _ (subst (λ (z : Option Loop). not_in_loop n z ≡ true) q (throw_at b n w e).1)));
       throw_again = λ b n w x l f e q. true_false (sym (eq-eqb n n refl) ∙ not_is (eqb n n) (and_right _ _ (subst (λ (z : Option Loop). not_in_loop n z ≡ true) q (throw_at b n w e).1)));
     }
+
+    pub test_plain : WidePlain width t
+    test_plain = record { loops = test_loops; values = test_values }
+
+  -- ---- what has the conditions passes the test
+
+  goes : (e f : ℕ) → GoesTo t e f → goes_test t e f ≡ true
+  goes e f (k, q) = is_fallthrough_lem f (goto_block (terminal_at t e)) (ap goto_block q)
+
+  end_all : (x : ℕ) (p : ℕ → ℕ → Bool) → ((h e : ℕ) → end_of t x ≡ some (ends_at h e) → p h e ≡ true) → end_passes t (end_of t x) p ≡ true
+  end_all x p k = at (end_of t x) refl
+    where
+      at : (o : Option ValueEnd) → end_of t x ≡ o → end_passes t o p ≡ true
+      at none q = refl
+      at (some a) q = k a.holder a.end q
+
+  arm_all : (c f : ℕ) → ((h e : ℕ) → end_of t c ≡ some (ends_at h e) → GoesTo t e f) → arm_test t c f ≡ true
+  arm_all c f k = end_all c (λ h e. goes_test t e f) (λ h e q. goes e f (k h e q))
+
+  asks_all : (b x : ℕ) (m : Terminal) (p : ℕ → ℕ → ℕ → ℕ → Bool) → terminal_at t b ≡ m → test_of m ≡ some x → ((h y c d : ℕ) → Asks t b m h y c d → p h y c d ≡ true)
+      → asks_test t x p ≡ true
+  asks_all b x m p e q k = end_all x (λ h y. ways_pass t (branch_ways (terminal_at t y)) (λ c d. p h y c d)) (λ h y w. at h y w (branch_ways (terminal_at t y)) refl)
+    where
+      at : (h y : ℕ) → end_of t x ≡ some (ends_at h y) → (o : Option Ways) → branch_ways (terminal_at t y) ≡ o → ways_pass t o (λ c d. p h y c d) ≡ true
+      at h y w none s = refl
+      at h y w (some ways) s =
+          let (place, u) = branch_of_ways (terminal_at t y) ways s in
+          k h y ways.consequent ways.alternate (record { test = x; place = place; terminal = e; tested = q; ends = w; ways = u })
+
+  module _ (width : Width) (plain : WidePlain width t) where
+    pl : WideLoops width t
+    pl = plain.loops
+
+    pv : PlainValues t
+    pv = plain.values
+
+    no_store : (h : ℕ) → NoStore t h → no_store_test t h ≡ true
+    no_store h q = ap is_empty q
+
+    alone_passes : (b o x f h y c d : ℕ) → Asks t b (optional o x f) h y c d → one_owner t b y ≡ true
+    alone_passes b o x f h y c d a = every_of_lem t.blocks (λ w m. eqb b w || not (owns_test t y m)) (λ w. at w (owns_test t y (terminal_at t w)) refl)
+      where
+        own : owns_test t y (terminal_at t b) ≡ true
+        own = owns_passes t y b (record { flag = o; test = x; fallthrough = f; holder = h; consequent = c; alternate = d; asks = a })
+
+        at : (w : ℕ) (z : Bool) → owns_test t y (terminal_at t w) ≡ z → eqb b w || not (owns_test t y (terminal_at t w)) ≡ true
+        at w true q = or_left (eqb b w) (not (owns_test t y (terminal_at t w))) (eq-eqb b w (pv.one_owner y b w own q))
+        at w false q = or_right (eqb b w) (not (owns_test t y (terminal_at t w))) (is_not (owns_test t y (terminal_at t w)) q)
+
+    value_passes : (b : ℕ) (m : Terminal) → terminal_at t b ≡ m → value_test t b m ≡ true
+    value_passes b absent e = refl
+    value_passes b unreachable e = refl
+    value_passes b (throw value) e = refl
+    value_passes b (return value) e = refl
+    value_passes b (goto block variant) e = refl
+    value_passes b (if test consequent alternate fallthrough) e = refl
+    value_passes b (branch test consequent alternate) e = refl
+    value_passes b (switch test first number fallthrough) e = refl
+    value_passes b (do_while loop test fallthrough) e = refl
+    value_passes b (while test loop fallthrough) e = refl
+    value_passes b (for init test update loop fallthrough) e = refl
+    value_passes b (for_of init test loop fallthrough) e = refl
+    value_passes b (for_in init loop fallthrough) e = refl
+    value_passes b (logical operator test fallthrough) e =
+        asks_all b test (logical operator test fallthrough) (λ h y c d. no_store_test t h && (arm_test t c fallthrough && (arm_test t d fallthrough && (is_fallthrough (straight_to t most_depth c) fallthrough && only_its_store t c)))) e refl
+        (λ h y c d a. let (to, only) = pv.left b operator test fallthrough h y c d a in
+        and_both _ _ (no_store h (pv.tests b (logical operator test fallthrough) h y c d a))
+        (and_both _ _ (arm_all c fallthrough (λ h' e' q. pv.yes_arm b (logical operator test fallthrough) h y c d fallthrough h' e' a refl q))
+        (and_both _ _ (arm_all d fallthrough (λ h' e' q. pv.no_arm b (logical operator test fallthrough) h y c d fallthrough h' e' a refl refl q))
+        (and_both _ _ (is_fallthrough_lem fallthrough (straight_to t most_depth c) to) only))))
+    value_passes b (ternary test fallthrough) e =
+        asks_all b test (ternary test fallthrough) (λ h y c d. no_store_test t h && (arm_test t c fallthrough && arm_test t d fallthrough)) e refl
+        (λ h y c d a. and_both _ _ (no_store h (pv.tests b (ternary test fallthrough) h y c d a))
+        (and_both _ _ (arm_all c fallthrough (λ h' e' q. pv.yes_arm b (ternary test fallthrough) h y c d fallthrough h' e' a refl q))
+        (arm_all d fallthrough (λ h' e' q. pv.no_arm b (ternary test fallthrough) h y c d fallthrough h' e' a refl refl q))))
+    value_passes b (optional flag test fallthrough) e =
+        let (exit, q) = pv.exits b flag test fallthrough e in
+        subst (λ (z : Option ℕ). exit_passes t z (λ exit'. asks_test t test (λ h y c d. no_store_test t h && (arm_test t c fallthrough && (is_fallthrough (straight_to t most_depth d) exit' && one_owner t b y)))) ≡ true) (sym q)
+        (asks_all b test (optional flag test fallthrough) (λ h y c d. no_store_test t h && (arm_test t c fallthrough && (is_fallthrough (straight_to t most_depth d) exit && one_owner t b y))) e refl
+        (λ h y c d a. and_both _ _ (no_store h (pv.tests b (optional flag test fallthrough) h y c d a))
+        (and_both _ _ (arm_all c fallthrough (λ h' e' k. pv.yes_arm b (optional flag test fallthrough) h y c d fallthrough h' e' a refl k))
+        (and_both _ _ (is_fallthrough_lem exit (straight_to t most_depth d) (pv.no_value b flag test fallthrough h y c d exit a q)) (alone_passes b flag test fallthrough h y c d a)))))
+    value_passes b (label block fallthrough) e = refl
+    value_passes b (sequence block fallthrough) e = arm_all block fallthrough (λ h e' q. pv.block_arm b block fallthrough h e' e q)
+    value_passes b (maybe_throw continuation) e = refl
+    value_passes b (try block handler fallthrough binding) e = refl
+    value_passes b (scope pruned block fallthrough number) e = refl
+
+    throw_passes : (b n : ℕ) → terminal_at t b ≡ maybe_throw n → wide_part_test t b (maybe_throw n) ≡ true
+    throw_passes b n e =
+        every_of_lem t.blocks (λ w m. not (is_fallthrough (fallthrough_of m) n) && (not_in_loop n (loop_of m) && not (contains (proper_blocks_of t m) n)))
+        (λ w. and_both _ _ (is_not _ (no_end w)) (and_both _ _ (no_loop w (loop_of (terminal_at t w)) refl) (is_not _ (no_case w))))
+      where
+        no_end : (w : ℕ) → is_fallthrough (fallthrough_of (terminal_at t w)) n ≡ false
+        no_end w =
+            by_cases (is_fallthrough (fallthrough_of (terminal_at t w)) n) (λ q. absurd (pl.throw_fallthrough b w n e (fallthrough_is n (fallthrough_of (terminal_at t w)) q))) (λ q. q)
+
+        no_loop : (w : ℕ) (o : Option Loop) → loop_of (terminal_at t w) ≡ o → not_in_loop n o ≡ true
+        no_loop w none q = refl
+        no_loop w (some k) q =
+            and_both _ _ (is_not _ (ne_eqb n k.body (λ i. pl.throw_loop b k.body w k.test k.fallthrough k.again (e ∙ ap maybe_throw i) q)))
+            (is_not _ (ne_eqb n k.again (λ i. pl.throw_again b k.again w k.test k.body k.fallthrough (e ∙ ap maybe_throw i) q)))
+
+        no_case : (w : ℕ) → contains (proper_blocks_of t (terminal_at t w)) n ≡ false
+        no_case w = by_cases (contains (proper_blocks_of t (terminal_at t w)) n) (λ q. absurd (pl.throw_case b n e (record { of = w; among = q }))) (λ q. q)
+
+    init_passes : (b i x : ℕ) (u : Option ℕ) (l f : ℕ) → terminal_at t b ≡ for i x u l f
+        → end_passes t (end_of t i) (λ h e. goes_test t e x && not (ends_in_own_load t (instruction_rows_at t h))) ≡ true
+    init_passes b i x u l f e =
+        end_all i (λ h e. goes_test t e x && not (ends_in_own_load t (instruction_rows_at t h)))
+        (λ h g q. and_both _ _ (goes g x (pl.inits b i x u l f h g e q)) (is_not _ (pl.init_load b i x u l f h g e q)))
+
+    open_passes : (b x i n f : ℕ) → terminal_at t b ≡ switch x i n f → not (is_unreachable (terminal_at t f)) || not (last_is_own f (cases_last_first t i n)) ≡ true
+    open_passes b x i n f e =
+        let reached : Bool = not (is_unreachable (terminal_at t f)) in
+        let own : Bool = last_is_own f (cases_last_first t i n) in
+        by_cases (is_unreachable (terminal_at t f)) (λ q. or_right reached (not own) (is_not own (drops_none f (cases_last_first t i n) (pl.open_cases b x i n f e q))))
+        (λ q. or_left reached (not own) (is_not (is_unreachable (terminal_at t f)) q))
+
+    part_passes : (b : ℕ) (m : Terminal) → terminal_at t b ≡ m → wide_part_test t b m ≡ true
+    part_passes b absent e = refl
+    part_passes b unreachable e = refl
+    part_passes b (throw value) e = refl
+    part_passes b (return value) e = refl
+    part_passes b (goto block Break) e = refl
+    part_passes b (goto block Continue) e = refl
+    part_passes b (goto block Try) e = absurd (pl.no_goto_try b block e)
+    part_passes b (if test consequent alternate fallthrough) e = refl
+    part_passes b (branch test consequent alternate) e = refl
+    part_passes b (switch test first number fallthrough) e = open_passes b test first number fallthrough e
+    part_passes b (do_while loop test fallthrough) e = refl
+    part_passes b (while test loop fallthrough) e = refl
+    part_passes b (for init test none loop fallthrough) e = and_both _ _ (init_passes b init test none loop fallthrough e) refl
+    part_passes b (for init test (some update) loop fallthrough) e =
+        and_both _ _ (init_passes b init test (some update) loop fallthrough e)
+        (end_all update (λ h g. goes_test t g test && no_store_test t h)
+        (λ h g q. and_both _ _ (goes g test (pl.updates b init test update loop fallthrough h g e q)) (no_store h (pl.update_store b init test update loop fallthrough h g e q))))
+    part_passes b (for_of init test loop fallthrough) e = refl
+    part_passes b (for_in init loop fallthrough) e = refl
+    part_passes b (logical operator test fallthrough) e = refl
+    part_passes b (ternary test fallthrough) e = refl
+    part_passes b (optional flag test fallthrough) e = refl
+    part_passes b (label block fallthrough) e = refl
+    part_passes b (sequence block fallthrough) e = refl
+    part_passes b (maybe_throw continuation) e = throw_passes b continuation e
+    part_passes b (try block handler fallthrough binding) e = refl
+    part_passes b (scope pruned block fallthrough number) e = refl
+
+    loop_passes : (b : ℕ) (o : Option Loop) → loop_of (terminal_at t b) ≡ o → wide_loop_test t o ≡ true
+    loop_passes b none e = refl
+    loop_passes b (some k) e =
+        end_all k.test (λ h y. is_branch_to k.body k.fallthrough (shape_of (terminal_at t y)) && no_store_test t h)
+        (λ h y q. let (p, w) = pl.tests b k.test k.body k.fallthrough k.again h y e q in
+        and_both _ _ (is_branch_to_lem p k.body k.fallthrough (terminal_at t y) w) (no_store h (pl.test_store b k.test k.body k.fallthrough k.again h y e q)))
+
+    outside : (b f w : ℕ) → fallthrough_of (terminal_at t b) ≡ some f → (o : Option Loop) → loop_of (terminal_at t w) ≡ o → not_in_loop f o ≡ true
+    outside b f w e none q = refl
+    outside b f w e (some k) q =
+        and_both _ _ (is_not _ (ne_eqb f k.body (pl.no_loop b f w k.test k.body k.fallthrough k.again e q)))
+        (is_not _ (ne_eqb f k.again (pl.no_again b f w k.test k.body k.fallthrough k.again e q)))
+
+    fallthrough_passes : (b : ℕ) (o : Option ℕ) → fallthrough_of (terminal_at t b) ≡ o → wide_end_test t b (terminal_at t b) o ≡ true
+    fallthrough_passes b none e = refl
+    fallthrough_passes b (some f) e =
+        and_both _ _ (only_of_lem t b f (λ c e'. pl.one_fallthrough b c f e e'))
+        (and_both _ _ (every_of_lem t.blocks (λ w n. not_in_loop f (loop_of n)) (λ w. outside b f w e (loop_of (terminal_at t w)) refl))
+        (by_cases (is_unreachable (terminal_at t f)) (λ q. or_right (not (is_unreachable (terminal_at t f))) (may_be_open (terminal_at t b)) (pl.open_ends b f e q))
+        (λ q. or_left (not (is_unreachable (terminal_at t f))) (may_be_open (terminal_at t b)) (is_not (is_unreachable (terminal_at t f)) q))))
+
+    proper_passes : (k : ℕ) → IsProper t k → wide_proper_test t k ≡ true
+    proper_passes k c = and_both _ _ (is_not _ (pl.case_reached k c)) (every_of_lem t.blocks (λ w m. not (is_fallthrough (fallthrough_of m) k)) no_end)
+      where
+        no_end : (w : ℕ) → not (is_fallthrough (fallthrough_of (terminal_at t w)) k) ≡ true
+        no_end w =
+            is_not _ (by_cases (is_fallthrough (fallthrough_of (terminal_at t w)) k)
+            (λ q. absurd (pl.case_fallthrough w k (fallthrough_is k (fallthrough_of (terminal_at t w)) q) c)) (λ q. q))
+
+    block_passes : (b : ℕ) → wide_block_test t width b (terminal_at t b) ≡ true
+    block_passes b =
+        and_both _ _ (pl.ends b) (and_both _ _ (all_reached_lem t (wide_entered_by (terminal_at t b)) (pl.entered b)) (and_both _ _ (part_passes b (terminal_at t b) refl)
+        (and_both _ _ (loop_passes b (loop_of (terminal_at t b)) refl) (and_both _ _ (fallthrough_passes b (fallthrough_of (terminal_at t b)) refl)
+        (and_both _ _ (all_of_lem (proper_blocks_of t (terminal_at t b)) (wide_proper_test t) (λ k q. proper_passes k (record { of = b; among = q })))
+        (value_passes b (terminal_at t b) refl))))))
+
+    pub plain_passes : is_wide t width ≡ true
+    plain_passes = and_both _ _ (is_not _ pl.entry_reached) (every_of_lem t.blocks (λ b m. wide_block_test t width b m) block_passes)
+
+-- the test holds exactly of the tables with these conditions
+pub value_test_lem : (width : Width) (t : Table) → (is_wide t width ≡ true) ↔ WidePlain width t
+value_test_lem width t = (λ h. test_plain t width h, λ plain. plain_passes t width plain)
