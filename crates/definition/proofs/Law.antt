@@ -18,14 +18,16 @@ use Rattle.definition.specs.Plain.{Width, paper_01, with_switch, Plain}
 use Rattle.definition.specs.RunLaw.{Agree, RunLaw, Spoken, SwitchLaw, LawOfSwitches}
 use Rattle.definition.specs.LoopLaw.{LawOfLoops, LawOfLoopsAndSwitches}
 use Rattle.definition.specs.ValueEnds.{seen}
-use Rattle.definition.specs.ValueLaw.{WidePlain, WideAgree, WideSpoken}
+use Rattle.definition.specs.WideRun.{wide_run}
+use Rattle.definition.specs.WideTreeRun.{wide_tree_run}
+use Rattle.definition.specs.ValueLaw.{WideAgree, WideSpoken}
 use Rattle.definition.proofs.PlainEnough.{PlainEnough, plain_enough}
 use Rattle.definition.proofs.Semantics.{runnable}
 use Rattle.definition.proofs.Structure.{Covers}
 use Rattle.definition.proofs.Runnable.{Runnable}
 use Rattle.definition.proofs.Accepted.{Accepted, accepted_of}
 use Rattle.definition.proofs.TreeInBuffer.{one_tree, tree_is_built}
-use Rattle.definition.proofs.LoopsAreWide.{old_values, old_loops, no_values, old_seen, old_run}
+use Rattle.definition.proofs.LoopsAreWide.{old_loops, old_wide, no_values, old_seen, old_run}
 use Rattle.definition.proofs.SameTrees.{same_tree_run}
 use Rattle.definition.proofs.LawOfValues as wide
 use Rattle.definition.proofs.LawOfValues.{is_beyond, runs_beyond, root_built, covers_paper}
@@ -72,13 +74,10 @@ spoken_of t answers n performed left r e h m performed' left' e' =
 
 module _ (rule : Rule) {width : Width} (words : List ℕ) (lent lent_index : ℕ)
     (covers : Covers rule width) (h : (built rule words lent lent_index).code ≡ 0) (pl : PlainEnough width (table_of words)) where
-  as_wide : WidePlain width (table_of words)
-  as_wide = record { loops = old_loops (table_of words) width pl; values = old_values (table_of words) width pl }
-
   -- the runner runs such a tree: nothing in it is refused 64
   root_runnable : Runnable (one_tree rule words lent lent_index h).tree
   root_runnable =
-      runnable (table_of words) (seen (table_of words)) (no_values (table_of words) width pl) (root_built rule words lent lent_index covers h as_wide)
+      runnable (table_of words) (seen (table_of words)) (no_values (table_of words) width pl) (root_built rule words lent lent_index covers h (old_wide (table_of words) width pl))
 
   spoken_too : (answers : Answers) → Spoken (table_of words) answers → WideSpoken (table_of words) (seen (table_of words)) answers
   spoken_too answers spoken n performed left e = spoken n performed left (sym (old_run (table_of words) width pl n (table_of words).entry answers) ∙ e)
@@ -98,13 +97,22 @@ module _ (rule : Rule) {width : Width} (words : List ℕ) (lent lent_index : ℕ
   }
 
   root_agrees : (answers : Answers) → Spoken (table_of words) answers → Agree (table_of words) (one_tree rule words lent lent_index h).tree answers
-  root_agrees answers spoken = agree_too answers (wide.root_agrees rule words lent lent_index covers h as_wide answers (spoken_too answers spoken))
+  root_agrees answers spoken = agree_too answers (wide.root_agrees rule words lent lent_index covers h (old_wide (table_of words) width pl) answers (spoken_too answers spoken))
 
   pub tree_runnable : (one : OneTree (built rule words lent lent_index)) → Runnable one.tree
   tree_runnable one =
       let a : Accepted rule words lent lent_index = accepted_of rule words lent lent_index h in
       subst (λ (s : Statements). Runnable s)
       (tree_is_built rule words lent lent_index a (one_tree rule words lent lent_index h) ∙ sym (tree_is_built rule words lent lent_index a one)) root_runnable
+
+  -- both runs are the wide ones
+  same_runs : (one : OneTree (built rule words lent lent_index)) (answers : Answers)
+      → ((steps block : ℕ) → wide_run (table_of words) (seen (table_of words)) steps block answers ≡ block_run (table_of words) steps block answers)
+      × (wide_tree_run (seen (table_of words)) one.tree answers ≡ tree_run one.tree answers)
+  same_runs one answers = (
+    λ steps block. old_run (table_of words) width pl steps block answers,
+    same_tree_run (seen (table_of words)) (old_seen (table_of words) width pl) one.tree (tree_runnable one) answers,
+  )
 
 -- a table without Switch: every list of answers is spoken of
 all_spoken : (words : List ℕ) → PlainEnough paper_01 (table_of words) → (answers : Answers) → Spoken (table_of words) answers
@@ -137,3 +145,18 @@ loops_law = run_law_enough
 
 pub loops_and_switches_law : LawOfLoopsAndSwitches
 loops_and_switches_law = switch_law_enough
+
+-- ---- on these tables the wide runs are theirs
+
+abbrev SameRuns : Rule → Width → Type 0
+SameRuns rule width =
+    (words : List ℕ) (lent lent_index : ℕ) → (built rule words lent lent_index).code ≡ 0 → PlainEnough width (table_of words)
+    → (one : OneTree (built rule words lent lent_index)) (answers : Answers)
+    → ((steps block : ℕ) → wide_run (table_of words) (seen (table_of words)) steps block answers ≡ block_run (table_of words) steps block answers)
+    × (wide_tree_run (seen (table_of words)) one.tree answers ≡ tree_run one.tree answers)
+
+pub same_runs_of_loops : (rule : Rule) → SameRuns rule paper_01
+same_runs_of_loops rule words lent lent_index h pl = same_runs rule words lent lent_index (covers_paper rule) h pl
+
+pub same_runs_of_loops_and_switches : SameRuns language with_switch
+same_runs_of_loops_and_switches words lent lent_index h pl = same_runs language words lent lent_index tt h pl

@@ -24,6 +24,7 @@ use Rattle.definition.specs.PlainValue.{test_of, Asks, GoesTo, NoStore, owns_tes
 use Rattle.definition.proofs.Chains.{Owns}
 use Rattle.definition.proofs.ChainsRead.{owns_is}
 use Rattle.definition.specs.WideLoops.{wide_codes, wide_entered_by, WideLoops}
+use Rattle.definition.specs.ValueLaw.{WidePlain}
 
 ends_eq : {a b c d : ℕ} → some (ends_at a b) ≡ some (ends_at c d) → (a ≡ c) × (b ≡ d)
 ends_eq e = (ap (λ (z : ValueEnd). z.holder) (some_eq e), ap (λ (z : ValueEnd). z.end) (some_eq e))
@@ -183,6 +184,9 @@ module _ (t : Table) where
       throw_loop = λ b n w x f k e q. not_coded b (maybe_throw n) e refl;
       throw_again = λ b n w x l f e q. not_coded b (maybe_throw n) e refl;
     }
+
+    pub old_wide : WidePlain width t
+    old_wide = record { loops = old_loops; values = old_values }
 
     -- ---- all rows are seen, and the block run is the old one
 

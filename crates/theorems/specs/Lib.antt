@@ -3,4 +3,5 @@ pub mod Call
 pub mod LabelsThere
 pub mod Parted
 pub mod Stops
+pub mod Values
 pub mod Indexed
