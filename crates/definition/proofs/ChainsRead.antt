@@ -88,7 +88,7 @@ module _ (t : Table) where
       at (optional flag test fallthrough) e q w ih = absurd (none_some q)
       at (label block fallthrough) e q w ih = absurd (none_some q)
       at (sequence block fallthrough) e q w ih = absurd (none_some q)
-      at (maybe_throw continuation) e q w ih = 
+      at (maybe_throw continuation) e q w ih =
           silent_throw continuation e (nothing_seen seen_row (instruction_rows_at t b) (λ row i. w row (first_rows (instruction_rows_at t b) (straight_rows t n continuation) row i)))
           (ih continuation q (λ row i. w row (later_rows (instruction_rows_at t b) (straight_rows t n continuation) row i)))
       at (try block handler fallthrough binding) e q w ih = absurd (none_some q)

@@ -136,6 +136,7 @@ module _ (seen_row : ℕ → Bool) (all_seen : (row : ℕ) → seen_row row ≡ 
 
   mutual
     unfolding run_value run_all
+
     value_same : (v : Value) → Straight v → (tested : Bool) → Performs (run_value seen_row v tested) (performs v)
     value_same (PLAIN row) p tested a = ap (λ (z : List ℕ). valued z in_whole a) (row_seen row)
     value_same (LOAD place) p tested a = refl
@@ -157,6 +158,7 @@ module _ (seen_row : ℕ → Bool) (all_seen : (row : ℕ) → seen_row row ≡ 
 
   mutual
     unfolding wide_statements wide_statement wide_entries run_statements run_statement entries_from
+
     statement_same : (s : Statement) → RunnableStatement s → Same (wide_statement seen_row s) (run_statement s)
     statement_same (INSTR i l sp v) p a =
         and_after (run_value seen_row v false) (performs v) (value_same v p false) (λ left. completed [] normal left) (λ left. completed [] normal left) (λ left. refl) a

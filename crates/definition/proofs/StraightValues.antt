@@ -88,6 +88,8 @@ module _ (t : Table) where
   -- flattened, as a For's init is
   pub straight_sequence : (r : ValueBlockResult) (span : Span) → Straight r.value → Straight (value_block_result_to_sequence t r span)
   unfolding value_block_result_to_sequence
-  straight_sequence r span p =
-      (straight_sequenced r.value (unless_same (same_identifier t r.place (loaded_place t (innermost_value r.value))) (single_instruction r.id r.place span (innermost_value r.value))) p
-      (straight_unless (same_identifier t r.place (loaded_place t (innermost_value r.value))) (single_instruction r.id r.place span (innermost_value r.value)) (straight_innermost r.value p, tt)), tt)
+  straight_sequence r span p = (
+    straight_sequenced r.value (unless_same (same_identifier t r.place (loaded_place t (innermost_value r.value))) (single_instruction r.id r.place span (innermost_value r.value))) p
+        (straight_unless (same_identifier t r.place (loaded_place t (innermost_value r.value))) (single_instruction r.id r.place span (innermost_value r.value)) (straight_innermost r.value p, tt)),
+    tt,
+  )

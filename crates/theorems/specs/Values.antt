@@ -1,4 +1,4 @@
--- The claims on tables with values, each proved as the contract of a function of src/values.rt.
+-- The claims on tables with values, each proved as the contract of a function of src/value_claims.rt.
 use Rattle.std.specs.Prelude.{◌≡◌, ℕ, List, true}
 use Rattle.table.specs.Table.{Table, table_of}
 use Rattle.definition.specs.Around.{Rule, language}

@@ -4,7 +4,7 @@
 #![tactic(auto)]
 
 // The claims on tables with values.
-pub mod values;
+pub mod value_claims;
 
 ghost use Rattle.std.specs.Prelude.{◌≡◌, length};
 ghost use Rattle.control.specs.Rule.{rule_of};
