@@ -10,7 +10,8 @@ use Rattle.definition.specs.Build as definition
 use Rattle.definition.specs.Plain.{paper_01, with_switch, Plain}
 use Rattle.definition.specs.Reading.{OneTree}
 use Rattle.definition.specs.RunLaw.{RunLaw, SwitchLaw}
-use Rattle.definition.proofs.Law.{one_tree, run_law, switch_law}
+use Rattle.definition.proofs.TreeInBuffer.{one_tree}
+use Rattle.definition.proofs.Law.{run_law, switch_law}
 use Rattle.std.specs.Prelude.{Result, Ok, Err, OnOk}
 use Rattle.walk.specs.declared.answer.Walked.{Walked}
 use Rattle.build.specs.declared.answer.BuildError.{BuildError}

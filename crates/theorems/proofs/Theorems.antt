@@ -55,7 +55,8 @@ use Rattle.definition.proofs.Checked.{ranged}
 use Rattle.definition.specs.PlainLoops.{PlainLoops}
 use Rattle.definition.specs.LoopLaw.{LawOfLoops, LawOfLoopsAndSwitches}
 use Rattle.definition.proofs.PlainEnough.{plain_enough}
-use Rattle.definition.proofs.Law.{switch_law, loops_law as law_of_loops, loops_and_switches_law, more_steps, one_tree}
+use Rattle.definition.proofs.TreeInBuffer.{one_tree}
+use Rattle.definition.proofs.Law.{switch_law, loops_law as law_of_loops, loops_and_switches_law, more_steps}
 use Rattle.definition.specs.Crossed.{Found}
 use Rattle.definition.proofs.Crossed.{break_found, continue_found}
 use Rattle.definition.proofs.JumpRows.{built_within}
@@ -359,30 +360,7 @@ pub no_target_type_is_unknown : (target : ControlFlowTarget)
     ⊎ ((block continue_block loop_block : ℕ) × (target ≡ target_loop block continue_block loop_block))))
 no_target_type_is_unknown = target_known
 
--- ---- the bounds of the control stack and of the depth, of the definition (definition/specs/Watched)
-
--- "The stack holds at most 1,152 entries, also proved.": a build that is refused where a block's walk begins or ends with more than
--- 1,151 is the definition's
-pub the_stack_holds_at_most_1152_entries : (rule : Rule) (words : List ℕ) → checked words ≡ accepted
-    → watched (at_most_entries 1151) rule (table_of words) ≡ build_tree rule (table_of words)
-the_stack_holds_at_most_1152_entries rule words passed = stack_most rule (table_of words) (ranged words passed).few
-
--- and between two of those points at most one is added, whatever the walk of the blocks nested in an arm: if each of them ends with fewer
--- than so many entries, as the arm begins, then none of them begins with more than so many, and the arm ends with fewer
-pub an_arm_adds_at_most_one_entry : (most : ℕ) (t : Table) (visit : VisitValueBlock) (traverse : TraverseInside)
-    → ((around : Around) (block : ℕ) (cx : Context) (result : BlockResult) → length cx.stack ≤ most → traverse around block cx ≡ ok result
-    → length result.context.stack < most)
-    → (around : Around) (terminal : Terminal) (at : ℕ) (block : Block) (cx : Context) → length cx.stack < most
-    → (visit_terminal t visit (λ around. watch (at_most_entries most) around (traverse around)) around terminal at block cx
-    ≡ visit_terminal t visit traverse around terminal at block cx)
-    × ((result : TerminalResult) → visit_terminal t visit traverse around terminal at block cx ≡ ok result
-    → length result.context.stack < most)
-an_arm_adds_at_most_one_entry = one_entry_an_arm
-
--- "Depth at most 128": a build that is refused where a block has more than 127 statements around it is the definition's
-pub the_depth_is_at_most_128 : (rule : Rule) (words : List ℕ) → checked words ≡ accepted
-    → watched (at_most_deep 128) rule (table_of words) ≡ build_tree rule (table_of words)
-the_depth_is_at_most_128 rule words passed = depth_most rule (table_of words) (ranged words passed).few
+-- ---- the bound of the control stack, in the code (specs/Claims has those of the definition)
 
 -- the code's `schedule` alone puts an entry onto the code's stack, and asks of its caller, who had to prove it, that one more fits
 pub the_code_schedules_where_an_entry_fits : (κs : Lfts 0) (before : CodeContext × (CodeTarget × Unit {0})) → schedule.Asked κs before

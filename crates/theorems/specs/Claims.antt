@@ -16,7 +16,9 @@ use Rattle.definition.specs.Result.{already_scheduled, unschedule_out_of_order, 
 use Rattle.definition.specs.Run.{Answers, IsGood}
 use Rattle.definition.specs.RunLaw.{Agree, RunLaw, Spoken, SwitchLaw}
 use Rattle.definition.specs.Samples.{Sample, samples, built_for}
+use Rattle.definition.specs.Statement.{build_tree}
 use Rattle.definition.specs.Tree.{Statements, Row}
+use Rattle.definition.specs.Watched.{at_most_entries, at_most_deep, watched}
 use Rattle.tree_grammar.specs.Grammar.{Answer}
 use Rattle.convert.specs.Convert.{old_to_new, new_to_old, text_of_answer, wholly}
 use Rattle.renaming.specs.Renaming.{Renaming, renamed, renamed_outcome}
@@ -24,6 +26,7 @@ use Rattle.walk.specs.declared.answer.Walked.{Walked}
 use Rattle.build.specs.declared.answer.BuildError.{BuildError}
 use Rattle.build.specs.Entry.{outcome}
 use Rattle.theorems.specs.Answered.{Answered}
+use Rattle.theorems.specs.Bounds.{AnArmAddsOneEntry}
 use Rattle.theorems.specs.Messages.{IsKnown}
 use Rattle.theorems.specs.Indexed.{OneLineEach, InOrder, FindsLabelled}
 use Rattle.theorems.specs.LabelsThere.{LabelsThere}
@@ -136,6 +139,20 @@ TheRunnerDoesWhatTheRunsDo =
 -- No build makes more than 8,192 visits.
 abbrev pub VisitsAreAtMost8192 : Type 0
 VisitsAreAtMost8192 = (rule : Rule) (words : List ℕ) (lent lent_index : ℕ) → (built rule words lent lent_index).visits ≤ 8192
+
+-- The control stack holds at most 1,152 entries: a build that is refused where a block's walk begins or ends with more than 1,151 is the
+-- definition's, and between two of those points an arm adds one at most.
+abbrev pub TheStackHoldsAtMost1152Entries : Type 0
+TheStackHoldsAtMost1152Entries =
+    ((rule : Rule) (words : List ℕ) → checked words ≡ accepted
+    → watched (at_most_entries 1151) rule (table_of words) ≡ build_tree rule (table_of words))
+    × AnArmAddsOneEntry
+
+-- The depth is at most 128: a build that is refused where a block has more than 127 statements around it is the definition's.
+abbrev pub TheDepthIsAtMost128 : Type 0
+TheDepthIsAtMost128 =
+    (rule : Rule) (words : List ℕ) → checked words ≡ accepted
+    → watched (at_most_deep 128) rule (table_of words) ≡ build_tree rule (table_of words)
 
 -- Four messages of the Rust never occur: no build comes to three of them, and the fourth has no target to name.
 abbrev pub FourMessagesNeverOccur : Type 0

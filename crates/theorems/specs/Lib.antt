@@ -1,4 +1,5 @@
 pub mod Answered
+pub mod Bounds
 pub mod Claims
 pub mod Indexed
 pub mod LabelsThere
@@ -8,3 +9,4 @@ pub mod Rearranged
 pub mod Runner
 pub mod Shown
 pub mod Stops
+pub mod Values

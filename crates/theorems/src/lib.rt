@@ -3,6 +3,9 @@
 // do nothing.
 #![tactic(auto)]
 
+// The claims on tables with values.
+pub mod value_claims;
+
 ghost use Rattle.std.specs.Prelude.{◌≡◌, length};
 ghost use Rattle.control.specs.Rule.{rule_of};
 ghost use Rattle.definition.specs.Build.{built};
@@ -12,7 +15,7 @@ ghost use Rattle.theorems.specs.Claims.{WithLoopsAndSwitches};
 ghost use Rattle.theorems.specs.Claims.{NeitherEverStopsOtherwise, RowsHaveOneReading, WhatIsBuiltPassesTheCheck, NoLabelStandsTwice};
 ghost use Rattle.theorems.specs.Claims.{ALookupFindsTheStatement, TheLabelsAreThere, TheEntriesDifferOnlySo, APreviewIsTheBuilds};
 ghost use Rattle.theorems.specs.Claims.{AnyRenumberingBuildsTheSame, TheWalkingOrderCanBeUndone, TextsComeBack, TheRunnerDoesWhatTheRunsDo};
-ghost use Rattle.theorems.specs.Claims.{VisitsAreAtMost8192, FourMessagesNeverOccur, TheSamplesComeOut};
+ghost use Rattle.theorems.specs.Claims.{VisitsAreAtMost8192, TheStackHoldsAtMost1152Entries, TheDepthIsAtMost128, FourMessagesNeverOccur, TheSamplesComeOut};
 
 use build::answer::BuildError;
 use build::{build_language, build_reactive_function};
@@ -136,6 +139,16 @@ pub fn the_runner_does_what_the_runs_do()
 /// No build makes more than 8,192 visits.
 pub fn visits_are_at_most_8192()
     ensures { VisitsAreAtMost8192 }
+{}
+
+/// The control stack holds at most 1,152 entries.
+pub fn the_stack_holds_at_most_1152_entries()
+    ensures { TheStackHoldsAtMost1152Entries }
+{}
+
+/// No block is deeper than 128.
+pub fn the_depth_is_at_most_128()
+    ensures { TheDepthIsAtMost128 }
 {}
 
 /// Four messages of the Rust never occur.
