@@ -17,7 +17,7 @@ use reactive_build::Refusal;
 /// Why there is no tree.
 #[derive(Debug)]
 pub enum Failed {
-    /// What the Rust says of this function.
+    /// What the Rust says of this function, but for the label of one message (`refuse`).
     Refused(OxcDiagnostic),
     /// The library does not serve this function. The Rust may: call it instead.
     Outside(Outside),

@@ -262,7 +262,7 @@ impl<'a> Raising<'_, 'a> {
 }
 
 fn order(id: u32) -> EvaluationOrder {
-    EvaluationOrder::new(id)
+    EvaluationOrder::from_usize(id as usize)
 }
 
 fn target_kind(kind: Kind) -> ReactiveTerminalTargetKind {

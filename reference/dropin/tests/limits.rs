@@ -4,18 +4,21 @@ use dropin::{Failed, Outside, build_reactive_function};
 use oxc_allocator::{Allocator, Vec as ArenaVec};
 use oxc_react_compiler::react_compiler_hir::environment::{Environment, Identifiers};
 use oxc_react_compiler::react_compiler_hir::{
-    BasicBlock, BlockId, EvaluationOrder, HIR, HirFunction, Identifier, IdentifierId, Instruction,
-    InstructionId, InstructionValue, LValue, Place, ReactiveFunction, Terminal,
+    BasicBlock, BlockId, BlockKind, DeclarationId, Effect, EvaluationOrder, HIR,
+    HirFunction, Identifier, IdentifierId, Instruction, InstructionId, InstructionKind,
+    InstructionValue, LValue, MutableRange, MutableRangeId, Place, ReactFunctionType,
+    ReactiveFunction, ReturnVariant, Terminal, TypeId,
 };
 use oxc_react_compiler::react_compiler_reactive_scopes::build_reactive_function::build_reactive_function as rust;
 use oxc_react_compiler::react_compiler_utils::OrderedMap;
+use oxc_react_compiler::react_compiler_utils::ordered_map::ArenaOrderedSet;
 use oxc_span::Span;
 use reactive_build::{Refusal, code};
 
 fn place(identifier: u32, start: u32) -> Place {
     Place {
-        identifier: IdentifierId::new(identifier),
-        effect: 0,
+        identifier: IdentifierId::from_usize(identifier as usize),
+        effect: Effect::Read,
         reactive: false,
         span: Some(Span { start, end: start }),
     }
@@ -29,40 +32,75 @@ fn function<'a>(
     place: fn(u32) -> Place,
 ) -> HirFunction<'a> {
     let instruction = |number: u32| {
-        let lvalue = LValue { place: place(3 * number), kind: 0 };
+        let lvalue = LValue { place: place(3 * number), kind: InstructionKind::Let };
         let value =
             InstructionValue::StoreLocal { lvalue, value: place(3 * number + 1), span: None };
         Instruction {
-            id: EvaluationOrder::new(number),
+            id: EvaluationOrder::from_usize(number as usize),
             lvalue: place(3 * number + 2),
             value,
             span: None,
+            effects: None,
         }
     };
-    let (id, entry) = (EvaluationOrder::new(stores), BlockId::new(block));
-    let terminal = Terminal::Return { value: place(0), id, span: None };
-    let instructions = ArenaVec::from_iter_in((0..stores).map(InstructionId::new), &allocator);
-    let mut values = Vec::new();
-    values.resize_with(block as usize, || None);
-    values.push(Some(BasicBlock { id: entry, instructions, terminal }));
+    let (id, entry) =
+        (EvaluationOrder::from_usize(stores as usize), BlockId::from_usize(block as usize));
+    let terminal = Terminal::Return {
+        value: place(0),
+        return_variant: ReturnVariant::Void,
+        id,
+        span: None,
+        effects: None,
+    };
+    let instructions =
+        ArenaVec::from_iter_in((0..stores as usize).map(InstructionId::from_usize), &allocator);
+    let mut blocks = OrderedMap::default();
+    blocks.insert(entry, basic_block(allocator, entry, instructions, terminal));
     HirFunction {
         span: None,
         id: None,
         name_hint: None,
+        fn_type: ReactFunctionType::Hook,
         params: ArenaVec::new_in(&allocator),
-        body: HIR { entry, blocks: OrderedMap::from_values(values) },
+        returns: place(0),
+        context: ArenaVec::new_in(&allocator),
+        body: HIR { entry, blocks },
         instructions: ArenaVec::from_iter_in((0..stores).map(instruction), &allocator),
         generator: false,
         is_async: false,
         directives: ArenaVec::new_in(&allocator),
+        aliasing_effects: None,
+    }
+}
+
+fn basic_block<'a>(
+    allocator: &'a Allocator,
+    id: BlockId,
+    instructions: ArenaVec<'a, InstructionId>,
+    terminal: Terminal<'a>,
+) -> BasicBlock<'a> {
+    BasicBlock {
+        kind: BlockKind::Block,
+        id,
+        instructions,
+        terminal,
+        preds: ArenaOrderedSet::from_iter_in([], &allocator),
+        phis: ArenaVec::new_in(&allocator),
     }
 }
 
 fn environment(allocator: &Allocator, identifiers: usize) -> Environment<'_> {
-    Environment {
-        allocator,
-        identifiers: Identifiers(vec![Identifier { name: None }; identifiers]),
-    }
+    let none = EvaluationOrder::UNSET;
+    let identifier = |number: usize| Identifier {
+        id: IdentifierId::from_usize(number),
+        declaration_id: DeclarationId::from_usize(number),
+        name: None,
+        mutable_range: MutableRange { id: MutableRangeId::from_usize(0), start: none, end: none },
+        scope: None,
+        type_: TypeId::from_usize(0),
+        span: None,
+    };
+    Environment { allocator, identifiers: Identifiers((0..identifiers).map(identifier).collect()) }
 }
 
 fn same_as_the_rust<'a>(hir: &HirFunction<'a>, env: &Environment<'a>) {
