@@ -4,19 +4,19 @@
 //! Blocks are met from the entry on, so that one which nothing names gets no row. A span is a number because its ends may be above 65,535,
 //! may be reversed, or may be both 0, which words take for none.
 
-use std::collections::HashMap;
 use std::mem::{Discriminant, discriminant};
 
 use oxc_ast::ast::LogicalOperator;
-use oxc_react_compiler::react_compiler_hir::environment::Environment;
-use oxc_react_compiler::react_compiler_hir::{
+use oxc_span::Span;
+use reactive_build::table::{Ending, LIMITS, NONE, Operator, Variant};
+use rustc_hash::FxHashMap;
+
+use super::Outside;
+use crate::react_compiler_hir::environment::Environment;
+use crate::react_compiler_hir::{
     BlockId, Effect, GotoVariant, HirFunction, Instruction, InstructionId, InstructionValue, Place,
     ScopeId, Terminal,
 };
-use oxc_span::Span;
-use reactive_build::table::{Ending, LIMITS, NONE, Operator, Variant};
-
-use crate::Outside;
 
 /// Ids up to here are numbered by a vector.
 const LARGEST_ID: usize = (1 << 20) - 1;
@@ -43,7 +43,7 @@ impl Lowered {
         if lowered.places.len() <= MOST_PLACES {
             return Ok(lowered);
         }
-        Lowering::new(hir, env, Some(HashMap::new())).function(hir)
+        Lowering::new(hir, env, Some(FxHashMap::default())).function(hir)
     }
 }
 
@@ -61,7 +61,7 @@ struct Lowering<'h, 'a> {
     env: &'h Environment<'a>,
     block_rows: Rows,
     identifier_rows: Rows,
-    place_rows: Option<HashMap<PlaceKey, u32>>,
+    place_rows: Option<FxHashMap<PlaceKey, u32>>,
     blocks: Vec<BlockId>,
     places: Vec<Place>,
     spans: Vec<Span>,
@@ -76,7 +76,7 @@ impl<'h, 'a> Lowering<'h, 'a> {
     fn new(
         hir: &HirFunction,
         env: &'h Environment<'a>,
-        place_rows: Option<HashMap<PlaceKey, u32>>,
+        place_rows: Option<FxHashMap<PlaceKey, u32>>,
     ) -> Self {
         let usual = 16 + 2 * hir.instructions.len();
         Self {

@@ -3,12 +3,12 @@
 
 use std::mem::discriminant;
 
-use oxc_react_compiler::diagnostics::ErrorCategory;
-use oxc_react_compiler::react_compiler_hir::{BlockId, HirFunction, Terminal};
 use reactive_build::{Refusal, code};
 
-use crate::lower::Lowered;
-use crate::{Failed, Outside};
+use super::lower::Lowered;
+use super::{Failed, Outside};
+use crate::diagnostics::ErrorCategory;
+use crate::react_compiler_hir::{BlockId, HirFunction, Terminal};
 
 /// In the order of the codes.
 pub fn failed(refusal: Refusal, lowered: &Lowered, hir: &HirFunction) -> Failed {
