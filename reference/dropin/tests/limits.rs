@@ -165,6 +165,58 @@ fn ids_below_and_from_2_to_the_20() {
 }
 
 #[test]
+fn a_block_under_anothers_id() {
+    let allocator = Allocator;
+    let mut hir = function(&allocator, 1, 3, |_| place(0, 0));
+    let [entry, block] = [5, 6].map(BlockId::from_usize);
+    let (id, fallthrough) = (EvaluationOrder::UNSET, hir.body.entry);
+    let none = || ArenaVec::new_in(&&allocator);
+    let label = Terminal::Label { block, fallthrough, id, span: None };
+    let goto = Terminal::Goto { block: fallthrough, variant: GotoVariant::Break, id, span: None };
+    // It says that it is the fallthrough, which the Rust then has emitted already.
+    hir.body.blocks.insert(entry, basic_block(&allocator, fallthrough, none(), label));
+    hir.body.blocks.insert(block, basic_block(&allocator, block, none(), goto));
+    hir.body.entry = entry;
+    let env = environment(&allocator, 1);
+    assert_eq!(rust(&hir, &env).unwrap_err().message, "Block bb3 was already emitted");
+    assert_eq!(outside(&hir, &env), Outside::OtherId);
+}
+
+#[test]
+fn an_instruction_that_is_not_there_in_a_block_that_is_not_visited() {
+    let allocator = Allocator;
+    let mut hir = function(&allocator, 1, 3, |_| place(0, 0));
+    let (entry, away) = (BlockId::from_usize(0), BlockId::from_usize(1));
+    let id = EvaluationOrder::UNSET;
+    let missing = ArenaVec::from_iter_in([InstructionId::from_usize(9)], &&allocator);
+    let unreachable = || Terminal::Unreachable { id, span: None };
+    // The handler is visited, the try's fallthrough is not, since it ends in Unreachable.
+    hir.body.blocks.insert(away, basic_block(&allocator, away, missing, unreachable()));
+    let block = BlockId::from_usize(2);
+    let none = || ArenaVec::new_in(&&allocator);
+    hir.body.blocks.insert(block, basic_block(&allocator, block, none(), unreachable()));
+    let tried = Terminal::Try {
+        block,
+        handler_binding: None,
+        handler: BlockId::from_usize(3),
+        fallthrough: away,
+        id,
+        span: None,
+    };
+    hir.body.blocks.insert(entry, basic_block(&allocator, entry, none(), tried));
+    hir.body.entry = entry;
+    assert_eq!(outside(&hir, &environment(&allocator, 1)), Outside::NoInstruction);
+}
+
+#[test]
+fn an_identifier_that_is_not_there_and_whose_name_is_not_asked() {
+    let allocator = Allocator;
+    let hir = function(&allocator, 1, 0, |_| place(7, 0));
+    assert_eq!(outside(&hir, &environment(&allocator, 7)), Outside::NoIdentifier);
+    same_as_the_rust(&hir, &environment(&allocator, 8));
+}
+
+#[test]
 fn orders_up_to_65535_and_one_more() {
     let allocator = Allocator;
     let env = environment(&allocator, 1);

@@ -104,9 +104,13 @@ impl<'h, 'a> Lowering<'h, 'a> {
                 blocks.push([0; 11]);
                 continue;
             };
+            if block.id != *id {
+                return Err(Outside::OtherId);
+            }
             let first = rows.len() as u32;
             for id in block.instructions.iter() {
-                rows.push(self.instruction(&hir.instructions[id.index()]));
+                let instruction = hir.instructions.get(id.index()).ok_or(Outside::NoInstruction)?;
+                rows.push(self.instruction(instruction)?);
                 instructions.push(*id);
             }
             let ending = self.terminal(&block.terminal);
@@ -166,7 +170,7 @@ impl<'h, 'a> Lowering<'h, 'a> {
         }
         let (row, is_new) = self.identifier_rows.of(place.identifier.index());
         if is_new {
-            self.named.push(self.env.identifiers[place.identifier].name.is_some().into());
+            self.named.push(0);
         }
         self.places.push(place);
         self.place_identifiers.push(row);
@@ -187,17 +191,31 @@ impl<'h, 'a> Lowering<'h, 'a> {
         self.scopes.len() as u32 - 1
     }
 
-    fn instruction(&mut self, instruction: &Instruction) -> [u32; 7] {
+    fn instruction(&mut self, instruction: &Instruction) -> Result<[u32; 7], Outside> {
         let lvalue = self.place(instruction.lvalue);
         let (code, p, q) = match &instruction.value {
             InstructionValue::LoadLocal { place, .. } => (1, self.place(*place), 0),
             InstructionValue::StoreLocal { lvalue, value, .. } => {
-                (2, self.place(lvalue.place), self.place(*value))
+                let stored = self.place(lvalue.place);
+                self.name(stored)?;
+                (2, stored, self.place(*value))
             }
             _ => (0, 0, 0),
         };
         let [from, to] = self.span(instruction.span);
-        [instruction.id.index() as u32, lvalue, code, p, q, from, to]
+        Ok([instruction.id.index() as u32, lvalue, code, p, q, from, to])
+    }
+
+    /// Whether the identifier of a place has a name. The Rust asks this of identifiers that are stored to, and of no others.
+    fn name(&mut self, place: u32) -> Result<(), Outside> {
+        let id = self.places[place as usize].identifier;
+        let identifier = self.env.identifiers.get(id).ok_or(Outside::NoIdentifier)?;
+        let row = self.place_identifiers[place as usize];
+        // where an id is too large, no row is its own
+        if let Some(named) = self.named.get_mut(row as usize) {
+            *named = identifier.name.is_some().into();
+        }
+        Ok(())
     }
 
     /// What a block ends in, in the order of the Rust's `Terminal`. Its `..` are its order, its span and what the Rust never reads: a

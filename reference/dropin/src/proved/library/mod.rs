@@ -32,6 +32,12 @@ pub enum Outside {
     Code(Refusal),
     /// A block's or an identifier's id is 2^20 or above.
     LargeId,
+    /// A block stands in the map under another's id. Where the Rust names it, it has its own.
+    OtherId,
+    /// A block has an instruction that the function has not. The Rust panics, if it comes there.
+    NoInstruction,
+    /// An identifier is stored to that the environment has not. The Rust panics, if it asks for its name.
+    NoIdentifier,
 }
 
 impl Display for Outside {
@@ -41,6 +47,13 @@ impl Display for Outside {
             Self::Code(refusal) => write!(out, "{refusal}"),
             Self::LargeId => {
                 out.write_str("the id of a block or of an identifier is 1,048,576 or above")
+            }
+            Self::OtherId => out.write_str("a block stands in the map under another's id"),
+            Self::NoInstruction => {
+                out.write_str("a block has an instruction that the function has not")
+            }
+            Self::NoIdentifier => {
+                out.write_str("an identifier is stored to that the environment has not")
             }
         }
     }
