@@ -1,5 +1,5 @@
-//! The drop-in as a crate of its own. `proved` is the module that a compiler puts into its own crate, as it is (docs/FROM-YOUR-HIR.md); what it
-//! finds there under `crate` it finds here by these lines.
+//! The drop-in as a crate of its own. `proved` is the module that a compiler puts into its crate, as it is
+//! (docs/FROM-YOUR-HIR.md); what it finds there under `crate` it finds here by these lines.
 
 #[allow(unused_imports)] // without the feature
 use oxc_react_compiler::diagnostics;

@@ -1,7 +1,7 @@
 //! `build_reactive_function` over the proved library (crate `reactive_build`), by the Rust's own signature.
 //!
-//! A tree is the library's. Where the library gives none (a limit, a refusal, another machine, the feature `proved` left out), the Rust's own
-//! function is asked, so that every diagnostic and every panic is the Rust's own.
+//! A tree is the library's. Where the library gives none (a limit, a refusal, another machine, the feature `proved` left
+//! out), the Rust's own function is asked, so that every diagnostic and every panic is the Rust's own.
 
 // A crate in which this module is private uses a part of it alone.
 #[allow(dead_code)]

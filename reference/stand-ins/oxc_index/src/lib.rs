@@ -1,6 +1,7 @@
 //! Stands in for `oxc_index`: a number of its own type, to the least extent that the originals and the drop-in use.
 
-/// As in `oxc_index`, `u32::MAX` is no number of it. The originals make an id by `from_usize` alone, so that nothing else may be used here:
+/// As in `oxc_index`, `u32::MAX` is no number of it. The originals make an id by `from_usize` alone, so nothing else may
+/// be used here:
 ///
 /// ```
 /// oxc_index::define_nonmax_u32_index_type! { pub struct Id; }

@@ -1,8 +1,9 @@
-//! HIR to words. The words hold numbers that the build compares (blocks, identifiers) and numbers that it only copies (places, spans,
-//! scopes, instructions): each is a row here, given when it is first met, and `Lowered` keeps what stands at it.
+//! HIR to words. The words hold numbers that the build compares (blocks, identifiers) and numbers that it only copies
+//! (places, spans, scopes, instructions): each is a row here, given when it is first met, and `Lowered` keeps what stands
+//! at it.
 //!
-//! Blocks are met from the entry on, so that one which nothing names gets no row. A span is a number because its ends may be above 65,535,
-//! may be reversed, or may be both 0, which words take for none.
+//! Blocks are met from the entry on, so that one which nothing names gets no row. A span is a number because its ends may
+//! be above 65,535, may be reversed, or may be both 0, which words take for none.
 
 use std::mem::{Discriminant, discriminant};
 
@@ -37,7 +38,8 @@ pub struct Lowered {
 }
 
 impl Lowered {
-    /// A place that occurs gets a row. Where these are more than the build takes, places that are equal in every field get one.
+    /// A place that occurs gets a row. Where these are more than the build takes, places that are equal in every field get
+    /// one.
     pub fn of(hir: &HirFunction, env: &Environment) -> Result<Self, Outside> {
         let lowered = Lowering::new(hir, env, None).function(hir)?;
         if lowered.places.len() <= MOST_PLACES {
@@ -206,7 +208,8 @@ impl<'h, 'a> Lowering<'h, 'a> {
         Ok([instruction.id.index() as u32, lvalue, code, p, q, from, to])
     }
 
-    /// Whether the identifier of a place has a name. The Rust asks this of identifiers that are stored to, and of no others.
+    /// Whether the identifier of a place has a name. The Rust asks this of identifiers that are stored to, and of no
+    /// others.
     fn name(&mut self, place: u32) -> Result<(), Outside> {
         let id = self.places[place as usize].identifier;
         let identifier = self.env.identifiers.get(id).ok_or(Outside::NoIdentifier)?;
@@ -218,8 +221,8 @@ impl<'h, 'a> Lowering<'h, 'a> {
         Ok(())
     }
 
-    /// What a block ends in, in the order of the Rust's `Terminal`. Its `..` are its order, its span and what the Rust never reads: a
-    /// Branch's fallthrough, a MaybeThrow's handler, a Return's variant, effects.
+    /// What a block ends in, in the order of the Rust's `Terminal`. Its `..` are its order, its span and what the Rust
+    /// never reads: a Branch's fallthrough, a MaybeThrow's handler, a Return's variant, effects.
     fn terminal(&mut self, terminal: &Terminal) -> Ending {
         match terminal {
             Terminal::Unreachable { .. } => Ending::Unreachable,

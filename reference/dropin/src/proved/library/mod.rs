@@ -1,5 +1,5 @@
-//! The library alone: the function's HIR to words (`lower`), the build, its rows to the tree (`raise`), a refusal to the Rust's diagnostic
-//! (`refuse`). The package's docs/FROM-YOUR-HIR.md tells what is numbered, and the limits.
+//! The library alone: the function's HIR to words (`lower`), the build, its rows to the tree (`raise`), a refusal to the
+//! Rust's diagnostic (`refuse`). The package's docs/FROM-YOUR-HIR.md tells what is numbered, and the limits.
 
 pub mod lower;
 pub mod raise;
@@ -27,8 +27,9 @@ pub enum Failed {
 /// Why the library does not serve a function.
 #[derive(Clone, Copy, Debug, PartialEq, Eq)]
 pub enum Outside {
-    /// A refusal that no diagnostic of the Rust goes with: a limit of the library (2, 4, 30, 31), a block that is not there (10) or a value
-    /// without an instruction (28), where the Rust panics; and, by the language's rule alone, a jump without its label (29).
+    /// A refusal that no diagnostic of the Rust goes with: a limit of the library (2, 4, 30, 31), a block that is not
+    /// there (10) or a value without an instruction (28), where the Rust panics; and, by the language's rule alone, a
+    /// jump without its label (29).
     Code(Refusal),
     /// A block's or an identifier's id is 2^20 or above.
     LargeId,
@@ -75,8 +76,8 @@ pub fn build_reactive_function<'a>(
     built(reactive_build::rows, hir, env)
 }
 
-/// The same by the language's rule: a break to a loop is Labeled also where a switch stands between, and every Labeled jump names a label that
-/// is there.
+/// The same by the language's rule: a break to a loop is Labeled also where a switch stands between, and every Labeled
+/// jump names a label that is there.
 pub fn build_reactive_function_language<'a>(
     hir: &HirFunction<'a>,
     env: &Environment<'a>,

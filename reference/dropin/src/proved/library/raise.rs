@@ -1,5 +1,5 @@
-//! Rows to the tree: one pass, with a stack for each sort of part. The rows are those of an accepted build, so that every part that a row
-//! asks for is there.
+//! Rows to the tree: one pass, with a stack for each sort of part. The rows are those of an accepted build, so that every
+//! part that a row asks for is there.
 
 use oxc_allocator::{Box as ArenaBox, CloneIn, Vec as ArenaVec};
 use oxc_ast::ast::LogicalOperator;

@@ -1,5 +1,5 @@
-//! A refusal as the Rust's diagnostic, from its code, its place and the function. The Rust labels the message of code 24 with the span of the
-//! terminal that asked for the value, which the place does not tell: this one has no label.
+//! A refusal as the Rust's diagnostic, from its code, its place and the function. The Rust labels the message of code 24
+//! with the span of the terminal that asked for the value, which the place does not tell: this one has no label.
 
 use std::mem::discriminant;
 

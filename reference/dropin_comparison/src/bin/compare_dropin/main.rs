@@ -1,5 +1,5 @@
-//! `compare_dropin [TABLES [SEED]]`: the drop-in beside the Rust, by the Debug text of the whole function or of the diagnostic, on generated
-//! functions; the drop-in that falls back to the Rust; and the drop-in by the language's rule beside the first.
+//! `compare_dropin [TABLES [SEED]]`: on generated functions, the drop-in beside the Rust, by the Debug text of the whole
+//! function or of the diagnostic; the library alone beside it; and the library by the language's rule beside the first.
 
 mod scrambled;
 
