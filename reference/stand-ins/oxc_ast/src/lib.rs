@@ -1,5 +1,5 @@
-//! Stands in for `oxc_ast`: the types of the syntax tree that the HIR carries. The walk copies them and looks into none but `LogicalOperator`,
-//! which it copies too.
+//! Stands in for `oxc_ast`: the types of the syntax tree that the HIR carries. The walk copies them, `LogicalOperator` too, and looks
+//! into none.
 
 pub mod ast {
     pub use oxc_span::Span;

@@ -1,6 +1,17 @@
 //! Stands in for `oxc_index`: a number of its own type, to the least extent that the originals and the drop-in use.
 
-/// As in `oxc_index`, `u32::MAX` is no number of it.
+/// As in `oxc_index`, `u32::MAX` is no number of it. The originals make an id by `from_usize` alone, so nothing else may
+/// be used here:
+///
+/// ```
+/// oxc_index::define_nonmax_u32_index_type! { pub struct Id; }
+/// assert_eq!(Id::from_usize(7).index(), 7);
+/// ```
+///
+/// ```compile_fail,E0599
+/// oxc_index::define_nonmax_u32_index_type! { pub struct Id; }
+/// Id::new(7);
+/// ```
 #[macro_export]
 macro_rules! define_nonmax_u32_index_type {
     ($(#[$about:meta])* $visible:vis struct $name:ident;) => {

@@ -319,3 +319,47 @@ pub fn value<'a>(
         },
     }
 }
+
+#[cfg(test)]
+mod tests {
+    use std::collections::HashSet;
+    use std::mem::discriminant;
+
+    use super::*;
+
+    struct Least;
+
+    impl Draw for Least {
+        fn below(&self, _: u32) -> u32 {
+            0
+        }
+
+        fn any_place(&self) -> Place {
+            Place {
+                identifier: IdentifierId::from_usize(0),
+                effect: self.effect(),
+                reactive: false,
+                span: None,
+            }
+        }
+
+        fn any_span(&self) -> Option<Span> {
+            None
+        }
+    }
+
+    /// Each kind of the crate's `InstructionValue` but LoadLocal and StoreLocal.
+    #[test]
+    fn all_kinds() {
+        let made: HashSet<_> =
+            (0..KINDS).map(|kind| discriminant(&value(&Least, kind, None, &Allocator))).collect();
+        let types =
+            include_str!("../../../../oxc_react_compiler/src/react_compiler_hir/mod.rs");
+        let (_, kinds) = types.split_once("pub enum InstructionValue<'a> {\n").expect("it is there");
+        let (kinds, _) = kinds.split_once("\n}\n").expect("it ends");
+        let is_kind = |line: &&str| {
+            line.strip_prefix("    ").is_some_and(|name| name.starts_with(char::is_uppercase))
+        };
+        assert_eq!(made.len() + 2, kinds.lines().filter(is_kind).count());
+    }
+}

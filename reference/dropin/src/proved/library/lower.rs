@@ -1,22 +1,23 @@
-//! HIR to words. The words hold numbers that the build compares (blocks, identifiers) and numbers that it only copies (places, spans,
-//! scopes, instructions): each is a row here, given when it is first met, and `Lowered` keeps what stands at it.
+//! HIR to words. The words hold numbers that the build compares (blocks, identifiers) and numbers that it only copies
+//! (places, spans, scopes, instructions): each is a row here, given when it is first met, and `Lowered` keeps what stands
+//! at it.
 //!
-//! Blocks are met from the entry on, so that one which nothing names gets no row. A span is a number because its ends may be above 65,535,
-//! may be reversed, or may be both 0, which words take for none.
+//! Blocks are met from the entry on, so that one which nothing names gets no row. A span is a number because its ends may
+//! be above 65,535, may be reversed, or may be both 0, which words take for none.
 
-use std::collections::HashMap;
 use std::mem::{Discriminant, discriminant};
 
 use oxc_ast::ast::LogicalOperator;
-use oxc_react_compiler::react_compiler_hir::environment::Environment;
-use oxc_react_compiler::react_compiler_hir::{
+use oxc_span::Span;
+use reactive_build::table::{Ending, LIMITS, NONE, Operator, Variant};
+use rustc_hash::FxHashMap;
+
+use super::Outside;
+use crate::react_compiler_hir::environment::Environment;
+use crate::react_compiler_hir::{
     BlockId, Effect, GotoVariant, HirFunction, Instruction, InstructionId, InstructionValue, Place,
     ScopeId, Terminal,
 };
-use oxc_span::Span;
-use reactive_build::table::{Ending, LIMITS, NONE, Operator, Variant};
-
-use crate::Outside;
 
 /// Ids up to here are numbered by a vector.
 const LARGEST_ID: usize = (1 << 20) - 1;
@@ -37,13 +38,14 @@ pub struct Lowered {
 }
 
 impl Lowered {
-    /// A place that occurs gets a row. Where these are more than the build takes, places that are equal in every field get one.
+    /// A place that occurs gets a row. Where these are more than the build takes, places that are equal in every field get
+    /// one.
     pub fn of(hir: &HirFunction, env: &Environment) -> Result<Self, Outside> {
         let lowered = Lowering::new(hir, env, None).function(hir)?;
         if lowered.places.len() <= MOST_PLACES {
             return Ok(lowered);
         }
-        Lowering::new(hir, env, Some(HashMap::new())).function(hir)
+        Lowering::new(hir, env, Some(FxHashMap::default())).function(hir)
     }
 }
 
@@ -61,7 +63,7 @@ struct Lowering<'h, 'a> {
     env: &'h Environment<'a>,
     block_rows: Rows,
     identifier_rows: Rows,
-    place_rows: Option<HashMap<PlaceKey, u32>>,
+    place_rows: Option<FxHashMap<PlaceKey, u32>>,
     blocks: Vec<BlockId>,
     places: Vec<Place>,
     spans: Vec<Span>,
@@ -76,7 +78,7 @@ impl<'h, 'a> Lowering<'h, 'a> {
     fn new(
         hir: &HirFunction,
         env: &'h Environment<'a>,
-        place_rows: Option<HashMap<PlaceKey, u32>>,
+        place_rows: Option<FxHashMap<PlaceKey, u32>>,
     ) -> Self {
         let usual = 16 + 2 * hir.instructions.len();
         Self {
@@ -104,9 +106,13 @@ impl<'h, 'a> Lowering<'h, 'a> {
                 blocks.push([0; 11]);
                 continue;
             };
+            if block.id != *id {
+                return Err(Outside::OtherId);
+            }
             let first = rows.len() as u32;
             for id in block.instructions.iter() {
-                rows.push(self.instruction(&hir.instructions[id.index()]));
+                let instruction = hir.instructions.get(id.index()).ok_or(Outside::NoInstruction)?;
+                rows.push(self.instruction(instruction)?);
                 instructions.push(*id);
             }
             let ending = self.terminal(&block.terminal);
@@ -166,7 +172,7 @@ impl<'h, 'a> Lowering<'h, 'a> {
         }
         let (row, is_new) = self.identifier_rows.of(place.identifier.index());
         if is_new {
-            self.named.push(self.env.identifiers[place.identifier].name.is_some().into());
+            self.named.push(0);
         }
         self.places.push(place);
         self.place_identifiers.push(row);
@@ -187,21 +193,36 @@ impl<'h, 'a> Lowering<'h, 'a> {
         self.scopes.len() as u32 - 1
     }
 
-    fn instruction(&mut self, instruction: &Instruction) -> [u32; 7] {
+    fn instruction(&mut self, instruction: &Instruction) -> Result<[u32; 7], Outside> {
         let lvalue = self.place(instruction.lvalue);
         let (code, p, q) = match &instruction.value {
             InstructionValue::LoadLocal { place, .. } => (1, self.place(*place), 0),
             InstructionValue::StoreLocal { lvalue, value, .. } => {
-                (2, self.place(lvalue.place), self.place(*value))
+                let stored = self.place(lvalue.place);
+                self.name(stored)?;
+                (2, stored, self.place(*value))
             }
             _ => (0, 0, 0),
         };
         let [from, to] = self.span(instruction.span);
-        [instruction.id.index() as u32, lvalue, code, p, q, from, to]
+        Ok([instruction.id.index() as u32, lvalue, code, p, q, from, to])
     }
 
-    /// What a block ends in, in the order of the Rust's `Terminal`. Its `..` are its order, its span and what the Rust never reads: a
-    /// Branch's fallthrough, a MaybeThrow's handler, a Return's variant, effects.
+    /// Whether the identifier of a place has a name. The Rust asks this of identifiers that are stored to, and of no
+    /// others.
+    fn name(&mut self, place: u32) -> Result<(), Outside> {
+        let id = self.places[place as usize].identifier;
+        let identifier = self.env.identifiers.get(id).ok_or(Outside::NoIdentifier)?;
+        let row = self.place_identifiers[place as usize];
+        // where an id is too large, no row is its own
+        if let Some(named) = self.named.get_mut(row as usize) {
+            *named = identifier.name.is_some().into();
+        }
+        Ok(())
+    }
+
+    /// What a block ends in, in the order of the Rust's `Terminal`. Its `..` are its order, its span and what the Rust
+    /// never reads: a Branch's fallthrough, a MaybeThrow's handler, a Return's variant, effects.
     fn terminal(&mut self, terminal: &Terminal) -> Ending {
         match terminal {
             Terminal::Unreachable { .. } => Ending::Unreachable,
