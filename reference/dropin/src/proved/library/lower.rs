@@ -1,21 +1,23 @@
-//! HIR to words. The words hold numbers that the build compares (blocks, identifiers) and numbers that it only copies (places, spans,
-//! scopes, instructions): each is a row here, given when it is first met, and `Lowered` keeps what stands at it.
+//! HIR to words. The words hold numbers that the build compares (blocks, identifiers) and numbers that it only copies
+//! (places, spans, scopes, instructions): each is a row here, given when it is first met, and `Lowered` keeps what stands
+//! at it.
 //!
-//! Blocks are met from the entry on, so that one which nothing names gets no row. A span is a number because its ends may be above 65,535,
-//! may be reversed, or may be both 0, which words take for none.
+//! Blocks are met from the entry on, so that one which nothing names gets no row. A span is a number because its ends may
+//! be above 65,535, may be reversed, or may be both 0, which words take for none.
 
-use std::collections::HashMap;
+use std::mem::{Discriminant, discriminant};
 
 use oxc_ast::ast::LogicalOperator;
-use oxc_react_compiler::react_compiler_hir::environment::Environment;
-use oxc_react_compiler::react_compiler_hir::{
-    BlockId, EvaluationOrder, GotoVariant, HirFunction, Instruction, InstructionId,
-    InstructionValue, Place, ScopeId, Terminal,
-};
 use oxc_span::Span;
 use reactive_build::table::{Ending, LIMITS, NONE, Operator, Variant};
+use rustc_hash::FxHashMap;
 
-use crate::Outside;
+use super::Outside;
+use crate::react_compiler_hir::environment::Environment;
+use crate::react_compiler_hir::{
+    BlockId, Effect, GotoVariant, HirFunction, Instruction, InstructionId, InstructionValue, Place,
+    ScopeId, Terminal,
+};
 
 /// Ids up to here are numbered by a vector.
 const LARGEST_ID: usize = (1 << 20) - 1;
@@ -24,6 +26,7 @@ const LARGEST_ID: usize = (1 << 20) - 1;
 const MOST_PLACES: usize = LIMITS[3] as usize;
 
 /// The words of a function, and what their rows stand for.
+#[derive(Debug)]
 pub struct Lowered {
     pub words: Vec<u32>,
     pub blocks: Vec<BlockId>,
@@ -35,24 +38,32 @@ pub struct Lowered {
 }
 
 impl Lowered {
-    /// A place that occurs gets a row. Where these are more than the build takes, places that are equal in every field get one.
+    /// A place that occurs gets a row. Where these are more than the build takes, places that are equal in every field get
+    /// one.
     pub fn of(hir: &HirFunction, env: &Environment) -> Result<Self, Outside> {
         let lowered = Lowering::new(hir, env, None).function(hir)?;
         if lowered.places.len() <= MOST_PLACES {
             return Ok(lowered);
         }
-        Lowering::new(hir, env, Some(HashMap::new())).function(hir)
+        Lowering::new(hir, env, Some(FxHashMap::default())).function(hir)
     }
 }
 
 /// All that a place is.
-type PlaceKey = (usize, u8, bool, Option<(u32, u32)>);
+type PlaceKey = (usize, Discriminant<Effect>, bool, Option<(u32, u32)>);
+
+/// Without `..`: a field that a place has besides these must be told apart too.
+fn key(place: &Place) -> PlaceKey {
+    let Place { identifier, effect, reactive, span } = place;
+    let span = span.map(|span| (span.start, span.end));
+    (identifier.index(), discriminant(effect), *reactive, span)
+}
 
 struct Lowering<'h, 'a> {
     env: &'h Environment<'a>,
     block_rows: Rows,
     identifier_rows: Rows,
-    place_rows: Option<HashMap<PlaceKey, u32>>,
+    place_rows: Option<FxHashMap<PlaceKey, u32>>,
     blocks: Vec<BlockId>,
     places: Vec<Place>,
     spans: Vec<Span>,
@@ -67,7 +78,7 @@ impl<'h, 'a> Lowering<'h, 'a> {
     fn new(
         hir: &HirFunction,
         env: &'h Environment<'a>,
-        place_rows: Option<HashMap<PlaceKey, u32>>,
+        place_rows: Option<FxHashMap<PlaceKey, u32>>,
     ) -> Self {
         let usual = 16 + 2 * hir.instructions.len();
         Self {
@@ -95,23 +106,28 @@ impl<'h, 'a> Lowering<'h, 'a> {
                 blocks.push([0; 11]);
                 continue;
             };
+            if block.id != *id {
+                return Err(Outside::OtherId);
+            }
             let first = rows.len() as u32;
             for id in block.instructions.iter() {
-                rows.push(self.instruction(&hir.instructions[id.index()]));
+                let instruction = hir.instructions.get(id.index()).ok_or(Outside::NoInstruction)?;
+                rows.push(self.instruction(instruction)?);
                 instructions.push(*id);
             }
-            let (ending, id, span) = self.terminal(&block.terminal);
-            let ([a, b, c, d, e], [from, to]) = (ending.columns(), self.span(span));
+            let ending = self.terminal(&block.terminal);
+            let (code, [a, b, c, d, e]) = (ending.code(), ending.columns());
+            let [from, to] = self.span(block.terminal.span().copied());
             blocks.push([
                 first,
                 block.instructions.len() as u32,
-                ending.code(),
+                code,
                 a,
                 b,
                 c,
                 d,
                 e,
-                id.index() as u32,
+                block.terminal.evaluation_order().index() as u32,
                 from,
                 to,
             ]);
@@ -148,18 +164,15 @@ impl<'h, 'a> Lowering<'h, 'a> {
 
     fn place(&mut self, place: Place) -> u32 {
         let next = self.places.len() as u32;
-        let Place { identifier, effect, reactive, span } = place;
         if let Some(rows) = &mut self.place_rows {
-            let key =
-                (identifier.index(), effect, reactive, span.map(|span| (span.start, span.end)));
-            let row = *rows.entry(key).or_insert(next);
+            let row = *rows.entry(key(&place)).or_insert(next);
             if row != next {
                 return row;
             }
         }
-        let (row, is_new) = self.identifier_rows.of(identifier.index());
+        let (row, is_new) = self.identifier_rows.of(place.identifier.index());
         if is_new {
-            self.named.push(self.env.identifiers[identifier].name.is_some().into());
+            self.named.push(0);
         }
         self.places.push(place);
         self.place_identifiers.push(row);
@@ -180,47 +193,56 @@ impl<'h, 'a> Lowering<'h, 'a> {
         self.scopes.len() as u32 - 1
     }
 
-    fn instruction(&mut self, instruction: &Instruction) -> [u32; 7] {
+    fn instruction(&mut self, instruction: &Instruction) -> Result<[u32; 7], Outside> {
         let lvalue = self.place(instruction.lvalue);
         let (code, p, q) = match &instruction.value {
             InstructionValue::LoadLocal { place, .. } => (1, self.place(*place), 0),
             InstructionValue::StoreLocal { lvalue, value, .. } => {
-                (2, self.place(lvalue.place), self.place(*value))
+                let stored = self.place(lvalue.place);
+                self.name(stored)?;
+                (2, stored, self.place(*value))
             }
             _ => (0, 0, 0),
         };
         let [from, to] = self.span(instruction.span);
-        [instruction.id.index() as u32, lvalue, code, p, q, from, to]
+        Ok([instruction.id.index() as u32, lvalue, code, p, q, from, to])
     }
 
-    /// What a block ends in, in the order of the Rust's `Terminal`.
-    fn terminal(&mut self, terminal: &Terminal) -> (Ending, EvaluationOrder, Option<Span>) {
+    /// Whether the identifier of a place has a name. The Rust asks this of identifiers that are stored to, and of no
+    /// others.
+    fn name(&mut self, place: u32) -> Result<(), Outside> {
+        let id = self.places[place as usize].identifier;
+        let identifier = self.env.identifiers.get(id).ok_or(Outside::NoIdentifier)?;
+        let row = self.place_identifiers[place as usize];
+        // where an id is too large, no row is its own
+        if let Some(named) = self.named.get_mut(row as usize) {
+            *named = identifier.name.is_some().into();
+        }
+        Ok(())
+    }
+
+    /// What a block ends in, in the order of the Rust's `Terminal`. Its `..` are its order, its span and what the Rust
+    /// never reads: a Branch's fallthrough, a MaybeThrow's handler, a Return's variant, effects.
+    fn terminal(&mut self, terminal: &Terminal) -> Ending {
         match terminal {
-            Terminal::Unreachable { id, span } => (Ending::Unreachable, *id, *span),
-            Terminal::Throw { value, id, span } => {
-                (Ending::Throw { value: self.place(*value) }, *id, *span)
+            Terminal::Unreachable { .. } => Ending::Unreachable,
+            Terminal::Throw { value, .. } => Ending::Throw { value: self.place(*value) },
+            Terminal::Return { value, .. } => Ending::Return { value: self.place(*value) },
+            Terminal::Goto { block, variant, .. } => {
+                Ending::Goto { block: self.block(*block), variant: goto_variant(*variant) }
             }
-            Terminal::Return { value, id, span } => {
-                (Ending::Return { value: self.place(*value) }, *id, *span)
-            }
-            Terminal::Goto { block, variant, id, span } => (
-                Ending::Goto { block: self.block(*block), variant: goto_variant(*variant) },
-                *id,
-                *span,
-            ),
-            Terminal::If { test, consequent, alternate, fallthrough, id, span } => {
+            Terminal::If { test, consequent, alternate, fallthrough, .. } => {
                 let test = self.place(*test);
                 let [consequent, alternate, fallthrough] =
                     self.blocks([*consequent, *alternate, *fallthrough]);
-                (Ending::If { test, consequent, alternate, fallthrough }, *id, *span)
+                Ending::If { test, consequent, alternate, fallthrough }
             }
-            // Its fallthrough is never read.
-            Terminal::Branch { test, consequent, alternate, fallthrough: _, id, span } => {
+            Terminal::Branch { test, consequent, alternate, .. } => {
                 let test = self.place(*test);
                 let [consequent, alternate] = self.blocks([*consequent, *alternate]);
-                (Ending::Branch { test, consequent, alternate }, *id, *span)
+                Ending::Branch { test, consequent, alternate }
             }
-            Terminal::Switch { test, cases, fallthrough, id, span } => {
+            Terminal::Switch { test, cases, fallthrough, .. } => {
                 let test = self.place(*test);
                 let first_case = self.cases.len() as u32;
                 for case in cases.iter() {
@@ -229,78 +251,69 @@ impl<'h, 'a> Lowering<'h, 'a> {
                     self.cases.push(row);
                 }
                 let fallthrough = self.block(*fallthrough);
-                (
-                    Ending::Switch { test, first_case, cases: cases.len() as u32, fallthrough },
-                    *id,
-                    *span,
-                )
+                Ending::Switch { test, first_case, cases: cases.len() as u32, fallthrough }
             }
-            Terminal::DoWhile { loop_block, test, fallthrough, id, span } => {
+            Terminal::DoWhile { loop_block, test, fallthrough, .. } => {
                 let [loop_block, test, fallthrough] =
                     self.blocks([*loop_block, *test, *fallthrough]);
-                (Ending::DoWhile { loop_block, test, fallthrough }, *id, *span)
+                Ending::DoWhile { loop_block, test, fallthrough }
             }
-            Terminal::While { test, loop_block, fallthrough, id, span } => {
+            Terminal::While { test, loop_block, fallthrough, .. } => {
                 let [test, loop_block, fallthrough] =
                     self.blocks([*test, *loop_block, *fallthrough]);
-                (Ending::While { test, loop_block, fallthrough }, *id, *span)
+                Ending::While { test, loop_block, fallthrough }
             }
-            Terminal::For { init, test, update, loop_block, fallthrough, id, span } => {
+            Terminal::For { init, test, update, loop_block, fallthrough, .. } => {
                 let [init, test] = self.blocks([*init, *test]);
                 let update = update.map(|update| self.block(update));
                 let [loop_block, fallthrough] = self.blocks([*loop_block, *fallthrough]);
-                (Ending::For { init, test, update, loop_block, fallthrough }, *id, *span)
+                Ending::For { init, test, update, loop_block, fallthrough }
             }
-            Terminal::ForOf { init, test, loop_block, fallthrough, id, span } => {
+            Terminal::ForOf { init, test, loop_block, fallthrough, .. } => {
                 let [init, test, loop_block, fallthrough] =
                     self.blocks([*init, *test, *loop_block, *fallthrough]);
-                (Ending::ForOf { init, test, loop_block, fallthrough }, *id, *span)
+                Ending::ForOf { init, test, loop_block, fallthrough }
             }
-            Terminal::ForIn { init, loop_block, fallthrough, id, span } => {
+            Terminal::ForIn { init, loop_block, fallthrough, .. } => {
                 let [init, loop_block, fallthrough] =
                     self.blocks([*init, *loop_block, *fallthrough]);
-                (Ending::ForIn { init, loop_block, fallthrough }, *id, *span)
+                Ending::ForIn { init, loop_block, fallthrough }
             }
-            Terminal::Logical { operator, test, fallthrough, id, span } => {
+            Terminal::Logical { operator, test, fallthrough, .. } => {
                 let [test, fallthrough] = self.blocks([*test, *fallthrough]);
-                (
-                    Ending::Logical { operator: logical_operator(*operator), test, fallthrough },
-                    *id,
-                    *span,
-                )
+                Ending::Logical { operator: logical_operator(*operator), test, fallthrough }
             }
-            Terminal::Ternary { test, fallthrough, id, span } => {
+            Terminal::Ternary { test, fallthrough, .. } => {
                 let [test, fallthrough] = self.blocks([*test, *fallthrough]);
-                (Ending::Ternary { test, fallthrough }, *id, *span)
+                Ending::Ternary { test, fallthrough }
             }
-            Terminal::Optional { optional, test, fallthrough, id, span } => {
+            Terminal::Optional { optional, test, fallthrough, .. } => {
                 let [test, fallthrough] = self.blocks([*test, *fallthrough]);
-                (Ending::Optional { optional: *optional, test, fallthrough }, *id, *span)
+                Ending::Optional { optional: *optional, test, fallthrough }
             }
-            Terminal::Label { block, fallthrough, id, span } => {
+            Terminal::Label { block, fallthrough, .. } => {
                 let [block, fallthrough] = self.blocks([*block, *fallthrough]);
-                (Ending::Label { block, fallthrough }, *id, *span)
+                Ending::Label { block, fallthrough }
             }
-            Terminal::Sequence { block, fallthrough, id, span } => {
+            Terminal::Sequence { block, fallthrough, .. } => {
                 let [block, fallthrough] = self.blocks([*block, *fallthrough]);
-                (Ending::Sequence { block, fallthrough }, *id, *span)
+                Ending::Sequence { block, fallthrough }
             }
-            // Its handler is never read.
-            Terminal::MaybeThrow { continuation, handler: _, id, span } => {
-                (Ending::MaybeThrow { continuation: self.block(*continuation) }, *id, *span)
+            Terminal::MaybeThrow { continuation, .. } => {
+                Ending::MaybeThrow { continuation: self.block(*continuation) }
             }
-            Terminal::Try { block, handler_binding, handler, fallthrough, id, span } => {
+            Terminal::Try { block, handler_binding, handler, fallthrough, .. } => {
                 let [block, handler, fallthrough] = self.blocks([*block, *handler, *fallthrough]);
                 let binding = self.place_or_none(*handler_binding);
-                (Ending::Try { block, handler, fallthrough, binding }, *id, *span)
+                Ending::Try { block, handler, fallthrough, binding }
             }
-            Terminal::Scope { fallthrough, block, scope, id, span } => {
+            Terminal::Scope { fallthrough, block, scope, .. } => {
                 let [block, fallthrough] = self.blocks([*block, *fallthrough]);
-                (Ending::Scope { block, fallthrough, scope: self.scope(*scope) }, *id, *span)
+                Ending::Scope { block, fallthrough, scope: self.scope(*scope) }
             }
-            Terminal::PrunedScope { fallthrough, block, scope, id, span } => {
+            Terminal::PrunedScope { fallthrough, block, scope, .. } => {
                 let [block, fallthrough] = self.blocks([*block, *fallthrough]);
-                (Ending::PrunedScope { block, fallthrough, scope: self.scope(*scope) }, *id, *span)
+                Ending::PrunedScope { block, fallthrough, scope: self.scope(*scope) }
             }
         }
     }

@@ -1,19 +1,19 @@
-//! Rows to the tree: one pass, with a stack for each sort of part. The rows are those of an accepted build, so that every part that a row
-//! asks for is there.
+//! Rows to the tree: one pass, with a stack for each sort of part. The rows are those of an accepted build, so that every
+//! part that a row asks for is there.
 
 use oxc_allocator::{Box as ArenaBox, CloneIn, Vec as ArenaVec};
 use oxc_ast::ast::LogicalOperator;
-use oxc_react_compiler::react_compiler_hir::environment::Environment;
-use oxc_react_compiler::react_compiler_hir::{
+use oxc_span::Span;
+use reactive_build::tree::{Kind, Node, Operator, Row};
+
+use super::lower::Lowered;
+use crate::react_compiler_hir::environment::Environment;
+use crate::react_compiler_hir::{
     BlockId, EvaluationOrder, HirFunction, InstructionValue, Place, PrimitiveValue,
     PrunedReactiveScopeBlock, ReactiveBlock, ReactiveInstruction, ReactiveLabel,
     ReactiveScopeBlock, ReactiveStatement, ReactiveSwitchCase, ReactiveTerminal,
     ReactiveTerminalStatement, ReactiveTerminalTargetKind, ReactiveValue,
 };
-use oxc_span::Span;
-use reactive_build::tree::{Kind, Node, Operator, Row};
-
-use crate::lower::Lowered;
 
 /// The body of the tree.
 ///
@@ -262,7 +262,7 @@ impl<'a> Raising<'_, 'a> {
 }
 
 fn order(id: u32) -> EvaluationOrder {
-    EvaluationOrder::new(id)
+    EvaluationOrder::from_usize(id as usize)
 }
 
 fn target_kind(kind: Kind) -> ReactiveTerminalTargetKind {

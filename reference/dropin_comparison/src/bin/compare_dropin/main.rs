@@ -1,5 +1,5 @@
-//! `compare_dropin [TABLES [SEED]]`: the drop-in beside the Rust, by the Debug text of the whole function or of the diagnostic, on generated
-//! functions; and the drop-in by the language's rule beside the first.
+//! `compare_dropin [TABLES [SEED]]`: on generated functions, the drop-in beside the Rust, by the Debug text of the whole
+//! function or of the diagnostic; the library alone beside it; and the library by the language's rule beside the first.
 
 mod scrambled;
 
@@ -13,9 +13,13 @@ use comparison::model::check::check;
 use comparison::model::{MAX_DEPTH, MAX_VISITS};
 use comparison::reference;
 use comparison::rng::Rng;
-use dropin::lower::Lowered;
-use dropin::{Failed, Outside, build_reactive_function, build_reactive_function_language};
+use dropin::proved;
+use dropin::proved::library::lower::Lowered;
+use dropin::proved::library::{
+    Failed, Outside, build_reactive_function, build_reactive_function_language,
+};
 use oxc_allocator::Allocator;
+use oxc_diagnostics::OxcDiagnostic;
 use oxc_react_compiler::react_compiler_hir::environment::Environment;
 use oxc_react_compiler::react_compiler_hir::{HirFunction, ReactiveFunction};
 use oxc_react_compiler::react_compiler_reactive_scopes::build_reactive_function::build_reactive_function as rust;
@@ -44,7 +48,15 @@ fn compare(tables: u64, seed: u64) -> Verdict {
         let allocator = Allocator;
         let lowering = Scrambled::lowering(table, &allocator, Rng::of_table(seed, number));
         let (env, hir) = (lowering.environment(), Scrambled::function(&lowering));
-        let theirs = by_rust(&hir, &env);
+        let theirs = ended(rust, &hir, &env);
+        let instead = ended(proved::build_reactive_function, &hir, &env);
+        if instead != theirs && count_and_tell(&mut differences) {
+            println!(
+                "function {number} differs by the Rust's signature:\n  Rust {}\n  ours {}",
+                beginning(&theirs),
+                beginning(&instead)
+            );
+        }
         let ours = build_reactive_function(&hir, &env);
         let (sort, given) = told(&ours);
         *met.entry(sort).or_default() += 1;
@@ -89,10 +101,13 @@ fn summary(met: &BTreeMap<String, u64>, mut verdict: Verdict) -> Verdict {
     verdict
 }
 
+type Build<'a> =
+    fn(&HirFunction<'a>, &Environment<'a>) -> Result<ReactiveFunction<'a>, OxcDiagnostic>;
+
 /// The Debug text, or in what way the Rust ends that has no counterpart.
-fn by_rust<'a>(hir: &HirFunction<'a>, env: &Environment<'a>) -> String {
+fn ended<'a>(build: Build<'a>, hir: &HirFunction<'a>, env: &Environment<'a>) -> String {
     walk_observer::start(Bounds { depth: MAX_DEPTH as usize, visits: MAX_VISITS });
-    let ended = panic::catch_unwind(AssertUnwindSafe(|| rust(hir, env)));
+    let ended = panic::catch_unwind(AssertUnwindSafe(|| build(hir, env)));
     walk_observer::finish();
     let code = match ended {
         Ok(Ok(function)) => return format!("{function:?}"),
@@ -131,7 +146,17 @@ fn told(answer: &Result<ReactiveFunction, Failed>) -> (String, String) {
 
 /// Too many places, each being one of its own here: the one limit that a table which passes the check can be over.
 fn is_same(given: &str, theirs: &str) -> bool {
-    given == theirs || given == outside(code::COUNT_LIMIT)
+    given == theirs || given == outside(code::COUNT_LIMIT) || given == without_label(theirs)
+}
+
+/// The label of code 24's message, which the library alone does not give.
+fn without_label(text: &str) -> String {
+    match text.split_once("labels: [LabeledSpan") {
+        Some((before, _)) if before.contains("Unexpected empty block with `goto`") => {
+            format!("{before}labels: [] }}")
+        }
+        _ => text.into(),
+    }
 }
 
 /// By the language's rule: the same text, but for breaks that are Labeled in place of Unlabeled, as many as its rows have; or 29, the one

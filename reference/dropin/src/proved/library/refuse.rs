@@ -1,13 +1,14 @@
-//! A refusal as the Rust's diagnostic, from its code, its place and the function.
+//! A refusal as the Rust's diagnostic, from its code, its place and the function. The Rust labels the message of code 24
+//! with the span of the terminal that asked for the value, which the place does not tell: this one has no label.
 
 use std::mem::discriminant;
 
-use oxc_react_compiler::diagnostics::ErrorCategory;
-use oxc_react_compiler::react_compiler_hir::{BlockId, HirFunction, Terminal};
 use reactive_build::{Refusal, code};
 
-use crate::lower::Lowered;
-use crate::{Failed, Outside};
+use super::lower::Lowered;
+use super::{Failed, Outside};
+use crate::diagnostics::ErrorCategory;
+use crate::react_compiler_hir::{BlockId, HirFunction, Terminal};
 
 /// In the order of the codes.
 pub fn failed(refusal: Refusal, lowered: &Lowered, hir: &HirFunction) -> Failed {
