@@ -8,6 +8,7 @@ pub mod links;
 pub mod names;
 pub mod outline;
 pub mod page;
+pub mod program;
 pub mod proved;
 pub mod refusal;
 pub mod source;

@@ -1,10 +1,11 @@
 //! view TABLE [SOURCE] [ANSWERS] >page.html: one page on which a person sees blocks, tree, source and run of a table.
 
-use std::io::{self, Write};
 use std::path::Path;
 use std::process::ExitCode;
+use viewer::escape::message;
 use viewer::input;
 use viewer::page::{Input, page};
+use viewer::program::{Words, complain, show};
 use viewer::refusal::told;
 
 const USAGE: &str = "usage: view [--list] TABLE [SOURCE] [ANSWERS] >page.html\n\
@@ -12,48 +13,34 @@ const USAGE: &str = "usage: view [--list] TABLE [SOURCE] [ANSWERS] >page.html\n\
     --list: the blocks as a list, also where Graphviz could draw them";
 
 fn main() -> ExitCode {
-    let mut arguments: Vec<String> = std::env::args().skip(1).collect();
-    let list = arguments.first().is_some_and(|first| first == "--list");
-    if list {
-        arguments.remove(0);
-    }
-    let named = |place: usize| arguments.get(place).filter(|name| *name != "-").map(String::as_str);
-    if !(1..=3).contains(&arguments.len()) || arguments[0].starts_with('-') {
+    let Some(words) = Words::of_caller("--list") else {
         eprintln!("{USAGE}");
         return ExitCode::from(2);
-    }
-    match shown(&arguments[0], named(1), named(2), !list) {
-        Ok(status) => status,
-        Err(message) => {
-            eprintln!("view: {message}");
-            ExitCode::from(2)
-        }
-    }
+    };
+    shown(words.first(), words.file(1), words.file(2), !words.option).unwrap_or_else(|why| complain("view", &why))
 }
 
 /// Writes the page. A refused table has a page too, and status 1.
-fn shown(table: &str, source_name: Option<&str>, answers: Option<&str>, drawing: bool) -> Result<ExitCode, String> {
+fn shown(table: &Path, source_name: Option<&Path>, answers: Option<&Path>, drawing: bool) -> Result<ExitCode, String> {
     let file = input::bytes(table)?;
     let source = source_name.map(input::source).transpose()?;
     let answers = answers.map(read_answers).transpose()?;
-    let input =
-        Input { name: base(table), file: &file, source: source_name.map(base).zip(source.as_ref()), answers: answers.as_deref(), drawing };
+    let (name, source_name) = (base(table), source_name.map(base));
+    let source = source_name.as_deref().zip(source.as_ref());
+    let input = Input { name: &name, file: &file, source, answers: answers.as_deref(), drawing };
     let (page, refused) = page(&input);
-    io::stdout().write_all(page.as_bytes()).map_err(|error| format!("standard output: {error}"))?;
-    Ok(match refused {
-        None => ExitCode::SUCCESS,
-        Some(refused) => {
-            eprintln!("view: {}", told(&refused, &file, None));
-            ExitCode::from(1)
-        }
-    })
+    if let Some(refused) = &refused {
+        eprintln!("view: {}", message(&told(refused, &file, None)));
+    }
+    Ok(show("view", &page, refused.is_some().into()))
 }
 
-fn read_answers(path: &str) -> Result<Vec<u32>, String> {
+fn read_answers(path: &Path) -> Result<Vec<u32>, String> {
     let file = input::bytes(path)?;
-    input::answers(&file).map_err(|refused| format!("{path}: {}", told(&refused, &file, None)))
+    input::answers(&file).map_err(|refused| format!("{}: {}", path.display(), told(&refused, &file, None)))
 }
 
-fn base(path: &str) -> &str {
-    Path::new(path).file_name().and_then(|name| name.to_str()).unwrap_or(path)
+/// The file's own name. What of it is no UTF-8 is shown as U+FFFD.
+fn base(path: &Path) -> String {
+    path.file_name().unwrap_or(path.as_os_str()).to_string_lossy().into_owned()
 }
