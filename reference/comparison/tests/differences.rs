@@ -186,8 +186,8 @@ fn told(rows: &[Row]) -> String {
     of(rows, &Parts::of(rows), rows.len() - 1)
 }
 
-/// `try { do { if (a()) break; return 1; } while (b()); } catch {} return 2;` without the call's MaybeThrow: the do-while is gone, and what followed it
-/// stands where its break was. On yes the blocks perform 0, 1, 2 and 4, and the tree 0, 1, 2 and 3.
+/// `try { do { if (a()) break; return 1; } while (b()); } catch {} return 2;` without the call's MaybeThrow: the do-while is gone, and what
+/// followed it stands where its break was. On yes the blocks perform 0, 1, 2 and 4, and the tree 0, 1, 2 and 3.
 #[test]
 fn goto_try_inside_a_statement() {
     let words = each_with_its_row(&[(19, &[1, 5, 4, 65_535]), (5, &[0, 2, 3, 3]), (4, &[4, 2]), (3, &[]), (3, &[]), (4, &[4, 0])], &[]);
@@ -212,7 +212,8 @@ fn goto_break_inside_a_statement() {
     assert_eq!(told(&built(&words).unwrap()), "0 try 4 [1 if 3 [2 break 4 labeled] 3 return] [5 break 4 implicit] 4 return");
 }
 
-/// `switch (x) { case 1: do { if (a) break; return 1; } while (b); default: c(); } return 2;`: the break goes to block 2, which is no label.
+/// `switch (x) { case 1: do { if (a) break; return 1; } while (b); default: c(); } return 2;`: the break goes to block 2, which is no
+/// statement's label.
 #[test]
 fn break_to_a_case() {
     let words = each_with_its_row(&[(7, &[0, 0, 2, 3]), (5, &[0, 4, 5, 5]), (4, &[3, 0]), (3, &[]), (4, &[2, 0]), (3, &[])], &[1, 2]);

@@ -1,4 +1,4 @@
-//! Searches behind the word "smallest" in docs/DIFFERENCES.md: some minutes, so by hand (`cargo test --release --test searches -- --ignored`).
+//! Searches behind the word "smallest" in docs/DIFFERENCES.md, by hand: `cargo test --release --test searches -- --ignored`.
 
 use comparison::generate::small_wide::{Family, each};
 use comparison::model::table::Table;
