@@ -55,7 +55,8 @@ static size_t taken(void (*call)(void)) {
     return SIZE - low;
 }
 
-/* tables: six words of head, then rows: of blocks (11 words each), of one instruction that every block has, if any has, and of the cases of Switches */
+/* tables: six words of head, then rows: of blocks (11 words each), of the one instruction that every block has, if any has, and of the cases
+ * of Switches */
 static uint32_t rows, instructions, cases, case_block[1024];
 static uint32_t add(uint32_t kind, uint32_t p, uint32_t q, uint32_t r, uint32_t s, uint32_t t) {
     uint32_t *here = words + 6 + 11 * rows;
@@ -78,8 +79,10 @@ static uint32_t branch(uint32_t yes, uint32_t no) { return add(6, 0, yes, no, 0,
 
 /* Statements of two sorts in one another, the most levels that are built. The sorts: every arm that nests, by each of its nested blocks. */
 enum { SORTS = 16, DEEP = 127, NONE = 65535 };
-static const char *const sort_name[SORTS] = {"Label", "If, consequent", "If, alternate", "Branch, alternate", "Branch, consequent", "While", "DoWhile", "For",
-                                             "For, update", "ForOf", "ForIn", "Try, block", "Try, handler", "Scope", "PrunedScope", "Switch, 6 cases"};
+static const char *const sort_name[SORTS] = {"Label",         "If, consequent", "If, alternate", "Branch, alternate",
+                                             "Branch, consequent", "While",    "DoWhile",       "For",
+                                             "For, update",   "ForOf",          "ForIn",         "Try, block",
+                                             "Try, handler",  "Scope",          "PrunedScope",   "Switch, 6 cases"};
 static uint32_t nest(uint32_t sort, uint32_t inner) {
     uint32_t out = leaf();
     switch (sort) {
@@ -150,9 +153,10 @@ static void values(int statement, const int *ways, int above) {
     end_table(entry);
 }
 
-/* The shapes, a number each: runs of 1,023 fallthroughs, one Switch with 1,022 cases, Gotos that are no walk but fill the table; then the nests,
- * in pairs of sorts; then the values: each statement with each way, and a Sequence with each pair of ways. */
-enum { FIRST = 4, NESTS = SORTS * SORTS, ONE_WAY = STATEMENTS * WAYS * 2, TWO_WAYS = WAYS * WAYS * 2, SHAPES = FIRST + NESTS + ONE_WAY + TWO_WAYS };
+/* The shapes, a number each: runs of 1,023 fallthroughs, one Switch with 1,022 cases, Gotos that are no walk but fill the table; then the
+ * nests, in pairs of sorts; then the values: each statement with each way, and a Sequence with each pair of ways. */
+enum { FIRST = 4, NESTS = SORTS * SORTS, ONE_WAY = STATEMENTS * WAYS * 2, TWO_WAYS = WAYS * WAYS * 2 };
+enum { SHAPES = FIRST + NESTS + ONE_WAY + TWO_WAYS };
 /* the first shapes fill the table: they are all that a function needs which does not walk */
 enum { WHOLE = FIRST };
 enum group { FALLTHROUGHS, CASES, NOT_WALKED, NESTED, VALUES, GROUPS };
@@ -212,10 +216,10 @@ static size_t most(void (*call)(void), void (*make)(int), int number) {
 
 static const char *shape_name(int number) {
     static char name[99] = "";
-    number -= FIRST;
-    if (number >= 0 && number < NESTS) sprintf(name, ", %s and %s", sort_name[number / SORTS], sort_name[number % SORTS]);
-    else if (number >= NESTS + ONE_WAY) sprintf(name, ", ways %d and %d", (number - NESTS - ONE_WAY) / 2 / WAYS, (number - NESTS - ONE_WAY) / 2 % WAYS);
-    else if (number >= NESTS) sprintf(name, ", statement %d, way %d", (number - NESTS) / 2 / WAYS, (number - NESTS) / 2 % WAYS);
+    int nest = number - FIRST, one = nest - NESTS, two = one - ONE_WAY;
+    if (two >= 0) sprintf(name, ", ways %d and %d", two / 2 / WAYS, two / 2 % WAYS);
+    else if (one >= 0) sprintf(name, ", statement %d, way %d", one / 2 / WAYS, one / 2 % WAYS);
+    else if (nest >= 0) sprintf(name, ", %s and %s", sort_name[nest / SORTS], sort_name[nest % SORTS]);
     else name[0] = 0;
     return name;
 }
@@ -238,9 +242,13 @@ static void by_shape(size_t own) {
             int sort = (each - FIRST) % SORTS;
             if (group == NESTED && (each - FIRST) / SORTS == sort) most_of[sort] = here, code_of[sort] = code;
         }
-        for (int group = 0; group < GROUPS; group++)
-            printf("%s: %s%s: %zu bytes, code %u\n", entries[entry].name, group_name[group], shape_name(which[group]), most[group], refused[group]);
-        for (int sort = 0; sort < SORTS; sort++) printf("%s: %s, %d deep: %zu bytes, code %u\n", entries[entry].name, sort_name[sort], DEEP, most_of[sort], code_of[sort]);
+        const char *name = entries[entry].name;
+        for (int group = 0; group < GROUPS; group++) {
+            printf("%s: %s%s: ", name, group_name[group], shape_name(which[group]));
+            printf("%zu bytes, code %u\n", most[group], refused[group]);
+        }
+        for (int sort = 0; sort < SORTS; sort++)
+            printf("%s: %s, %d deep: %zu bytes, code %u\n", name, sort_name[sort], DEEP, most_of[sort], code_of[sort]);
     }
 }
 
