@@ -55,8 +55,7 @@ static size_t taken(void (*call)(void)) {
     return SIZE - low;
 }
 
-/* tables: six words of head, then rows: of blocks (11 words each), of the one instruction that every block has, if any has, and of the cases
- * of Switches */
+/* tables: six words of head, then rows: of blocks (11 words each), of the one instruction that every block has, if any has, and of cases */
 static uint32_t rows, instructions, cases, case_block[1024];
 static uint32_t add(uint32_t kind, uint32_t p, uint32_t q, uint32_t r, uint32_t s, uint32_t t) {
     uint32_t *here = words + 6 + 11 * rows;
