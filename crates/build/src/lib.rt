@@ -68,29 +68,35 @@ pub fn build(
     }
 }
 
-/// Builds the tree of a table of blocks as the Rust does: the rows of the tree and the lines of its index, each then zeros, or an error and zeros
-/// alone. It takes any words and buffers of any lengths. On a plain table the tree runs as the blocks do.
+/// Builds the tree of a table of blocks as the Rust does: the rows of the tree and the lines of its index, each then zeros, or an error
+/// and zeros alone. It takes any words and buffers of any lengths. On a plain table the tree runs as the blocks do.
 pub fn build_reactive_function(
     words: &[u32],
     tree: &mut [u32],
     index: &mut [u32],
 ) -> Result<Walked, BuildError>
     ensures definition { outcome result tree.new index.new ≡ built rust words.now (length tree.old) (length index.old) }
-    ensures runs { OnOk result (Plain without_switch (table_of words.now) → RunLaw words.now (outcome result tree.new index.new)) }
+    ensures runs {
+        OnOk result (Plain without_switch (table_of words.now) → RunLaw words.now (outcome result tree.new index.new))
+    }
 {
     build(Rule::Rust, words, tree, index)
 }
 
-/// The same by the language's rule: a break without a label leaves the nearest loop or switch, and a jump's label is around it, or the code is 29.
-/// Its tree runs as the blocks do on plain tables with Switch too.
+/// The same by the language's rule: a break without a label leaves the nearest loop or switch, and a jump's label is around it, or the
+/// code is 29. Its tree runs as the blocks do on plain tables with Switch too.
 pub fn build_language(
     words: &[u32],
     tree: &mut [u32],
     index: &mut [u32],
 ) -> Result<Walked, BuildError>
     ensures definition { outcome result tree.new index.new ≡ built language words.now (length tree.old) (length index.old) }
-    ensures runs { OnOk result (Plain without_switch (table_of words.now) → RunLaw words.now (outcome result tree.new index.new)) }
-    ensures runs_with_switches { OnOk result (Plain with_switch (table_of words.now) → SwitchLaw words.now (outcome result tree.new index.new)) }
+    ensures runs {
+        OnOk result (Plain without_switch (table_of words.now) → RunLaw words.now (outcome result tree.new index.new))
+    }
+    ensures runs_with_switches {
+        OnOk result (Plain with_switch (table_of words.now) → SwitchLaw words.now (outcome result tree.new index.new))
+    }
 {
     build(Rule::Language, words, tree, index)
 }

@@ -1,5 +1,5 @@
--- Theorems beside the claims (specs/Claims): statements only, each by the lemma that proves it. First that each entry meets its contract, asks
--- nothing and tells its caller what the definition gives; then what the laws rest on.
+-- Theorems beside the claims (specs/Claims): statements only, each by the lemma that proves it. First that each entry meets its contract,
+-- asks nothing and tells its caller what the definition gives; then what the laws rest on.
 use Prim.Native.Nat.{ℕ, suc, ◌+◌, ◌*◌, ◌≤◌, ◌<◌}
 use mathlib.Core.Path.{◌≡◌, refl, sym, subst}
 use mathlib.Core.List.{List, [], map}

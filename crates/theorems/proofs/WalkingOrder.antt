@@ -1,5 +1,5 @@
--- M-111: theorems beside the claims `any_renumbering_builds_the_same` and `the_walking_order_can_be_undone`, statements only, each by the lemma that
--- proves it.
+-- The walking order: theorems beside the claims `any_renumbering_builds_the_same` and `the_walking_order_can_be_undone`, statements only,
+-- each by the lemma that proves it.
 use Prim.Native.Nat.{ℕ}
 use mathlib.Core.Path.{◌≡◌}
 use mathlib.Core.List.{List}

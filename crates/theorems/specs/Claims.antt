@@ -117,7 +117,8 @@ APreviewIsTheBuilds =
 abbrev pub AnyRenumberingBuildsTheSame : Type 0
 AnyRenumberingBuildsTheSame =
     (words : List ℕ) → checked words ≡ accepted → (new old : ℕ → ℕ) → Renaming (block_count words) new old
-    → (rule : Rule) (lent lent_index : ℕ) → built rule (renamed new old words) lent lent_index ≡ renamed_outcome new (built rule words lent lent_index)
+    → (rule : Rule) (lent lent_index : ℕ)
+    → built rule (renamed new old words) lent lent_index ≡ renamed_outcome new (built rule words lent lent_index)
 
 -- A table in walking order is a renumbering, from which the first table can be restored.
 abbrev pub TheWalkingOrderCanBeUndone : Type 0
