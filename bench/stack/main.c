@@ -11,7 +11,7 @@
 
 #include "../../ffi/reactive.h"
 
-enum { SIZE = 4 << 20, FILL = 0xA5, MOST_WORDS = 40000, MOST_BYTES = 1 << 20 };
+enum { SIZE = 1 << 20, FILL = 0xA5, MOST_WORDS = 40000, MOST_BYTES = 1 << 20 };
 
 static unsigned char stack[SIZE];
 static ucontext_t back, there;
@@ -55,20 +55,20 @@ static size_t taken(void (*call)(void)) {
     return SIZE - low;
 }
 
-/* tables: six words of head, then rows, here those of blocks (11 words each) and of the cases of Switches */
-static uint32_t rows, cases, case_block[1024];
+/* tables: six words of head, then rows: of blocks (11 words each), of the one instruction that every block has, if any has, and of cases */
+static uint32_t rows, instructions, cases, case_block[1024];
 static uint32_t add(uint32_t kind, uint32_t p, uint32_t q, uint32_t r, uint32_t s, uint32_t t) {
     uint32_t *here = words + 6 + 11 * rows;
-    here[2] = kind, here[3] = p, here[4] = q, here[5] = r, here[6] = s, here[7] = t;
+    here[1] = instructions, here[2] = kind, here[3] = p, here[4] = q, here[5] = r, here[6] = s, here[7] = t;
     return rows++;
 }
-static void begin_table(void) {
+static void begin_table(uint32_t each_has) {
     memset(words, 0, sizeof words);
-    rows = 0, cases = 0;
+    rows = 0, instructions = each_has, cases = 0;
 }
 static void end_table(uint32_t entry) {
-    words[0] = entry, words[1] = rows, words[3] = cases, words[4] = 1, words[5] = 1;
-    word_count = 6 + 11 * rows;
+    words[0] = entry, words[1] = rows, words[2] = instructions, words[3] = cases, words[4] = 1, words[5] = 1;
+    word_count = 6 + 11 * rows + 7 * instructions;
     for (uint32_t row = 0; row < cases; row++) word_count += 2, words[word_count - 1] = case_block[row];
     word_count += 2, words[word_count - 1] = 1;
 }
@@ -76,11 +76,12 @@ static uint32_t leaf(void) { return add(3, 0, 0, 0, 0, 0); }
 static uint32_t goto_row(uint32_t to) { return add(4, to, 0, 0, 0, 0); }
 static uint32_t branch(uint32_t yes, uint32_t no) { return add(6, 0, yes, no, 0, 0); }
 
-/* Statements of two sorts in one another, `deep` of them: 127 are the deepest that is built. The sorts: every arm that nests, by each of its
- * nested blocks. */
-enum { SORTS = 16, NONE = 65535 };
-static const char *const sort_name[SORTS] = {"Label",      "If, consequent", "If, alternate", "Branch, alternate", "Branch, consequent", "While",        "DoWhile",     "For",
-                                             "For, update", "ForOf",          "ForIn",         "Try, block",        "Try, handler",       "Scope",        "PrunedScope", "Switch, 6 cases"};
+/* Statements of two sorts in one another, the most levels that are built. The sorts: every arm that nests, by each of its nested blocks. */
+enum { SORTS = 16, DEEP = 127, NONE = 65535 };
+static const char *const sort_name[SORTS] = {"Label",         "If, consequent", "If, alternate", "Branch, alternate",
+                                             "Branch, consequent", "While",    "DoWhile",       "For",
+                                             "For, update",   "ForOf",          "ForIn",         "Try, block",
+                                             "Try, handler",  "Scope",          "PrunedScope",   "Switch, 6 cases"};
 static uint32_t nest(uint32_t sort, uint32_t inner) {
     uint32_t out = leaf();
     switch (sort) {
@@ -105,10 +106,10 @@ static uint32_t nest(uint32_t sort, uint32_t inner) {
     for (int each = 1; each < 6; each++) case_block[cases++] = leaf();
     return add(7, 0, first, 6, out, 0);
 }
-static void nests(uint32_t first, uint32_t second, int deep) {
-    begin_table();
+static void nests(uint32_t first, uint32_t second) {
+    begin_table(1);
     uint32_t inner = leaf();
-    for (int level = 0; level < deep; level++) inner = nest(level % 2 ? second : first, inner);
+    for (int level = 0; level < DEEP; level++) inner = nest(level % 2 ? second : first, inner);
     end_table(inner);
 }
 
@@ -116,7 +117,7 @@ static void nests(uint32_t first, uint32_t second, int deep) {
  * blocks; the statements that make a value. */
 enum { WAYS = 14, STATEMENTS = 7 };
 static void values(int statement, const int *ways, int above) {
-    begin_table();
+    begin_table(1);
     uint32_t end = leaf(), last = goto_row(end), fallthrough = goto_row(end), body = goto_row(end), test = branch(body, end), first = rows;
     for (uint32_t at = 0; at < 2; at++) {
         uint32_t next = first + 2 * (1 - at), chooser = first + 2 * at + 1;
@@ -151,9 +152,10 @@ static void values(int statement, const int *ways, int above) {
     end_table(entry);
 }
 
-/* The shapes, a number each: runs of 1,023 fallthroughs, one Switch with 1,022 cases, Gotos that are no walk but fill the table; then the nests,
- * in pairs of sorts, 127 and 60 deep; then the values: each statement with each way, and a Sequence with each pair of ways. */
-enum { FIRST = 4, NESTS = SORTS * SORTS * 2, ONE_WAY = STATEMENTS * WAYS * 2, TWO_WAYS = WAYS * WAYS * 2, SHAPES = FIRST + NESTS + ONE_WAY + TWO_WAYS };
+/* The shapes, a number each: runs of 1,023 fallthroughs, one Switch with 1,022 cases, Gotos that are no walk but fill the table; then the
+ * nests, in pairs of sorts; then the values: each statement with each way, and a Sequence with each pair of ways. */
+enum { FIRST = 4, NESTS = SORTS * SORTS, ONE_WAY = STATEMENTS * WAYS * 2, TWO_WAYS = WAYS * WAYS * 2 };
+enum { SHAPES = FIRST + NESTS + ONE_WAY + TWO_WAYS };
 /* the first shapes fill the table: they are all that a function needs which does not walk */
 enum { WHOLE = FIRST };
 enum group { FALLTHROUGHS, CASES, NOT_WALKED, NESTED, VALUES, GROUPS };
@@ -164,7 +166,7 @@ static enum group group_of(int number) {
     return number < FIRST + NESTS ? NESTED : VALUES;
 }
 static void shape(int number) {
-    begin_table();
+    begin_table(0);
     if (number < FIRST) {
         uint32_t end = leaf();
         if (number == 0) { /* Labels, each the fallthrough of the one before */
@@ -187,7 +189,7 @@ static void shape(int number) {
     }
     number -= FIRST;
     if (number < NESTS) {
-        nests(number / 2 / SORTS, number / 2 % SORTS, number % 2 ? 60 : 127);
+        nests(number / SORTS, number % SORTS);
         return;
     }
     number -= NESTS;
@@ -213,10 +215,10 @@ static size_t most(void (*call)(void), void (*make)(int), int number) {
 
 static const char *shape_name(int number) {
     static char name[99] = "";
-    number -= FIRST;
-    if (number >= 0 && number < NESTS) sprintf(name, ", %s and %s, %d deep", sort_name[number / 2 / SORTS], sort_name[number / 2 % SORTS], number % 2 ? 60 : 127);
-    else if (number >= NESTS + ONE_WAY) sprintf(name, ", ways %d and %d", (number - NESTS - ONE_WAY) / 2 / WAYS, (number - NESTS - ONE_WAY) / 2 % WAYS);
-    else if (number >= NESTS) sprintf(name, ", statement %d, way %d", (number - NESTS) / 2 / WAYS, (number - NESTS) / 2 % WAYS);
+    int nest = number - FIRST, one = nest - NESTS, two = one - ONE_WAY;
+    if (two >= 0) sprintf(name, ", ways %d and %d", two / 2 / WAYS, two / 2 % WAYS);
+    else if (one >= 0) sprintf(name, ", statement %d, way %d", one / 2 / WAYS, one / 2 % WAYS);
+    else if (nest >= 0) sprintf(name, ", %s and %s", sort_name[nest / SORTS], sort_name[nest % SORTS]);
     else name[0] = 0;
     return name;
 }
@@ -228,19 +230,24 @@ static void by_shape(size_t own) {
         void (*call)(void);
     } entries[] = {{"reactive_build", build}, {"reactive_build_language", build_language}};
     for (size_t entry = 0; entry < 2; entry++) {
-        size_t most[GROUPS] = {0}, most_of[SORTS] = {0};
-        int which[GROUPS] = {0}, refused[GROUPS] = {0};
+        size_t most[GROUPS] = {0}, most_of[SORTS];
+        uint32_t refused[GROUPS], code_of[SORTS];
+        int which[GROUPS];
         for (int each = 0; each < SHAPES; each++) {
             shape(each);
             size_t here = taken(entries[entry].call) - own;
             enum group group = group_of(each);
             if (here > most[group]) most[group] = here, which[group] = each, refused[group] = code;
-            int sort = (each - FIRST) / 2;
-            if (group == NESTED && sort / SORTS == sort % SORTS && here > most_of[sort % SORTS]) most_of[sort % SORTS] = here;
+            int sort = (each - FIRST) % SORTS;
+            if (group == NESTED && (each - FIRST) / SORTS == sort) most_of[sort] = here, code_of[sort] = code;
         }
-        for (int group = 0; group < GROUPS; group++)
-            printf("%s: %s%s: %zu bytes, code %d\n", entries[entry].name, group_name[group], shape_name(which[group]), most[group], refused[group]);
-        for (int sort = 0; sort < SORTS; sort++) printf("%s: %s, 127 deep: %zu bytes\n", entries[entry].name, sort_name[sort], most_of[sort]);
+        const char *name = entries[entry].name;
+        for (int group = 0; group < GROUPS; group++) {
+            printf("%s: %s%s: ", name, group_name[group], shape_name(which[group]));
+            printf("%zu bytes, code %u\n", most[group], refused[group]);
+        }
+        for (int sort = 0; sort < SORTS; sort++)
+            printf("%s: %s, %d deep: %zu bytes, code %u\n", name, sort_name[sort], DEEP, most_of[sort], code_of[sort]);
     }
 }
 

@@ -68,8 +68,8 @@ pub fn build(
     }
 }
 
-/// Builds the tree of a table of blocks as the Rust does: the rows of the tree and the lines of its index, each then zeros, or an error and zeros
-/// alone. It takes any words and buffers of any lengths. On a plain table the tree runs as the blocks do.
+/// Builds the tree of a table of blocks as the Rust does: the rows of the tree and the lines of its index, each then zeros, or an error
+/// and zeros alone. It takes any words and buffers of any lengths. On a plain table the tree runs as the blocks do.
 pub fn build_reactive_function(
     words: &[u32],
     tree: &mut [u32],
@@ -81,8 +81,8 @@ pub fn build_reactive_function(
     build(Rule::Rust, words, tree, index)
 }
 
-/// The same by the language's rule: a break without a label leaves the nearest loop or switch, and a jump's label is around it, or the code is 29.
-/// Its tree runs as the blocks do on plain tables with Switch too.
+/// The same by the language's rule: a break without a label leaves the nearest loop or switch, and a jump's label is around it, or the
+/// code is 29. Its tree runs as the blocks do on plain tables with Switch too.
 pub fn build_language(
     words: &[u32],
     tree: &mut [u32],

@@ -1,7 +1,8 @@
 -- "Neither ever stops otherwise": a good reason is a return, a throw, or no answer left, and no other.
 use mathlib.Core.Path.{◌≡◌, refl, sym}
 use mathlib.Core.Bool.{true}
-use Rattle.definition.specs.Run.{Reason, returned, threw, no_answer_left, not_plain, no_target, end_of_tree, no_such_case, is_good, IsGood, a_return, a_throw, the_answers_are_used_up}
+use Rattle.definition.specs.Run.{Reason, returned, threw, no_answer_left, not_plain, no_target, end_of_tree, no_such_case, is_good}
+use Rattle.definition.specs.Run.{IsGood, a_return, a_throw, the_answers_are_used_up}
 use Rattle.definition.proofs.Steps.{true_false}
 
 pub good_reason : (reason : Reason) → is_good reason ≡ true → IsGood reason

@@ -11,7 +11,7 @@ use Rattle.definition.specs.Context.{ControlFlowTarget}
 use Rattle.definition.specs.Plain.{with_switch, Plain}
 use Rattle.definition.specs.PlainLoops.{PlainLoops, without_switch}
 use Rattle.definition.specs.Preview.{previewed, numbers_of}
-use Rattle.definition.specs.Reading.{ReadAs, TreeOf}
+use Rattle.definition.specs.Reading.{ReadAs, TreeOf, OneTree}
 use Rattle.definition.specs.Result.{already_scheduled, unschedule_out_of_order, maybe_throw_in_value_terminal}
 use Rattle.definition.specs.Run.{Answers, IsGood}
 use Rattle.definition.specs.RunLaw.{Agree, RunLaw, Spoken, SwitchLaw}
@@ -72,7 +72,11 @@ WithLoopsAndSwitches =
 abbrev pub NeitherEverStopsOtherwise : Type 0
 NeitherEverStopsOtherwise = (t : Table) (root : Statements) (answers : Answers) (both : Agree t root answers) → IsGood both.reason
 
--- A list of rows is read as one tree at most.
+-- Accepted rows are read as one tree, and as no other.
+abbrev pub WhatIsBuiltIsOneTree : Type 0
+WhatIsBuiltIsOneTree = (rule : Rule) → AcceptedBy rule (λ words given. OneTree given)
+
+-- Any list of rows is read as one tree at most.
 abbrev pub RowsHaveOneReading : Type 0
 RowsHaveOneReading = (list : List Row) (root root' : Statements) → ReadAs list root → ReadAs list root' → root ≡ root'
 
@@ -116,7 +120,8 @@ APreviewIsTheBuilds =
 abbrev pub AnyRenumberingBuildsTheSame : Type 0
 AnyRenumberingBuildsTheSame =
     (words : List ℕ) → checked words ≡ accepted → (new old : ℕ → ℕ) → Renaming (block_count words) new old
-    → (rule : Rule) (lent lent_index : ℕ) → built rule (renamed new old words) lent lent_index ≡ renamed_outcome new (built rule words lent lent_index)
+    → (rule : Rule) (lent lent_index : ℕ)
+    → built rule (renamed new old words) lent lent_index ≡ renamed_outcome new (built rule words lent lent_index)
 
 -- A table in walking order is a renumbering, from which the first table can be restored.
 abbrev pub TheWalkingOrderCanBeUndone : Type 0

@@ -33,6 +33,7 @@ SameRuns rule width =
     → ((steps block : ℕ) → wide_run (table_of words) (seen (table_of words)) steps block answers ≡ block_run (table_of words) steps block answers)
     × (wide_tree_run (seen (table_of words)) one.tree answers ≡ tree_run one.tree answers)
 
+-- On plain tables with loops both runs are those of the laws without values.
 abbrev pub LoopsRunAsBefore : Type 0
 LoopsRunAsBefore = ((rule : Rule) → SameRuns rule without_switch) × SameRuns language with_switch
 

@@ -10,12 +10,13 @@ ghost use Rattle.std.specs.Prelude.{◌≡◌, length};
 ghost use Rattle.control.specs.Rule.{rule_of};
 ghost use Rattle.definition.specs.Build.{built};
 ghost use Rattle.build.specs.Entry.{outcome};
-ghost use Rattle.theorems.specs.Claims.{EveryCallAnswers, EveryAnswerIsTheDefinitions, TheTreeRunsAsTheBlocks, WithSwitches};
-ghost use Rattle.theorems.specs.Claims.{WithLoopsAndSwitches};
-ghost use Rattle.theorems.specs.Claims.{NeitherEverStopsOtherwise, RowsHaveOneReading, WhatIsBuiltPassesTheCheck, NoLabelStandsTwice};
-ghost use Rattle.theorems.specs.Claims.{ALookupFindsTheStatement, TheLabelsAreThere, TheEntriesDifferOnlySo, APreviewIsTheBuilds};
-ghost use Rattle.theorems.specs.Claims.{AnyRenumberingBuildsTheSame, TheWalkingOrderCanBeUndone, TextsComeBack, TheRunnerDoesWhatTheRunsDo};
-ghost use Rattle.theorems.specs.Claims.{VisitsAreAtMost8192, TheStackHoldsAtMost1152Entries, TheDepthIsAtMost128, FourMessagesNeverOccur, TheSamplesComeOut};
+ghost use Rattle.theorems.specs.Claims.{EveryCallAnswers, EveryAnswerIsTheDefinitions};
+ghost use Rattle.theorems.specs.Claims.{TheTreeRunsAsTheBlocks, WithSwitches, WithLoopsAndSwitches};
+ghost use Rattle.theorems.specs.Claims.{NeitherEverStopsOtherwise, WhatIsBuiltIsOneTree, RowsHaveOneReading, WhatIsBuiltPassesTheCheck};
+ghost use Rattle.theorems.specs.Claims.{NoLabelStandsTwice, ALookupFindsTheStatement, TheLabelsAreThere, TheEntriesDifferOnlySo};
+ghost use Rattle.theorems.specs.Claims.{APreviewIsTheBuilds, AnyRenumberingBuildsTheSame, TheWalkingOrderCanBeUndone, TextsComeBack};
+ghost use Rattle.theorems.specs.Claims.{TheRunnerDoesWhatTheRunsDo, VisitsAreAtMost8192, TheStackHoldsAtMost1152Entries, TheDepthIsAtMost128};
+ghost use Rattle.theorems.specs.Claims.{FourMessagesNeverOccur, TheSamplesComeOut};
 
 use build::answer::BuildError;
 use build::{build_language, build_reactive_function};
@@ -81,7 +82,12 @@ pub fn neither_ever_stops_otherwise()
     ensures { NeitherEverStopsOtherwise }
 {}
 
-/// A list of rows is read as one tree at most.
+/// Accepted rows are read as one tree, and as no other.
+pub fn what_is_built_is_one_tree()
+    ensures { WhatIsBuiltIsOneTree }
+{}
+
+/// Any list of rows is read as one tree at most.
 pub fn rows_have_one_reading()
     ensures { RowsHaveOneReading }
 {}
