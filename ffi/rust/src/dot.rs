@@ -8,13 +8,13 @@ pub use crate::text::Placed as Drawn;
 /// So many bytes hold the text of any table.
 pub const LARGEST: usize = 16_793_614;
 
-writers! { blocks_to_dot: u32 }
+writers! { reactive_blocks_to_dot: u32 }
 
 /// Draws a table into a lent buffer, both of any content and length. The buffer then holds the text
 /// and after it zeros; zeros alone if refused.
 pub fn draw(words: &[u32], text: &mut [u8]) -> Drawn {
     // SAFETY: the export reads and writes nothing but what it is handed.
-    unsafe { place(blocks_to_dot, words, text) }
+    unsafe { place(reactive_blocks_to_dot, words, text) }
 }
 
 /// The text. Draws once with a buffer of a usual size, and once more if that was short.

@@ -15,7 +15,7 @@ pub struct Found {
 }
 
 unsafe extern "C" {
-    fn tree_lookup(
+    fn reactive_tree_lookup(
         index: *const u32,
         index_length: usize,
         lines: u32,
@@ -34,7 +34,9 @@ pub fn find(index: &[u32], lines: u32, label: u32, tree: &[u32]) -> Found {
     let (mut at, mut begin, mut end) = (0, 0, 0);
     // SAFETY: slices give pointers that are not null, aligned and valid for their lengths; the three
     // results are borrowed for this call alone. The function reads and writes nothing else.
-    let code = unsafe { tree_lookup(index.as_ptr(), index.len(), lines, label, tree.as_ptr(), tree.len(), &mut at, &mut begin, &mut end) };
+    let code = unsafe {
+        reactive_tree_lookup(index.as_ptr(), index.len(), lines, label, tree.as_ptr(), tree.len(), &mut at, &mut begin, &mut end)
+    };
     Found { code, at, begin, end }
 }
 

@@ -18,7 +18,7 @@ pub struct Rearranged {
 }
 
 unsafe extern "C" {
-    fn blocks_rearrange(
+    fn reactive_blocks_rearrange(
         words: *const u32,
         word_count: usize,
         new_words: *mut u32,
@@ -28,7 +28,7 @@ unsafe extern "C" {
         at: *mut u32,
     ) -> c_uint;
 
-    fn blocks_restore(
+    fn reactive_blocks_restore(
         words: *const u32,
         word_count: usize,
         old_numbers: *const u32,
@@ -46,7 +46,7 @@ pub fn rearrange(words: &[u32], new_words: &mut [u32], old_numbers: &mut [u32]) 
     // SAFETY: slices give pointers that are not null, aligned and valid for their lengths; the outputs
     // and the result are borrowed for this call alone. The function reads and writes nothing else.
     let code = unsafe {
-        blocks_rearrange(
+        reactive_blocks_rearrange(
             words.as_ptr(),
             words.len(),
             new_words.as_mut_ptr(),
@@ -65,7 +65,7 @@ pub fn restore(words: &[u32], old_numbers: &[u32], first_words: &mut [u32]) -> M
     let mut at = 0;
     // SAFETY: as above.
     let code = unsafe {
-        blocks_restore(
+        reactive_blocks_restore(
             words.as_ptr(),
             words.len(),
             old_numbers.as_ptr(),

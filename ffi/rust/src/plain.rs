@@ -4,7 +4,7 @@ use crate::Refusal;
 use std::ffi::c_uint;
 
 unsafe extern "C" {
-    fn table_plain(words: *const u32, word_count: usize, at: *mut u32, number: *mut u32) -> c_uint;
+    fn reactive_table_plain(words: *const u32, word_count: usize, at: *mut u32, number: *mut u32) -> c_uint;
 }
 
 /// The first law that speaks of a table.
@@ -38,7 +38,7 @@ pub fn law(words: &[u32]) -> Result<Law, Refusal> {
     let (mut at, mut number) = (0, 0);
     // SAFETY: a slice gives a pointer that is not null, aligned and valid for its length; the two results are
     // borrowed for this call alone. The function reads and writes nothing else.
-    let code = unsafe { table_plain(words.as_ptr(), words.len(), &mut at, &mut number) };
+    let code = unsafe { reactive_table_plain(words.as_ptr(), words.len(), &mut at, &mut number) };
     match (code, number) {
         (0, 1) => Ok(Law::Paper01),
         (0, 2) => Ok(Law::Switches),

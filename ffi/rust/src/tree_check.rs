@@ -5,7 +5,7 @@ pub use crate::refusal::Checked;
 use std::ffi::c_uint;
 
 unsafe extern "C" {
-    fn tree_check(tree: *const u32, tree_length: usize, at: *mut u32) -> c_uint;
+    fn reactive_tree_check(tree: *const u32, tree_length: usize, at: *mut u32) -> c_uint;
 }
 
 /// Checks a list of rows, words of any content and number. Of a buffer that was lent to the build hand
@@ -14,7 +14,7 @@ pub fn check(tree: &[u32]) -> Checked {
     let mut at = 0;
     // SAFETY: a slice gives a pointer that is not null, aligned and valid for its length; `at` is borrowed for this
     // call alone. The function reads and writes nothing else.
-    let code = unsafe { tree_check(tree.as_ptr(), tree.len(), &mut at) };
+    let code = unsafe { reactive_tree_check(tree.as_ptr(), tree.len(), &mut at) };
     Checked { code, at }
 }
 

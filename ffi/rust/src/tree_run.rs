@@ -22,7 +22,7 @@ pub enum Reason {
 }
 
 unsafe extern "C" {
-    fn tree_run(
+    fn reactive_tree_run(
         tree: *const u32,
         tree_length: usize,
         answers: *const u32,
@@ -42,7 +42,7 @@ pub fn run(tree: &[u32], answers: &[u32], performed: &mut [u32]) -> Ran {
     // SAFETY: slices give pointers that are not null, aligned and valid for their lengths; `performed` and the three numbers are borrowed
     // for this call alone. The function reads and writes nothing else.
     let code = unsafe {
-        tree_run(
+        reactive_tree_run(
             tree.as_ptr(),
             tree.len(),
             answers.as_ptr(),
