@@ -16,6 +16,12 @@
 extern "C" {
 #endif
 
+/* The version of this header. */
+#define REACTIVE_VERSION "0.1.0"
+#define REACTIVE_VERSION_MAJOR 0
+#define REACTIVE_VERSION_MINOR 1
+#define REACTIVE_VERSION_PATCH 0
+
 /* The first word of a row of the tree. */
 enum reactive_op {
     REACTIVE_OP_PLAIN = 1, REACTIVE_OP_LOAD = 2, REACTIVE_OP_UNDEF = 3, REACTIVE_OP_INSTR = 4, REACTIVE_OP_SEQ = 5,

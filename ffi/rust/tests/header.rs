@@ -32,6 +32,15 @@ fn in_capitals(name: &str) -> String {
 }
 
 #[test]
+fn version() {
+    let text = concat!("#define REACTIVE_VERSION \"", env!("CARGO_PKG_VERSION"), "\"\n");
+    assert!(HEADER.contains(text));
+    let numbers = [env!("CARGO_PKG_VERSION_MAJOR"), env!("CARGO_PKG_VERSION_MINOR"), env!("CARGO_PKG_VERSION_PATCH")];
+    let parts = ["MAJOR", "MINOR", "PATCH"].into_iter().zip(numbers.map(|number| number.parse().expect("a number")));
+    assert_eq!(constants("REACTIVE_VERSION_"), named(parts));
+}
+
+#[test]
 fn ops_endings_and_kinds() {
     assert_eq!(constants("REACTIVE_OP_"), named(Op::ALL.map(|op| (op.name(), op.number()))));
     let endings = Ending::NAMES.iter().map(|name| if *name == "no such block" { "MISSING".into() } else { in_capitals(name) });
