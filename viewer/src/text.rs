@@ -19,7 +19,7 @@ const MOST_ALIGNED: usize = 80;
 /// Which run law speaks of a table, in words.
 pub fn law(law: Law) -> &'static str {
     match law {
-        Law::Paper01 => "Paper 01's: by either entry the tree performs the same instructions as the blocks.",
+        Law::Plain => "Paper 01's: by either entry the tree performs the same instructions as the blocks.",
         Law::Switches => "M-113's: by the language entry the tree performs the same instructions as the blocks.",
         Law::Loops => {
             "Ours, beyond the papers: by the language entry the tree performs the same instructions as the blocks, and by the first too where there is no Switch."
