@@ -21,16 +21,30 @@ fn numbers_and_names(names: &str) -> Vec<(u32, &'static str)> {
     rows.collect()
 }
 
+/// The list of refusals, ffi/refusals.txt: code, name, what the place counts, sentence.
+fn refusals() -> Vec<[&'static str; 4]> {
+    let lines = include_str!("../../refusals.txt").lines().filter(|line| !line.starts_with('#'));
+    lines.map(|line| line.split('\t').collect::<Vec<_>>().try_into().expect("four cells")).collect()
+}
+
 #[test]
-fn refusals_have_the_sentences_of_the_page() {
-    let lines = table("| Code | At | Meaning |");
-    assert_eq!(lines.len(), CODES.len());
-    for (line, (code, _)) in lines.iter().zip(CODES) {
+fn the_page_has_the_refusals_of_the_list() {
+    let page = table("| Code | At | Meaning |");
+    let of_the_page: Vec<_> = page.iter().map(|line| [line[0], line[1], line[2]]).collect();
+    let of_the_list: Vec<_> = refusals().into_iter().map(|[code, _, at, sentence]| [code, at, sentence]).collect();
+    assert_eq!(of_the_page, of_the_list);
+}
+
+#[test]
+fn the_crate_has_the_refusals_of_the_list() {
+    let of_the_crate = |(code, name): &(u32, &'static str)| {
         let refusal = Refusal { code: *code, at: 3 };
-        assert_eq!(line[0], code.to_string());
-        assert_eq!(refusal.at_counts(), Some(line[1]));
-        assert_eq!(refusal.sentence(), Some(line[2]));
-    }
+        (code.to_string(), *name, refusal.at_counts().expect("a code"), refusal.sentence().expect("a code"))
+    };
+    let of_the_list = |[code, name, at, sentence]: [&'static str; 4]| (code.to_string(), name, at, sentence);
+    let (ours, listed): (Vec<_>, Vec<_>) =
+        (CODES.iter().map(of_the_crate).collect(), refusals().into_iter().map(of_the_list).collect());
+    assert_eq!(ours, listed);
 }
 
 #[test]
