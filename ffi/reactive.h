@@ -22,23 +22,61 @@ extern "C" {
 #define REACTIVE_VERSION_MINOR 1
 #define REACTIVE_VERSION_PATCH 0
 
-/* The first word of a row of the tree. */
+/* The first word of a row of the tree; beside it its columns from a on, and its parts, whose rows stand before it. Columns that are not
+ * named are 0. A place, a block and an instruction are rows of the table. A label, a test of a CASE or a binding that is not there is
+ * REACTIVE_NONE. */
 enum reactive_op {
-    REACTIVE_OP_PLAIN = 1, REACTIVE_OP_LOAD = 2, REACTIVE_OP_UNDEF = 3, REACTIVE_OP_INSTR = 4, REACTIVE_OP_SEQ = 5,
-    REACTIVE_OP_LOGICAL = 6, REACTIVE_OP_COND = 7, REACTIVE_OP_OPTIONAL = 8, REACTIVE_OP_BLOCK = 9, REACTIVE_OP_IF = 10,
-    REACTIVE_OP_CASE = 11, REACTIVE_OP_SWITCH = 12, REACTIVE_OP_DOWHILE = 13, REACTIVE_OP_WHILE = 14, REACTIVE_OP_FOR = 15,
-    REACTIVE_OP_FOROF = 16, REACTIVE_OP_FORIN = 17, REACTIVE_OP_LABEL = 18, REACTIVE_OP_TRY = 19, REACTIVE_OP_SCOPE = 20,
-    REACTIVE_OP_PRUNED = 21, REACTIVE_OP_RETURN = 22, REACTIVE_OP_THROW = 23, REACTIVE_OP_BREAK = 24, REACTIVE_OP_CONTINUE = 25,
+    REACTIVE_OP_PLAIN = 1, /* instruction */
+    REACTIVE_OP_LOAD = 2, /* place */
+    REACTIVE_OP_UNDEF = 3, /* from, to */
+    REACTIVE_OP_INSTR = 4, /* id, place: lvalue, from, to; parts: a value */
+    REACTIVE_OP_SEQ = 5, /* number of INSTRs, id; parts: its INSTRs, a value */
+    REACTIVE_OP_LOGICAL = 6, /* operator; parts: left, right */
+    REACTIVE_OP_COND = 7, /* parts: test, consequent, alternate */
+    REACTIVE_OP_OPTIONAL = 8, /* flag; parts: a value */
+    REACTIVE_OP_BLOCK = 9, /* number of statements; parts: its statements */
+    REACTIVE_OP_IF = 10, /* place: test, 1 if there is an alternate, id, block: label; parts: one BLOCK, or two */
+    REACTIVE_OP_CASE = 11, /* place: test; parts: a BLOCK */
+    REACTIVE_OP_SWITCH = 12, /* place: test, number of cases, id, block: label; parts: its CASEs, last first */
+    REACTIVE_OP_DOWHILE = 13, /* id, block: label; parts: a BLOCK, the test */
+    REACTIVE_OP_WHILE = 14, /* id, block: label; parts: the test, a BLOCK */
+    REACTIVE_OP_FOR = 15, /* id, block: label, 1 if there is an update; parts: init, test, update, a BLOCK */
+    REACTIVE_OP_FOROF = 16, /* id, block: label, from, to; parts: init, test, a BLOCK */
+    REACTIVE_OP_FORIN = 17, /* id, block: label, from, to; parts: init, a BLOCK */
+    REACTIVE_OP_LABEL = 18, /* id, block: label; parts: a BLOCK */
+    REACTIVE_OP_TRY = 19, /* id, block: label, place: binding; parts: two BLOCKs: body, handler */
+    REACTIVE_OP_SCOPE = 20, /* scope; parts: a BLOCK */
+    REACTIVE_OP_PRUNED = 21, /* scope; parts: a BLOCK */
+    REACTIVE_OP_RETURN = 22, /* place: value, id */
+    REACTIVE_OP_THROW = 23, /* place: value, id */
+    REACTIVE_OP_BREAK = 24, /* block: target, id, kind, loops left */
+    REACTIVE_OP_CONTINUE = 25, /* block: target, id, kind, loops left */
 };
 
-/* The code of a block: what it ends in. */
+/* The code of a block: what it ends in, and what its columns a to e hold. Columns that are not named are 0. */
 enum reactive_ending {
-    REACTIVE_ENDING_MISSING = 0, REACTIVE_ENDING_UNREACHABLE = 1, REACTIVE_ENDING_THROW = 2, REACTIVE_ENDING_RETURN = 3,
-    REACTIVE_ENDING_GOTO = 4, REACTIVE_ENDING_IF = 5, REACTIVE_ENDING_BRANCH = 6, REACTIVE_ENDING_SWITCH = 7,
-    REACTIVE_ENDING_DO_WHILE = 8, REACTIVE_ENDING_WHILE = 9, REACTIVE_ENDING_FOR = 10, REACTIVE_ENDING_FOR_OF = 11,
-    REACTIVE_ENDING_FOR_IN = 12, REACTIVE_ENDING_LOGICAL = 13, REACTIVE_ENDING_TERNARY = 14, REACTIVE_ENDING_OPTIONAL = 15,
-    REACTIVE_ENDING_LABEL = 16, REACTIVE_ENDING_SEQUENCE = 17, REACTIVE_ENDING_MAYBE_THROW = 18, REACTIVE_ENDING_TRY = 19,
-    REACTIVE_ENDING_SCOPE = 20, REACTIVE_ENDING_PRUNED_SCOPE = 21,
+    REACTIVE_ENDING_MISSING = 0, /* there is no such block: its whole row is 0 */
+    REACTIVE_ENDING_UNREACHABLE = 1, /* no column */
+    REACTIVE_ENDING_THROW = 2, /* place: value */
+    REACTIVE_ENDING_RETURN = 3, /* place: value */
+    REACTIVE_ENDING_GOTO = 4, /* block, variant */
+    REACTIVE_ENDING_IF = 5, /* place: test; blocks: consequent, alternate, fallthrough */
+    REACTIVE_ENDING_BRANCH = 6, /* place: test; blocks: consequent, alternate */
+    REACTIVE_ENDING_SWITCH = 7, /* place: test; first case, number of cases; block: fallthrough */
+    REACTIVE_ENDING_DO_WHILE = 8, /* blocks: loop, test, fallthrough */
+    REACTIVE_ENDING_WHILE = 9, /* blocks: test, loop, fallthrough */
+    REACTIVE_ENDING_FOR = 10, /* blocks: init, test, update (or REACTIVE_NONE), loop, fallthrough */
+    REACTIVE_ENDING_FOR_OF = 11, /* blocks: init, test, loop, fallthrough */
+    REACTIVE_ENDING_FOR_IN = 12, /* blocks: init, loop, fallthrough */
+    REACTIVE_ENDING_LOGICAL = 13, /* operator; blocks: test, fallthrough */
+    REACTIVE_ENDING_TERNARY = 14, /* blocks: test, fallthrough */
+    REACTIVE_ENDING_OPTIONAL = 15, /* flag (0, 1); blocks: test, fallthrough */
+    REACTIVE_ENDING_LABEL = 16, /* blocks: body, fallthrough */
+    REACTIVE_ENDING_SEQUENCE = 17, /* blocks: body, fallthrough */
+    REACTIVE_ENDING_MAYBE_THROW = 18, /* block: continuation */
+    REACTIVE_ENDING_TRY = 19, /* blocks: body, handler, fallthrough; place: binding (or REACTIVE_NONE) */
+    REACTIVE_ENDING_SCOPE = 20, /* blocks: body, fallthrough; scope, a number */
+    REACTIVE_ENDING_PRUNED_SCOPE = 21, /* blocks: body, fallthrough; scope, a number */
 };
 
 /* The variant of a Goto, the operator of a Logical and of a LOGICAL, the kind of a BREAK and of a CONTINUE, what an instruction is. */
@@ -52,7 +90,9 @@ enum reactive_kind {
     REACTIVE_KIND_IMPLICIT = 0, REACTIVE_KIND_LABELED = 1, REACTIVE_KIND_UNLABELED = 2,
 };
 enum reactive_value {
-    REACTIVE_VALUE_OTHER = 0, REACTIVE_VALUE_LOAD_LOCAL = 1, REACTIVE_VALUE_STORE_LOCAL = 2,
+    REACTIVE_VALUE_OTHER = 0, /* p and q are 0 */
+    REACTIVE_VALUE_LOAD_LOCAL = 1, /* of the place p; q is 0 */
+    REACTIVE_VALUE_STORE_LOCAL = 2, /* to the place p, the value at the place q */
 };
 
 /* A label, a test of a case, a binding or an update that is not there. */
@@ -224,9 +264,10 @@ uint32_t reactive_tree_check(const uint32_t *tree, size_t tree_length, uint32_t 
  *                                from 0. Answers left over do not matter
  * performed, performed_length    lent: the instruction rows performed, in order, and then zeros; all zeros where the run is refused
  *
- * Returns the code: 0 if the tree was run; 60 to 62 as reactive_tree_check gives them; 64 at the first row that is not run (LOGICAL, COND, OPTIONAL, TRY, FOROF,
- * FORIN); 63 at a jump reached that has no target; 65 at the first PLAIN reached that the buffer can't take. *at is that row of the tree, or 0; *number the
- * number of rows performed, 0 where refused; *reason one of the four above, 0 where refused.
+ * Returns the code: 0 if the tree was run; 60 to 62 as reactive_tree_check gives them; 64 at the first row that is not run (LOGICAL,
+ * COND, OPTIONAL, TRY, FOROF, FORIN); 63 at a jump reached that has no target; 65 at the first PLAIN reached that the buffer can't
+ * take. *at is that row of the tree, or 0; *number the number of rows performed, 0 where refused; *reason one of the four above, 0
+ * where refused.
  * The call ends: each round of a loop takes an answer.
  * Stack: reactive_tree_run 60 KB. */
 uint32_t reactive_tree_run(const uint32_t *tree, size_t tree_length, const uint32_t *answers, size_t answers_length,
@@ -273,9 +314,10 @@ uint32_t reactive_table_write(const uint32_t *words, size_t word_count, uint8_t 
  * file, file_length      bytes of any content and number
  * words, word_count      a buffer of any length, in words
  *
- * Returns the code: 0, and the buffer holds *count words and then zeros; or a refusal (docs/FORMAT.md), and the buffer holds zeros. 51 for
- * a file that is too long; 50 for one that is not in the form, and *at is the byte; 54: there are more words than were lent. *at is 0
- * but for 50, *count is 0 if refused. That the words are a table (refusals 1 to 4) is not checked: reactive_table_check does, and every call that takes them.
+ * Returns the code: 0, and the buffer holds *count words and then zeros; or a refusal (docs/FORMAT.md), and the buffer holds zeros. 51
+ * for a file that is too long; 50 for one that is not in the form, and *at is the byte; 54: there are more words than were lent. *at
+ * is 0 but for 50, *count is 0 if refused. That the words are a table (refusals 1 to 4) is not checked: reactive_table_check does, and
+ * every call that takes them.
  * Stack: reactive_table_read 4 KB. */
 uint32_t reactive_table_read(const uint8_t *file, size_t file_length, uint32_t *words, size_t word_count, uint32_t *at,
                              size_t *count);
@@ -294,8 +336,8 @@ uint32_t reactive_table_new_to_old(const uint8_t *file, size_t file_length, uint
 
 /* ---- The blocks in walking order ---- */
 
-/* Numbers the blocks of a table anew: the entry is 0, the others follow as a breadth-first walk along the lines of reactive_blocks_to_dot first
- * names them, and those that it never names come last in their old order.
+/* Numbers the blocks of a table anew: the entry is 0, the others follow as a breadth-first walk along the lines of
+ * reactive_blocks_to_dot first names them, and those that it never names come last in their old order.
  *
  * words, word_count                  the table, of any content and length
  * new_words, new_word_count          for the new table: word_count words
@@ -307,8 +349,8 @@ uint32_t reactive_table_new_to_old(const uint8_t *file, size_t file_length, uint
 uint32_t reactive_blocks_rearrange(const uint32_t *words, size_t word_count, uint32_t *new_words, size_t new_word_count,
                                    uint32_t *old_numbers, size_t old_number_count, uint32_t *at);
 
-/* Gives every block of a table, the entry too, its old number in the list: of a table and a list that reactive_blocks_rearrange gave, the first
- * table.
+/* Gives every block of a table, the entry too, its old number in the list: of a table and a list that reactive_blocks_rearrange gave,
+ * the first table.
  *
  * words, word_count                  the table, of any content and length
  * old_numbers, old_number_count      the list, of any content and length
@@ -334,15 +376,61 @@ enum reactive_law {
     REACTIVE_LAW_NONE = 0, /* No law. */
     REACTIVE_LAW_PLAIN = 1, /* Of plain tables without Switch: the trees of both entries run as the blocks do. */
     REACTIVE_LAW_SWITCHES = 2, /* With Switch: of reactive_build_language. */
-    REACTIVE_LAW_LOOPS = 3, /* With the loops and switches that compilers make: of reactive_build_language; of both where no block ends in Switch. */
+    REACTIVE_LAW_LOOPS = 3, /* With the loops and switches that compilers make: as with Switch; where no block ends in Switch, of both. */
 };
 
 /* words, word_count    the table, of any content and length
  *
- * Returns the code, as reactive_table_check does, with its place in *at. *number is the first law that speaks of the table, one of reactive_law; 0 where the
- * words are refused. The time grows with the square of the number of blocks.
+ * Returns the code, as reactive_table_check does, with its place in *at. *number is the first law that speaks of the table, one of
+ * reactive_law; 0 where the words are refused. The time grows with the square of the number of blocks.
  * Stack: reactive_table_plain 4 KB. */
 uint32_t reactive_table_plain(const uint32_t *words, size_t word_count, uint32_t *at, uint32_t *number);
+
+/* ---- Names and sentences ---- */
+
+/* These are in reactive_names.c, which you compile with your own files. A function gives NULL where there is no such number. */
+
+/* "IF" of an op, "If" of what a block ends in, "Break" of a variant, "or" of an operator, "Implicit" of a kind, "LoadLocal" of what an
+ * instruction is. */
+const char *reactive_op_name(uint32_t op);
+const char *reactive_ending_name(uint32_t code);
+const char *reactive_variant_name(uint32_t variant);
+const char *reactive_operator_name(uint32_t operator_number);
+const char *reactive_kind_name(uint32_t kind);
+const char *reactive_value_name(uint32_t code);
+
+/* What a refusal means: the sentence of docs/FORMAT.md. And what its place counts: a text that begins with "byte", "word", "block" or
+ * "row", or is "0" where the place is always 0. */
+const char *reactive_refusal_sentence(uint32_t code);
+const char *reactive_refusal_place(uint32_t code);
+
+/* What a column holds. */
+enum reactive_column_kind {
+    REACTIVE_COLUMN_UNUSED = 0, /* 0 */
+    REACTIVE_COLUMN_BLOCK = 1, /* a row of the blocks */
+    REACTIVE_COLUMN_BLOCK_OR_NONE = 2, /* or REACTIVE_NONE */
+    REACTIVE_COLUMN_PLACE = 3, /* a row of the places */
+    REACTIVE_COLUMN_PLACE_OR_NONE = 4, /* or REACTIVE_NONE */
+    REACTIVE_COLUMN_INSTRUCTION = 5, /* a row of the instructions */
+    REACTIVE_COLUMN_CASE = 6, /* a row of the cases */
+    REACTIVE_COLUMN_COUNT = 7, /* how many */
+    REACTIVE_COLUMN_NUMBER = 8, /* a number that is copied: an id, an end of a span, a scope */
+    REACTIVE_COLUMN_FLAG = 9, /* 0 or 1 */
+    REACTIVE_COLUMN_VARIANT = 10, /* of reactive_variant */
+    REACTIVE_COLUMN_OPERATOR = 11, /* of reactive_operator */
+    REACTIVE_COLUMN_KIND = 12, /* of reactive_kind */
+};
+typedef struct {
+    const char *name; /* "" of one that is not used */
+    enum reactive_column_kind kind;
+} reactive_column;
+
+/* The five columns a to e of a row of the tree with this op, and of a block with this code. */
+const reactive_column *reactive_op_columns(uint32_t op);
+const reactive_column *reactive_ending_columns(uint32_t code);
+
+/* How many parts a row of the tree has: their rows stand before it, each as the last row of its own part. 0 of no op. */
+uint64_t reactive_row_parts(const uint32_t *row);
 
 /* ---- Old names ---- */
 

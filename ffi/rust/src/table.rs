@@ -36,14 +36,22 @@ pub enum Variant {
 }
 
 impl Variant {
+    /// Every variant: number n is at n.
     pub const ALL: [Self; 3] = [Self::Break, Self::Continue, Self::Try];
 
+    /// The variant of this number, if there is one.
     pub fn of(number: u32) -> Option<Self> {
         Self::ALL.get(number as usize).copied()
     }
 
+    /// The number that stands for it in a table.
     pub const fn number(self) -> u32 {
         self as u32
+    }
+
+    /// The name that docs/FORMAT.md gives it.
+    pub const fn name(self) -> &'static str {
+        ["Break", "Continue", "Try"][self as usize]
     }
 }
 

@@ -94,14 +94,22 @@ pub enum Operator {
 }
 
 impl Operator {
+    /// Every operator: number n is at n.
     pub const ALL: [Self; 3] = [Self::Or, Self::And, Self::Coalesce];
 
+    /// The operator of this number, if there is one.
     pub fn of(number: u32) -> Option<Self> {
         Self::ALL.get(number as usize).copied()
     }
 
+    /// The number that stands for it in a table and in a row.
     pub const fn number(self) -> u32 {
         self as u32
+    }
+
+    /// The name that docs/FORMAT.md gives it.
+    pub const fn name(self) -> &'static str {
+        ["or", "and", "coalesce"][self as usize]
     }
 }
 
@@ -115,14 +123,22 @@ pub enum Kind {
 }
 
 impl Kind {
+    /// Every kind: number n is at n.
     pub const ALL: [Self; 3] = [Self::Implicit, Self::Labeled, Self::Unlabeled];
 
+    /// The kind of this number, if there is one.
     pub fn of(number: u32) -> Option<Self> {
         Self::ALL.get(number as usize).copied()
     }
 
+    /// The number that stands for it in a row.
     pub const fn number(self) -> u32 {
         self as u32
+    }
+
+    /// The name that docs/FORMAT.md gives it.
+    pub const fn name(self) -> &'static str {
+        ["Implicit", "Labeled", "Unlabeled"][self as usize]
     }
 }
 

@@ -250,6 +250,8 @@ fn numbers_of_any_size() {
         let others = [Variant::of(number).map(Variant::number), Op::of(number).map(Op::number)];
         assert!(kinds.into_iter().chain(others).flatten().all(|told| told == number));
         assert!(Op::of(number).is_none_or(|op| !Op::name(op).is_empty()));
+        let names = [Kind::of(number).map(Kind::name), Operator::of(number).map(Operator::name), Variant::of(number).map(Variant::name)];
+        assert!(names.into_iter().all(|name| name.is_some() == (number < 3)));
         for word in EDGES {
             (0..6).for_each(|used| columns_are_taken(number, array::from_fn(|at| if at < used { word } else { 0 })));
             assert_eq!(Span::words(Span::of_words(number, word)), [number, word]);

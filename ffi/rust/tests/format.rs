@@ -48,6 +48,13 @@ fn the_crate_has_the_refusals_of_the_list() {
 }
 
 #[test]
+fn reactive_names_has_the_refusals_of_the_list() {
+    let names = include_str!("../../names.txt").lines().filter_map(|line| line.strip_prefix("refusal\t"));
+    let listed = refusals().into_iter().map(|[code, _, at, sentence]| format!("{code}\t{at}\t{}", sentence.replace('`', "")));
+    assert!(names.eq(listed));
+}
+
+#[test]
 fn a_refusal_says_its_place_and_its_sentence() {
     let said = |code, at| Refusal { code, at }.to_string();
     assert_eq!(said(3, 0), "3: The entry is no block.");

@@ -40,6 +40,25 @@ fn version() {
     assert_eq!(constants("REACTIVE_VERSION_"), named(parts));
 }
 
+/// The lines of ffi/names.txt, which reactive_names.c prints, that begin so: number and name.
+fn names(beginning: &str) -> Vec<(u32, &'static str)> {
+    let lines = include_str!("../../names.txt").lines().filter_map(|line| {
+        let mut cells = line.strip_prefix(beginning)?.strip_prefix('\t')?.split('\t');
+        Some((cells.next()?.parse().ok()?, cells.next()?))
+    });
+    lines.collect()
+}
+
+#[test]
+fn names_of_reactive_names() {
+    assert_eq!(names("op"), Op::ALL.map(|op| (op.number(), op.name())));
+    assert_eq!(names("ending"), (0..).zip(Ending::NAMES).collect::<Vec<_>>());
+    assert_eq!(names("kind"), Kind::ALL.map(|kind| (kind.number(), kind.name())));
+    assert_eq!(names("operator"), Operator::ALL.map(|operator| (operator.number(), operator.name())));
+    assert_eq!(names("variant"), Variant::ALL.map(|variant| (variant.number(), variant.name())));
+    assert_eq!(names("value"), [(0, "other"), (1, "LoadLocal"), (2, "StoreLocal")]);
+}
+
 #[test]
 fn ops_endings_and_kinds() {
     assert_eq!(constants("REACTIVE_OP_"), named(Op::ALL.map(|op| (op.name(), op.number()))));
