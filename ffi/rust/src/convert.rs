@@ -35,11 +35,14 @@ pub fn new_to_old(file: &[u8], text: &mut [u8]) -> Placed {
 /// So many words hold those of any file.
 pub const MOST_WORDS: usize = 16_384;
 
-/// Code (0 accepted), at, and the number of words.
+/// What a reading gives beside the words.
 #[derive(Clone, Copy, Debug, PartialEq, Eq)]
 pub struct WordsRead {
+    /// 0, or 50, 51 or 54 of [`code`](crate::code).
     pub code: u32,
+    /// Refused 50 the byte of the file, else 0.
     pub at: u32,
+    /// How many words the file has; refused 0.
     pub count: usize,
 }
 

@@ -19,6 +19,15 @@ pub fn check(tree: &[u32]) -> Checked {
 }
 
 /// The same as a result.
+///
+/// ```
+/// use reactive_build::tree_check::is_tree;
+/// use reactive_build::{Refusal, code};
+///
+/// let rows = [[22, 0, 7, 0, 0, 0], [9, 1, 0, 0, 0, 0]]; // RETURN, and the BLOCK of it
+/// assert_eq!(is_tree(rows.as_flattened()), Ok(()));
+/// assert_eq!(is_tree(&rows[0]), Err(Refusal { code: code::NOT_ONE_TREE, at: 0 }));
+/// ```
 pub fn is_tree(tree: &[u32]) -> Result<(), Refusal> {
     check(tree).result()
 }

@@ -1,7 +1,8 @@
 //! Any input: every public function on empty, odd and huge slices, and on a good table and tree spoilt word by word. None panics but where
 //! its page says so, and where a call refuses, what was lent holds zeros. Each is called by its path (`every_public_function_is_called`).
 
-use reactive_build::table::{Block, Case, Ending, Instruction, Table, Value, Variant};
+use reactive_build::outline;
+use reactive_build::table::{Block, BlockRow, Case, Ending, IdentifierRow, Instruction, PlaceRow, Table, Value, Variant};
 use reactive_build::table_check::Checked;
 use reactive_build::tree::{Kind, Node, Nodes, Op, Operator, Row};
 use reactive_build::{
@@ -17,10 +18,11 @@ fn good_table() -> Vec<u32> {
     let mut table = Table::default();
     let named = table.identifier(true);
     let place = table.place(named);
-    table.block(&[], Ending::While { test: 1, loop_block: 2, fallthrough: 3 }, 1, Span::of_words(3, 9));
-    table.block(&[], Ending::Branch { test: place, consequent: 2, alternate: 3 }, 2, None);
-    table.block(&[], Ending::Goto { block: 1, variant: Variant::Continue }, 3, None);
-    let switch = table.switch(place, &[Case { test: None, block: 4 }], 5);
+    let [test, body, after, case, end] = [1, 2, 3, 4, 5].map(BlockRow);
+    table.block(&[], Ending::While { test, loop_block: body, fallthrough: after }, 1, Span::of_words(3, 9));
+    table.block(&[], Ending::Branch { test: place, consequent: body, alternate: after }, 2, None);
+    table.block(&[], Ending::Goto { block: test, variant: Variant::Continue }, 3, None);
+    let switch = table.switch(place, &[Case { test: None, block: case }], end);
     table.block(&[], switch, 4, None);
     table.block(&[], Ending::Return { value: place }, 5, None);
     table.block(&[], Ending::Return { value: place }, 6, None);
@@ -76,8 +78,8 @@ fn words_are_taken(words: &[u32], lent: usize) {
             Err(refusal) => assert_eq!(refusal, Refusal { code, at }),
         }
     }
-    assert_eq!(preview::tree(words).map(|tree| tree.rows), reactive_build::rows(words).map(|rows| rows.concat()));
-    assert_eq!(preview::tree_language(words).map(|tree| tree.rows), reactive_build::rows_language(words).map(|rows| rows.concat()));
+    assert_eq!(preview::tree(words).map(|tree| tree.rows), reactive_build::rows(words));
+    assert_eq!(preview::tree_language(words).map(|tree| tree.rows), reactive_build::rows_language(words));
     assert_eq!(table_check::is_table(words), Checked::result(&table_check::check(words)));
     assert_eq!(plain::law(words).err(), table_check::is_table(words).err());
     let drawn = dot::draw(words, &mut text);
@@ -129,7 +131,13 @@ fn nodes_are_taken(rows: &[Row]) {
     assert_eq!((Nodes::body(&nodes), Nodes::walk(&nodes).count()), (rows.len() - 1, rows.len()));
     assert!(Nodes::iter(&nodes).eq(Nodes::as_slice(&nodes)));
     assert!((&nodes).into_iter().map(Node::row).eq(rows.iter().copied()));
+    assert!(outline::lines(&nodes).iter().map(|line| (line.row, line.depth)).eq(Nodes::walk(&nodes).map(|visit| (visit.row, visit.depth))));
+    assert_eq!(nodes.to_string().lines().count(), rows.len());
     for row in 0..rows.len() {
+        assert!(outline::roles(&nodes[row]).len() <= Node::part_count(&nodes[row]));
+        let mut of_source: Vec<usize> = Nodes::parts_of_source(&nodes, row).collect();
+        of_source.sort_unstable();
+        assert!(Nodes::parts(&nodes, row).eq(of_source));
         let subtree = Nodes::subtree(&nodes, row);
         let parts: Vec<usize> = Nodes::parts(&nodes, row).map(|part| Nodes::subtree(&nodes, part).len()).collect();
         assert_eq!((parts.len(), parts.iter().sum::<usize>() + 1), (Node::part_count(&nodes[row]), subtree.len()));
@@ -143,7 +151,9 @@ fn row_is_taken(row: &Row) {
         assert_eq!((Node::row(&node), Node::span(&node)), (*row, span));
         assert_eq!(Op::of(row[0]), Some(Node::op(&node)));
         let of_a_label = (10..=19).contains(&row[0]);
-        assert!(Node::label(&node).is_none_or(|label| of_a_label && row.contains(&label)));
+        assert!(Node::label(&node).is_none_or(|label| of_a_label && row.contains(&label.0)));
+        assert_eq!(node.to_string().split(' ').next(), Some(Op::name(Node::op(&node))));
+        assert!(outline::pieces(&node).iter().all(|piece| node.to_string().contains(&piece.to_string())));
         assert!(Node::part_count(&node) <= u32::MAX as usize + 1);
     }
 }
@@ -235,8 +245,9 @@ fn huge_slices() {
         rows_are_taken(&huge, &huge, u32::MAX);
         tree_run::run(&reactive_build::rows(&good_table()).expect("a tree").concat(), &huge, &mut vec![7; 3_000_001]);
         let mut table = Table::default();
-        let instruction = Instruction { id: word, lvalue: word, value: Value::Other, span: None };
-        let switch = Table::switch(&mut table, word, &vec![Case { test: Some(word), block: word }; 300_000], word);
+        let (block, place) = (BlockRow(word), PlaceRow(word));
+        let instruction = Instruction { id: word, lvalue: place, value: Value::Other, span: None };
+        let switch = Table::switch(&mut table, place, &vec![Case { test: Some(place), block }; 300_000], block);
         Table::block(&mut table, &vec![instruction; 300_000], switch, word, None);
         assert!(matches!(reactive_build::rows(&Table::words(&table)), Err(Refusal { code: code::COUNT_LIMIT, .. })));
     }
@@ -281,12 +292,12 @@ fn columns_are_taken(number: u32, columns: [u32; 5]) {
 #[test]
 fn a_table_of_any_numbers() {
     for word in EDGES {
-        let mut table = Table { entry: word, places: vec![word], ..Table::default() };
-        let place = Table::place(&mut table, word);
-        let switch = Table::switch(&mut table, place, &[], word);
+        let mut table = Table { entry: BlockRow(word), places: vec![IdentifierRow(word)], ..Table::default() };
+        let place = Table::place(&mut table, IdentifierRow(word));
+        let switch = Table::switch(&mut table, place, &[], BlockRow(word));
         Table::block(&mut table, &[], switch, word, Span::of_words(word, 0));
         assert!(reactive_build::rows(&Table::words(&table)).is_err(), "it has no identifier");
-        assert_eq!((place, Table::identifier(&mut table, true)), (1, 0));
+        assert_eq!((place, Table::identifier(&mut table, true)), (PlaceRow(1), IdentifierRow(0)));
     }
 }
 

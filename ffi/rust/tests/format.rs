@@ -1,6 +1,6 @@
 //! The typed values are those of docs/FORMAT.md: its tables of ops, of codes, of refusals, read from the page.
 
-use reactive_build::table::{Ending, Table};
+use reactive_build::table::{Ending, PlaceRow, Table};
 use reactive_build::tree::Op;
 use reactive_build::{CODES, Refusal};
 
@@ -81,6 +81,6 @@ fn the_page_s_example_is_read_and_written() {
     let text = FORMAT.split("## An example").nth(1).expect("the example").split("```").nth(1).expect("its text");
     let words: Vec<u32> = text.split_whitespace().filter_map(|word| word.parse().ok()).collect();
     let table = Table::of_words(&words).expect("a table");
-    assert_eq!(table.blocks[0].ending, Ending::Return { value: 0 });
+    assert_eq!(table.blocks[0].ending, Ending::Return { value: PlaceRow(0) });
     assert_eq!(table.words(), words);
 }
