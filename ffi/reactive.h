@@ -275,7 +275,8 @@ uint32_t reactive_tree_run(const uint32_t *tree, size_t tree_length, const uint3
 
 /* ---- The blocks of a table as a graph in DOT ---- */
 
-/* So many bytes hold the text of any table: two lines of 12 and 2 bytes, and at most 1,049,600 of 16. */
+/* So many bytes hold the text of any table: two lines of 12 and 2 bytes, and at most 1,049,600 of 16. The text of one table needs 14
+ * bytes and 16 for each time that a row names a block; a Switch names its fallthrough and the block of each of its cases. */
 #define REACTIVE_BLOCKS_TO_DOT_LARGEST 16793614
 
 /* Draws the blocks of a table: a line for each time that a row names a block.

@@ -312,6 +312,34 @@ impl Ending {
         }
     }
 
+    /// The blocks that its columns name, in the order of the columns. A Switch also names those of its cases, which are rows of their own.
+    pub fn blocks(&self) -> impl Iterator<Item = BlockRow> + use<> {
+        let named = match *self {
+            Self::Missing | Self::Unreachable | Self::Throw { .. } | Self::Return { .. } => [None; 5],
+            Self::Goto { block, .. } => first([block]),
+            Self::If { consequent, alternate, fallthrough, .. } => first([consequent, alternate, fallthrough]),
+            Self::Branch { consequent, alternate, .. } => first([consequent, alternate]),
+            Self::Switch { fallthrough, .. } => first([fallthrough]),
+            Self::DoWhile { loop_block, test, fallthrough } => first([loop_block, test, fallthrough]),
+            Self::While { test, loop_block, fallthrough } => first([test, loop_block, fallthrough]),
+            Self::For { init, test, update, loop_block, fallthrough } => {
+                [Some(init), Some(test), update, Some(loop_block), Some(fallthrough)]
+            }
+            Self::ForOf { init, test, loop_block, fallthrough } => first([init, test, loop_block, fallthrough]),
+            Self::ForIn { init, loop_block, fallthrough } => first([init, loop_block, fallthrough]),
+            Self::Logical { test, fallthrough, .. } | Self::Ternary { test, fallthrough } | Self::Optional { test, fallthrough, .. } => {
+                first([test, fallthrough])
+            }
+            Self::Label { block, fallthrough }
+            | Self::Sequence { block, fallthrough }
+            | Self::Scope { block, fallthrough, .. }
+            | Self::PrunedScope { block, fallthrough, .. } => first([block, fallthrough]),
+            Self::MaybeThrow { continuation } => first([continuation]),
+            Self::Try { block, handler, fallthrough, .. } => first([block, handler, fallthrough]),
+        };
+        named.into_iter().flatten()
+    }
+
     /// The code of the table's column.
     pub const fn code(&self) -> u32 {
         match self {
@@ -344,6 +372,11 @@ impl Ending {
     pub const fn name(&self) -> &'static str {
         Self::NAMES[self.code() as usize]
     }
+}
+
+/// These, and nothing after them.
+fn first<const N: usize>(blocks: [BlockRow; N]) -> [Option<BlockRow>; 5] {
+    std::array::from_fn(|place| blocks.get(place).copied())
 }
 
 /// A row of the blocks: `count` instructions from row `first` on, then its ending.

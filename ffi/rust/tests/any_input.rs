@@ -84,7 +84,11 @@ fn words_are_taken(words: &[u32], lent: usize) {
     assert_eq!(plain::law(words).err(), table_check::is_table(words).err());
     let drawn = dot::draw(words, &mut text);
     assert!(!refused(drawn.code) || zeros(&text));
-    assert!(dot::text(words).is_ok() || refused(drawn.code));
+    assert!(dot::largest_of(words) <= dot::LARGEST);
+    match dot::text(words) {
+        Ok(text) => assert!(text.len() <= dot::largest_of(words)),
+        Err(refusal) => assert!(refused(drawn.code) && refusal.code != code::DRAWING_LENT),
+    }
     let placed = convert::write(words, &mut text);
     assert!(!refused(placed.code) || zeros(&text));
     let moved = order::rearrange(words, &mut tree, &mut index);
@@ -282,6 +286,7 @@ fn columns_are_taken(number: u32, columns: [u32; 5]) {
     if let Some(ending) = Ending::of_columns(number, columns) {
         assert_eq!((Ending::code(&ending), Ending::columns(&ending)), (number, columns));
         assert_eq!(Ending::name(&ending), Ending::NAMES[number as usize]);
+        assert!(Ending::blocks(&ending).all(|block| columns.contains(&block.0)));
     }
     let row = [e, d, number, a, b, c, d, e, a, b, c];
     assert!(Block::of_row(&row).is_none_or(|block| Block::row(&block) == row));
