@@ -38,6 +38,11 @@
 
 #![deny(missing_docs)]
 
+/// The page beside this crate: its example is run.
+#[cfg(doctest)]
+#[doc = include_str!("../README.md")]
+pub struct ReadMe;
+
 /// Declares the exports of the two entries (the Rust's rule and the language's), which have one signature, and its type.
 macro_rules! entries {
     ($entry:ident = $($name:ident),+: $arguments:tt) => {
