@@ -30,7 +30,7 @@
 //! | [`build`], [`build_language`] | a tree and its index into lent buffers, by the Rust's rule or the language's |
 //! | [`rows`], [`rows_language`] | the rows in memory of their own |
 //! | [`table`], [`tree`] | tables and trees as typed values |
-//! | [`outline`] | a tree in words |
+//! | [`outline`], [`columns`] | a tree in words; what each column of a row holds |
 //! | [`Refusal`], [`code`] | why there is no answer |
 //!
 //! The other modules are features, all on by default. They need nothing but the one archive: to leave one out makes nothing smaller that is
@@ -54,6 +54,7 @@ macro_rules! entries {
     };
 }
 
+pub mod columns;
 #[cfg(feature = "convert")]
 pub mod convert;
 #[cfg(feature = "dot")]

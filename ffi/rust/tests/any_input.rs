@@ -1,6 +1,7 @@
 //! Any input: every public function on empty, odd and huge slices, and on a good table and tree spoilt word by word. None panics but where
 //! its page says so, and where a call refuses, what was lent holds zeros. Each is called by its path (`every_public_function_is_called`).
 
+use reactive_build::columns::Holds;
 use reactive_build::outline;
 use reactive_build::table::{Block, BlockRow, Case, Ending, IdentifierRow, Instruction, PlaceRow, Table, Value, Variant};
 use reactive_build::table_check::Checked;
@@ -264,7 +265,8 @@ fn numbers_of_any_size() {
         let kinds = [Kind::of(number).map(Kind::number), Operator::of(number).map(Operator::number)];
         let others = [Variant::of(number).map(Variant::number), Op::of(number).map(Op::number)];
         assert!(kinds.into_iter().chain(others).flatten().all(|told| told == number));
-        assert!(Op::of(number).is_none_or(|op| !Op::name(op).is_empty()));
+        assert!(Op::of(number).is_none_or(|op| !Op::name(op).is_empty() && Op::columns(op).len() < 5));
+        assert_eq!(Ending::columns_of(number).is_some(), number < 22);
         let names = [Kind::of(number).map(Kind::name), Operator::of(number).map(Operator::name), Variant::of(number).map(Variant::name)];
         assert!(names.into_iter().all(|name| name.is_some() == (number < 3)));
         for word in EDGES {
@@ -287,6 +289,14 @@ fn columns_are_taken(number: u32, columns: [u32; 5]) {
         assert_eq!((Ending::code(&ending), Ending::columns(&ending)), (number, columns));
         assert_eq!(Ending::name(&ending), Ending::NAMES[number as usize]);
         assert!(Ending::blocks(&ending).all(|block| columns.contains(&block.0)));
+        let used = Ending::columns_of(number).expect("a code");
+        assert!(used.iter().all(|column| !Holds::name(column.holds).is_empty()));
+        let blocks = used.iter().zip(columns).filter(|(column, word)| match column.holds {
+            Holds::Block => true,
+            Holds::BlockOrNone => *word != 65_535,
+            _ => false,
+        });
+        assert!(blocks.map(|(_, word)| BlockRow(word)).eq(Ending::blocks(&ending)));
     }
     let row = [e, d, number, a, b, c, d, e, a, b, c];
     assert!(Block::of_row(&row).is_none_or(|block| Block::row(&block) == row));

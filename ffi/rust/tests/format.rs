@@ -1,5 +1,6 @@
 //! The typed values are those of docs/FORMAT.md: its tables of ops, of codes, of refusals, read from the page.
 
+use reactive_build::columns::{Column, Holds};
 use reactive_build::table::{Ending, PlaceRow, Table};
 use reactive_build::tree::Op;
 use reactive_build::{CODES, Refusal};
@@ -74,6 +75,43 @@ fn ops_have_the_names_of_the_page() {
 fn endings_have_the_names_of_the_page() {
     let endings: Vec<_> = (0..).zip(Ending::NAMES).collect();
     assert_eq!(numbers_and_names("| Code | Ends in |"), endings);
+}
+
+/// The page's words for a column.
+fn told(column: &Column) -> String {
+    let holds = match column.holds {
+        Holds::Block => "a block",
+        Holds::BlockOrNone => "a block or none",
+        Holds::Place => "a place",
+        Holds::PlaceOrNone => "a place or none",
+        Holds::Instruction => "an instruction",
+        Holds::Case => "a case",
+        Holds::Count => "a count",
+        Holds::Number => "a number",
+        Holds::Flag => "a flag",
+        Holds::Variant => "0 Break, 1 Continue, 2 Try",
+        Holds::Operator => "0 or, 1 and, 2 coalesce",
+        Holds::Kind => "0 Implicit, 1 Labeled, 2 Unlabeled",
+    };
+    format!("{}: {holds}", column.name)
+}
+
+/// The columns of the page's rows, a for each number that a row tells of.
+fn columns(names: &str, used: usize) -> Vec<Vec<String>> {
+    let rows = table(names).into_iter().flat_map(|row| {
+        let cells: Vec<String> = row[2..2 + used].iter().filter(|cell| !cell.is_empty()).map(|cell| cell.to_string()).collect();
+        vec![cells; row[0].split(", ").count()]
+    });
+    rows.collect()
+}
+
+#[test]
+fn columns_are_those_of_the_page() {
+    let ops = Op::ALL.iter().map(|op| op.columns().iter().map(told).collect::<Vec<_>>());
+    assert!(columns("| Op | Node |", 4).into_iter().eq(ops));
+    let endings = (0..22).map(|code| Ending::columns_of(code).expect("a code").iter().map(told).collect::<Vec<_>>());
+    assert!(columns("| Code | Ends in |", 5).into_iter().eq(endings));
+    assert_eq!(Ending::columns_of(22), None);
 }
 
 #[test]
