@@ -18,7 +18,7 @@ static const uint32_t tree[ROWS + 1][ROW_WORDS] = {
 
 static void check(size_t rows) {
     uint32_t at;
-    uint32_t code = tree_check(tree[0], rows * ROW_WORDS, &at);
+    uint32_t code = reactive_tree_check(tree[0], rows * ROW_WORDS, &at);
     printf("%zu rows: code %" PRIu32 " at %" PRIu32 "\n", rows, code, at);
 }
 

@@ -23,17 +23,17 @@ static void print(const char *what, uint32_t code, uint32_t at, size_t length, c
 int main(void) {
     uint32_t at;
     size_t length;
-    uint32_t code = table_old_to_new((const uint8_t *)old_file, strlen(old_file), new_text, sizeof new_text, &at, &length);
+    uint32_t code = reactive_table_old_to_new((const uint8_t *)old_file, strlen(old_file), new_text, sizeof new_text, &at, &length);
     print("old to new", code, at, length, new_text);
     size_t new_length = length;
-    code = table_new_to_old(new_text, new_length, old_text, sizeof old_text, &at, &length);
+    code = reactive_table_new_to_old(new_text, new_length, old_text, sizeof old_text, &at, &length);
     print("and back", code, at, length, old_text);
     printf("the same: %d\n", length == strlen(old_file) && memcmp(old_text, old_file, length) == 0);
-    code = table_old_to_new((const uint8_t *)old_file, strlen(old_file), new_text, new_length - 1, &at, &length);
+    code = reactive_table_old_to_new((const uint8_t *)old_file, strlen(old_file), new_text, new_length - 1, &at, &length);
     print("a byte too few lent", code, at, length, new_text);
-    code = table_write(words, sizeof words / sizeof words[0], new_text, sizeof new_text, &at, &length);
+    code = reactive_table_write(words, sizeof words / sizeof words[0], new_text, sizeof new_text, &at, &length);
     print("written", code, at, length, new_text);
-    code = table_new_to_old(new_text, length, old_text, sizeof old_text, &at, &length);
+    code = reactive_table_new_to_old(new_text, length, old_text, sizeof old_text, &at, &length);
     print("two ends", code, at, length, old_text);
     return 0;
 }

@@ -27,7 +27,7 @@ static uint8_t text[256];
 static size_t draw(size_t bytes_lent) {
     uint32_t at;
     size_t length;
-    uint32_t code = blocks_to_dot(table.head, sizeof table / sizeof(uint32_t), text, bytes_lent, &at, &length);
+    uint32_t code = reactive_blocks_to_dot(table.head, sizeof table / sizeof(uint32_t), text, bytes_lent, &at, &length);
     printf("code %" PRIu32 " at %" PRIu32 " length %zu\n", code, at, length);
     fwrite(text, 1, length, stdout);
     return length;

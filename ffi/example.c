@@ -19,7 +19,7 @@ static void print_row(const uint32_t *words) {
 static void print_line(const uint32_t *line, size_t label_words, uint32_t lines, size_t tree_words) {
     uint32_t at;
     size_t begin, end;
-    uint32_t code = tree_lookup(labels, label_words, lines, line[0], tree, tree_words, &at, &begin, &end);
+    uint32_t code = reactive_tree_lookup(labels, label_words, lines, line[0], tree, tree_words, &at, &begin, &end);
     printf("line %" PRIu32 " %" PRIu32 " %" PRIu32 ": code %" PRIu32 ", words %zu to %zu\n", line[0], line[1], line[2], code, begin, end);
 }
 

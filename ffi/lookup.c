@@ -16,12 +16,13 @@ static const uint32_t tree[ROWS][ROW_WORDS] = {
 };
 
 /* label, first row, closing row; then zeros */
-static const uint32_t labels[2][TREE_LOOKUP_LINE_WORDS] = {{3, 0, 3}};
+static const uint32_t labels[2][REACTIVE_TREE_LOOKUP_LINE_WORDS] = {{3, 0, 3}};
 
 static void find(uint32_t label, size_t rows) {
     uint32_t at;
     size_t begin, end;
-    uint32_t code = tree_lookup(labels[0], sizeof labels / sizeof labels[0][0], LINES, label, tree[0], rows * ROW_WORDS, &at, &begin, &end);
+    size_t label_words = sizeof labels / sizeof labels[0][0];
+    uint32_t code = reactive_tree_lookup(labels[0], label_words, LINES, label, tree[0], rows * ROW_WORDS, &at, &begin, &end);
     printf("label %" PRIu32 " in %zu rows: code %" PRIu32 " at %" PRIu32 ", words %zu to %zu\n", label, rows, code, at, begin, end);
 }
 

@@ -31,16 +31,16 @@ static const struct table table = {
 int main(void) {
     struct table walked, first;
     uint32_t old_numbers[BLOCKS], at;
-    uint32_t code = blocks_rearrange(table.head, WORDS, walked.head, WORDS, old_numbers, BLOCKS, &at);
+    uint32_t code = reactive_blocks_rearrange(table.head, WORDS, walked.head, WORDS, old_numbers, BLOCKS, &at);
     printf("code %" PRIu32 " at %" PRIu32 " entry %" PRIu32 "\n", code, at, walked.head[0]);
     for (size_t block = 0; block < BLOCKS; block++) {
         const uint32_t *row = walked.blocks[block];
         printf("%zu was %" PRIu32 ": %" PRIu32 " %" PRIu32 " %" PRIu32 " %" PRIu32 "\n", block, old_numbers[block], row[2], row[3], row[4], row[5]);
     }
-    code = blocks_restore(walked.head, WORDS, old_numbers, BLOCKS, first.head, WORDS, &at);
+    code = reactive_blocks_restore(walked.head, WORDS, old_numbers, BLOCKS, first.head, WORDS, &at);
     printf("code %" PRIu32 " at %" PRIu32 " %s\n", code, at, memcmp(&first, &table, sizeof table) == 0 ? "restored" : "not restored");
     old_numbers[0] = old_numbers[1];
-    code = blocks_restore(walked.head, WORDS, old_numbers, BLOCKS, first.head, WORDS, &at);
+    code = reactive_blocks_restore(walked.head, WORDS, old_numbers, BLOCKS, first.head, WORDS, &at);
     printf("code %" PRIu32 " at %" PRIu32 "\n", code, at);
     return 0;
 }

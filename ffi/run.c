@@ -26,7 +26,8 @@ static void show(const char *name) {
     static const uint32_t answers[] = {1, 0, 1, 1, 1, 1, 0};
     uint32_t performed[LENT], at, reason;
     size_t number;
-    uint32_t code = tree_run(tree[0], ROWS * ROW_WORDS, answers, sizeof answers / sizeof *answers, performed, LENT, &at, &number, &reason);
+    size_t answer_count = sizeof answers / sizeof *answers;
+    uint32_t code = reactive_tree_run(tree[0], ROWS * ROW_WORDS, answers, answer_count, performed, LENT, &at, &number, &reason);
     printf("%s: code %" PRIu32 " at %" PRIu32 " number %zu reason %" PRIu32 "\n", name, code, at, number, reason);
     for (size_t i = 0; i < number; i++) printf(i ? " %" PRIu32 : "%" PRIu32, performed[i]);
     printf("\n");

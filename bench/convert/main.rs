@@ -6,9 +6,9 @@ use std::time::Instant;
 
 unsafe extern "C" {
     // A slice is passed as its pointer and its length.
-    fn table_write(words: *const u32, len: usize, text: *mut u8, lent: usize, at: *mut u32, length: *mut usize) -> u32;
-    fn table_old_to_new(file: *const u8, len: usize, text: *mut u8, lent: usize, at: *mut u32, length: *mut usize) -> u32;
-    fn table_new_to_old(file: *const u8, len: usize, text: *mut u8, lent: usize, at: *mut u32, length: *mut usize) -> u32;
+    fn reactive_table_write(words: *const u32, len: usize, text: *mut u8, lent: usize, at: *mut u32, length: *mut usize) -> u32;
+    fn reactive_table_old_to_new(file: *const u8, len: usize, text: *mut u8, lent: usize, at: *mut u32, length: *mut usize) -> u32;
+    fn reactive_table_new_to_old(file: *const u8, len: usize, text: *mut u8, lent: usize, at: *mut u32, length: *mut usize) -> u32;
 }
 
 type Convert = unsafe extern "C" fn(*const u8, usize, *mut u8, usize, *mut u32, *mut usize) -> u32;
@@ -95,7 +95,8 @@ fn least<T>(mut run: impl FnMut() -> T) -> f64 {
 fn main() {
     println!("| Text | proved, µs | plain Rust, µs | times |\n|---|---|---|---|");
     let mut room = vec![0u8; 65_542];
-    for (name, form, convert) in [("old to new", 0, table_old_to_new as Convert), ("new to old", 1, table_new_to_old as Convert)] {
+    let converters = [("old to new", 0, reactive_table_old_to_new as Convert), ("new to old", 1, reactive_table_new_to_old as Convert)];
+    for (name, form, convert) in converters {
         for span in [0, 65_535] {
             let file = file(form, span);
             let (mut at, mut length) = (0, 0);
@@ -110,7 +111,7 @@ fn main() {
     }
     let table = words(&file(1, 65_535));
     let (mut at, mut length) = (0, 0);
-    let mut run = || unsafe { table_write(table.as_ptr(), table.len(), room.as_mut_ptr(), room.len(), &mut at, &mut length) };
+    let mut run = || unsafe { reactive_table_write(table.as_ptr(), table.len(), room.as_mut_ptr(), room.len(), &mut at, &mut length) };
     assert_eq!(run(), 0);
     let proved = least(&mut run);
     let plain = least(|| text(1, &table));

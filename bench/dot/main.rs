@@ -5,12 +5,12 @@ use std::time::Instant;
 
 unsafe extern "C" {
     // A slice is passed as its pointer and its length.
-    fn blocks_to_dot(words: *const u32, len: usize, text: *mut u8, lent: usize, at: *mut u32, length: *mut usize) -> u32;
+    fn reactive_blocks_to_dot(words: *const u32, len: usize, text: *mut u8, lent: usize, at: *mut u32, length: *mut usize) -> u32;
 }
 
 fn proved(words: &[u32], text: &mut [u8]) -> (u32, usize) {
     let (mut at, mut length) = (0, 0);
-    let code = unsafe { blocks_to_dot(words.as_ptr(), words.len(), text.as_mut_ptr(), text.len(), &mut at, &mut length) };
+    let code = unsafe { reactive_blocks_to_dot(words.as_ptr(), words.len(), text.as_mut_ptr(), text.len(), &mut at, &mut length) };
     (code, length)
 }
 

@@ -5,14 +5,18 @@ use std::time::Instant;
 
 unsafe extern "C" {
     // A slice is passed as its pointer and its length.
-    fn tree_lookup(index: *const u32, index_len: usize, lines: u32, label: u32, tree: *const u32, tree_len: usize, at: *mut u32, begin: *mut usize, end: *mut usize) -> u32;
+    fn reactive_tree_lookup(
+        index: *const u32, index_len: usize, lines: u32, label: u32, tree: *const u32, tree_len: usize, at: *mut u32, begin: *mut usize,
+        end: *mut usize,
+    ) -> u32;
 }
 
 type Answer = (u32, usize, usize);
 
 fn proved(index: &[u32], lines: u32, label: u32, tree: &[u32]) -> Answer {
     let (mut at, mut begin, mut end) = (0, 0, 0);
-    let code = unsafe { tree_lookup(index.as_ptr(), index.len(), lines, label, tree.as_ptr(), tree.len(), &mut at, &mut begin, &mut end) };
+    let (words, rows) = (index.as_ptr(), tree.as_ptr());
+    let code = unsafe { reactive_tree_lookup(words, index.len(), lines, label, rows, tree.len(), &mut at, &mut begin, &mut end) };
     (code, begin, end)
 }
 

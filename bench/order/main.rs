@@ -6,22 +6,24 @@ use std::time::Instant;
 
 unsafe extern "C" {
     // A slice is passed as its pointer and its length.
-    fn blocks_rearrange(words: *const u32, len: usize, new: *mut u32, new_len: usize, old: *mut u32, old_len: usize, at: *mut u32) -> u32;
-    fn blocks_restore(words: *const u32, len: usize, old: *const u32, old_len: usize, first: *mut u32, first_len: usize, at: *mut u32) -> u32;
+    fn reactive_blocks_rearrange(
+        words: *const u32, len: usize, new: *mut u32, new_len: usize, old: *mut u32, old_len: usize, at: *mut u32,
+    ) -> u32;
+    fn reactive_blocks_restore(
+        words: *const u32, len: usize, old: *const u32, old_len: usize, first: *mut u32, first_len: usize, at: *mut u32,
+    ) -> u32;
 }
 
 fn rearrange(words: &[u32], new_words: &mut [u32], old_numbers: &mut [u32]) -> u32 {
     let mut at = 0;
-    unsafe {
-        blocks_rearrange(words.as_ptr(), words.len(), new_words.as_mut_ptr(), new_words.len(), old_numbers.as_mut_ptr(), old_numbers.len(), &mut at)
-    }
+    let (new, old) = (new_words.as_mut_ptr(), old_numbers.as_mut_ptr());
+    unsafe { reactive_blocks_rearrange(words.as_ptr(), words.len(), new, new_words.len(), old, old_numbers.len(), &mut at) }
 }
 
 fn restore(words: &[u32], old_numbers: &[u32], first_words: &mut [u32]) -> u32 {
     let mut at = 0;
-    unsafe {
-        blocks_restore(words.as_ptr(), words.len(), old_numbers.as_ptr(), old_numbers.len(), first_words.as_mut_ptr(), first_words.len(), &mut at)
-    }
+    let (old, first) = (old_numbers.as_ptr(), first_words.as_mut_ptr());
+    unsafe { reactive_blocks_restore(words.as_ptr(), words.len(), old, old_numbers.len(), first, first_words.len(), &mut at) }
 }
 
 const BLOCK: usize = 11;

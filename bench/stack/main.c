@@ -28,18 +28,18 @@ static void build(void) { code = reactive_build(words, word_count, tree, 24, lin
 static void build_language(void) { code = reactive_build_language(words, word_count, tree, MOST_WORDS, lines, 4096, &at, &a, &b, &c); }
 static void preview(void) { code = reactive_preview(words, word_count, &at, &a, &b, &c); }
 static void preview_language(void) { code = reactive_preview_language(words, word_count, &at, &a, &b, &c); }
-static void dot(void) { code = blocks_to_dot(words, word_count, text, MOST_BYTES, &at, &end); }
-static void rearrange(void) { code = blocks_rearrange(words, word_count, tree, word_count, list, words[1], &at); }
-static void restore(void) { code = blocks_restore(words, word_count, list, words[1], tree, word_count, &at); }
-static void write_text(void) { code = table_write(words, word_count, text, MOST_BYTES, &at, &end); }
-static void old_to_new(void) { code = table_old_to_new(file, file_length, text, MOST_BYTES, &at, &end); }
-static void new_to_old(void) { code = table_new_to_old(file, file_length, text, MOST_BYTES, &at, &end); }
-static void check(void) { code = tree_check(words, word_count, &at); }
-static void lookup(void) { code = tree_lookup(lines, 3072, 1024, 1023, words, word_count, &at, &begin, &end); }
-static void run(void) { code = tree_run(words, word_count, list, 1024, tree, 1024, &at, &end, &a); }
-static void check_words(void) { code = table_check(words, word_count, &at); }
-static void read_words(void) { code = table_read(file, file_length, tree, MOST_WORDS, &at, &end); }
-static void plain(void) { code = table_plain(words, word_count, &at, &a); }
+static void dot(void) { code = reactive_blocks_to_dot(words, word_count, text, MOST_BYTES, &at, &end); }
+static void rearrange(void) { code = reactive_blocks_rearrange(words, word_count, tree, word_count, list, words[1], &at); }
+static void restore(void) { code = reactive_blocks_restore(words, word_count, list, words[1], tree, word_count, &at); }
+static void write_text(void) { code = reactive_table_write(words, word_count, text, MOST_BYTES, &at, &end); }
+static void old_to_new(void) { code = reactive_table_old_to_new(file, file_length, text, MOST_BYTES, &at, &end); }
+static void new_to_old(void) { code = reactive_table_new_to_old(file, file_length, text, MOST_BYTES, &at, &end); }
+static void check(void) { code = reactive_tree_check(words, word_count, &at); }
+static void lookup(void) { code = reactive_tree_lookup(lines, 3072, 1024, 1023, words, word_count, &at, &begin, &end); }
+static void run(void) { code = reactive_tree_run(words, word_count, list, 1024, tree, 1024, &at, &end, &a); }
+static void check_words(void) { code = reactive_table_check(words, word_count, &at); }
+static void read_words(void) { code = reactive_table_read(file, file_length, tree, MOST_WORDS, &at, &end); }
+static void plain(void) { code = reactive_table_plain(words, word_count, &at, &a); }
 static void nothing(void) {}
 
 static size_t taken(void (*call)(void)) {
@@ -282,7 +282,7 @@ static void file_of(int number) {
     file_length = number == 2 ? 100 : (size_t)(here - (char *)file);
 }
 
-static void numbers(int number) { /* the list of blocks_restore: each block keeps its number */
+static void numbers(int number) { /* the list of reactive_blocks_restore: each block keeps its number */
     shape(2 + number);
     for (uint32_t row = 0; row < 1024; row++) list[row] = row;
 }
@@ -304,18 +304,18 @@ int main(int count, char **given) {
         {"reactive_build_language", build_language, shape, SHAPES},
         {"reactive_preview", preview, shape, SHAPES},
         {"reactive_preview_language", preview_language, shape, SHAPES},
-        {"blocks_to_dot", dot, shape, WHOLE},
-        {"tree_check", check, tree_of, 3},
-        {"tree_lookup", lookup, line_of, 1},
-        {"tree_run", run, tree_of, 3},
-        {"table_write", write_text, shape, WHOLE},
-        {"table_old_to_new", old_to_new, file_of, 3},
-        {"table_new_to_old", new_to_old, file_of, 3},
-        {"blocks_rearrange", rearrange, shape, WHOLE},
-        {"blocks_restore", restore, numbers, 2},
-        {"table_check", check_words, shape, WHOLE},
-        {"table_read", read_words, file_of, 3},
-        {"table_plain", plain, shape, WHOLE},
+        {"reactive_blocks_to_dot", dot, shape, WHOLE},
+        {"reactive_tree_check", check, tree_of, 3},
+        {"reactive_tree_lookup", lookup, line_of, 1},
+        {"reactive_tree_run", run, tree_of, 3},
+        {"reactive_table_write", write_text, shape, WHOLE},
+        {"reactive_table_old_to_new", old_to_new, file_of, 3},
+        {"reactive_table_new_to_old", new_to_old, file_of, 3},
+        {"reactive_blocks_rearrange", rearrange, shape, WHOLE},
+        {"reactive_blocks_restore", restore, numbers, 2},
+        {"reactive_table_check", check_words, shape, WHOLE},
+        {"reactive_table_read", read_words, file_of, 3},
+        {"reactive_table_plain", plain, shape, WHOLE},
     };
     for (size_t each = 0; each < sizeof calls / sizeof *calls; each++)
         printf("%s %zu\n", calls[each].name, most(calls[each].call, calls[each].make, calls[each].number) - own);

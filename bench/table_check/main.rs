@@ -5,12 +5,12 @@ use std::time::Instant;
 
 unsafe extern "C" {
     // A slice is passed as its pointer and its length.
-    fn table_check(words: *const u32, len: usize, at: *mut u32) -> u32;
+    fn reactive_table_check(words: *const u32, len: usize, at: *mut u32) -> u32;
 }
 
 fn proved(words: &[u32]) -> (u32, u32) {
     let mut at = 0;
-    let code = unsafe { table_check(words.as_ptr(), words.len(), &mut at) };
+    let code = unsafe { reactive_table_check(words.as_ptr(), words.len(), &mut at) };
     (code, at)
 }
 

@@ -5,12 +5,12 @@ use std::time::Instant;
 
 unsafe extern "C" {
     // A slice is passed as its pointer and its length.
-    fn tree_check(tree: *const u32, len: usize, at: *mut u32) -> u32;
+    fn reactive_tree_check(tree: *const u32, len: usize, at: *mut u32) -> u32;
 }
 
 fn proved(tree: &[u32]) -> (u32, u32) {
     let mut at = 0;
-    let code = unsafe { tree_check(tree.as_ptr(), tree.len(), &mut at) };
+    let code = unsafe { reactive_tree_check(tree.as_ptr(), tree.len(), &mut at) };
     (code, at)
 }
 

@@ -5,7 +5,7 @@ use std::process::{Command, Stdio};
 
 unsafe extern "C" {
     // A slice is passed as its pointer and its length.
-    fn tree_run(
+    fn reactive_tree_run(
         tree: *const u32,
         tree_len: usize,
         answers: *const u32,
@@ -30,7 +30,8 @@ fn now() -> f64 {
 fn proved(tree: &[u32], answers: &[u32], performed: &mut [u32]) -> (u32, u32, usize, u32) {
     let (mut at, mut number, mut reason) = (0, 0, 0);
     let (p, n) = (performed.as_mut_ptr(), performed.len());
-    let code = unsafe { tree_run(tree.as_ptr(), tree.len(), answers.as_ptr(), answers.len(), p, n, &mut at, &mut number, &mut reason) };
+    let (rows, asked) = (tree.as_ptr(), answers.as_ptr());
+    let code = unsafe { reactive_tree_run(rows, tree.len(), asked, answers.len(), p, n, &mut at, &mut number, &mut reason) };
     (code, at, number, reason)
 }
 

@@ -2,7 +2,7 @@
 
 use crate::escape::html;
 use crate::names;
-use reactive_build::table::Table;
+use reactive_build::table::{BlockRow, Table};
 use std::io::{Read, Write};
 use std::process::{Child, Command, Stdio};
 use std::thread;
@@ -109,11 +109,11 @@ pub fn svg(layout: &Layout, table: &Table) -> String {
         width / 13.0,
         height / 13.0
     );
-    let mut named: Vec<Vec<(String, u32)>> = table.blocks.iter().map(|block| names::targets(&block.ending, &table.cases)).collect();
+    let mut named: Vec<Vec<(String, BlockRow)>> = table.blocks.iter().map(|block| names::targets(&block.ending, &table.cases)).collect();
     for (tail, head, points) in &layout.edges {
         // Which of its columns this line is: the first with that block that is left.
         let role = named.get_mut(*tail).and_then(|named| {
-            let place = named.iter().position(|(_, block)| *block as usize == *head)?;
+            let place = named.iter().position(|(_, block)| usize::from(*block) == *head)?;
             Some(named.remove(place).0)
         });
         out.push_str(&edge(*tail, *head, points, role.as_deref().unwrap_or("")));
@@ -149,7 +149,7 @@ fn edge(tail: usize, head: usize, points: &[[f64; 2]], role: &str) -> String {
 
 fn node(number: usize, x: f64, y: f64, table: &Table) -> String {
     let Some(block) = table.blocks.get(number) else { return String::new() };
-    let entry = if number == table.entry as usize { " entry" } else { "" };
+    let entry = if number == usize::from(table.entry) { " entry" } else { "" };
     let title = format!("block {number}: {}, {}", names::instructions(block), names::ending(&block.ending));
     format!(
         r#"<g class="block{entry}" data-b="{number}"><title>{}</title><rect x="{:.1}" y="{:.1}" width="{WIDTH}" height="{HEIGHT}" rx="6"/><text class="n" x="{:.1}" y="{:.1}">{number}</text><text x="{:.1}" y="{:.1}">{}</text></g>"#,

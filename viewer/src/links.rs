@@ -3,7 +3,7 @@
 
 use crate::outline::roles;
 use reactive_build::Span;
-use reactive_build::table::{Block, Ending, Table, Variant};
+use reactive_build::table::{Block, BlockRow, Ending, InstructionRow, Table, Variant};
 use reactive_build::tree::{Node, Nodes};
 
 /// Of one row.
@@ -36,8 +36,8 @@ pub fn links(nodes: &Nodes, table: Option<&Table>) -> Vec<Link> {
 }
 
 /// The blocks that have the instruction.
-fn having(table: &Table, instruction: u32) -> Vec<usize> {
-    made_by(table, |block| instruction.checked_sub(block.first).is_some_and(|place| place < block.count))
+fn having(table: &Table, instruction: InstructionRow) -> Vec<usize> {
+    made_by(table, |block| instruction.0.checked_sub(block.first.0).is_some_and(|place| place < block.count))
 }
 
 /// No more blocks than these are taken for those of one row.
@@ -55,7 +55,7 @@ fn is_value(ending: &Ending) -> bool {
 
 /// Whether the row can be that of the block's ending: its sort, its id and the columns that both have.
 fn makes(block: &Block, node: &Node) -> bool {
-    let at = |id: u32, label: Option<u32>, fallthrough: u32| id == block.id && label.is_none_or(|label| label == fallthrough);
+    let at = |id: u32, label: Option<BlockRow>, fallthrough: BlockRow| id == block.id && label.is_none_or(|label| label == fallthrough);
     match (block.ending, *node) {
         (Ending::If { test, fallthrough, .. }, Node::If { test: place, id, label, .. }) => at(id, label, fallthrough) && test == place,
         (Ending::Branch { test, .. }, Node::If { test: place, id, .. }) => id == block.id && test == place,
@@ -83,7 +83,7 @@ fn makes(block: &Block, node: &Node) -> bool {
 
 fn spanned(node: &Node, table: &Table, blocks: &[usize]) -> Option<Span> {
     match *node {
-        Node::Plain { instruction } => table.instructions.get(instruction as usize)?.span,
+        Node::Plain { instruction } => table.instructions.get(usize::from(instruction))?.span,
         Node::Instr { .. } => None,
         _ => table.blocks[*blocks.first()?].span,
     }
@@ -91,19 +91,19 @@ fn spanned(node: &Node, table: &Table, blocks: &[usize]) -> Option<Span> {
 
 /// The values of a loop belong to the blocks that its ending names for them.
 fn value_blocks(nodes: &Nodes, table: &Table, row: usize, links: &mut [Link]) {
-    let named: Vec<(usize, u32)> =
+    let named: Vec<(usize, BlockRow)> =
         links[row].blocks.iter().flat_map(|block| loop_values(&table.blocks[*block].ending, &nodes[row])).collect();
     let parts: Vec<usize> = nodes.parts(row).collect();
     for (part, block) in named {
         let blocks = &mut links[parts[part]].blocks;
-        if !blocks.contains(&(block as usize)) {
-            blocks.push(block as usize);
+        if !blocks.contains(&usize::from(block)) {
+            blocks.push(block.into());
         }
     }
 }
 
 /// Of a loop: the place of each value among its parts, and the block that the value begins with.
-fn loop_values(ending: &Ending, node: &Node) -> Vec<(usize, u32)> {
+fn loop_values(ending: &Ending, node: &Node) -> Vec<(usize, BlockRow)> {
     let named = match *ending {
         Ending::DoWhile { test, .. } | Ending::While { test, .. } => vec![("test", test)],
         Ending::For { init, test, update, .. } => {

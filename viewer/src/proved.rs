@@ -1,7 +1,7 @@
 //! The proved functions, as the pages need them. Nothing else here asks them, and nothing that they answer is worked out elsewhere.
 
 use reactive_build::preview::{tree, tree_language};
-use reactive_build::tree::{Nodes, Row};
+use reactive_build::tree::{BlockRow, Nodes, Row};
 use reactive_build::{LINE_WORDS, Refusal, convert, dot, lookup, plain, table_check, tree_check, tree_run};
 use std::ops::Range;
 
@@ -53,9 +53,8 @@ pub fn build(words: &[u32], rule: Rule) -> Result<Built, Refusal> {
         Rule::Rust => tree(words)?,
         Rule::Language => tree_language(words)?,
     };
-    let rows = built.rows.as_chunks().0.to_vec();
-    let nodes = Nodes::of(&rows).expect("the rows of a build are those of one tree");
-    Ok(Built { rows, nodes, visits: built.visits, index: built.index, lines: built.lines })
+    let nodes = Nodes::of(&built.rows).expect("the rows of a build are those of one tree");
+    Ok(Built { rows: built.rows, nodes, visits: built.visits, index: built.index, lines: built.lines })
 }
 
 /// The tree of rows that are stored, without an index: it finds no label.
@@ -67,14 +66,14 @@ pub fn stored(rows: Vec<Row>) -> Result<Built, Refusal> {
 
 impl Built {
     /// The labels of its statements, in the order of the index.
-    pub fn labels(&self) -> Vec<u32> {
-        self.index.chunks_exact(LINE_WORDS).take(self.lines as usize).map(|line| line[0]).collect()
+    pub fn labels(&self) -> Vec<BlockRow> {
+        self.index.chunks_exact(LINE_WORDS).take(self.lines as usize).map(|line| BlockRow(line[0])).collect()
     }
 
     /// The rows of the statement that bears the label, its closing row last.
-    pub fn statement(&self, label: u32) -> Result<Range<usize>, Refusal> {
+    pub fn statement(&self, label: BlockRow) -> Result<Range<usize>, Refusal> {
         let words = self.rows.as_flattened();
-        let found = lookup::find(&self.index, self.lines, label, words);
+        let found = lookup::find(&self.index, self.lines, label.0, words);
         match found.code {
             0 => Ok(found.begin / 6..found.end / 6),
             code => Err(Refusal { code, at: found.at }),

@@ -7,7 +7,7 @@ use crate::outline;
 use crate::proved::{Built, Law, Reason, Run};
 use crate::source::Source;
 use reactive_build::Span;
-use reactive_build::table::Table;
+use reactive_build::table::{BlockRow, Table};
 use reactive_build::tree::{Node, Nodes};
 
 /// The text of a span is shown with so many characters at most.
@@ -19,7 +19,7 @@ const MOST_ALIGNED: usize = 80;
 /// Which run law speaks of a table, in words.
 pub fn law(law: Law) -> &'static str {
     match law {
-        Law::Paper01 => "Paper 01's: by either entry the tree performs the same instructions as the blocks.",
+        Law::Plain => "Paper 01's: by either entry the tree performs the same instructions as the blocks.",
         Law::Switches => "M-113's: by the language entry the tree performs the same instructions as the blocks.",
         Law::Loops => {
             "Ours, beyond the papers: by the language entry the tree performs the same instructions as the blocks, and by the first too where there is no Switch."
@@ -34,7 +34,7 @@ pub fn blocks(table: &Table, source: Option<&Source>) -> String {
     let said: Vec<String> = table.blocks.iter().map(names::instructions).collect();
     let first = said.iter().map(String::len).max().unwrap_or(0);
     let lines = table.blocks.iter().zip(said).enumerate().map(|(number, (block, instructions))| {
-        let entry = if number == table.entry as usize { ">" } else { " " };
+        let entry = if number == usize::from(table.entry) { ">" } else { " " };
         let goes = goes(&names::targets(&block.ending, &table.cases));
         let words = format!("{entry}{number:>width$}  {instructions:first$}  {}{goes}", names::ending(&block.ending));
         (words, block.span)
@@ -43,7 +43,7 @@ pub fn blocks(table: &Table, source: Option<&Source>) -> String {
 }
 
 /// "; consequent 3, alternate 4"
-fn goes(targets: &[(String, u32)]) -> String {
+fn goes(targets: &[(String, BlockRow)]) -> String {
     let named: Vec<String> = targets.iter().map(|(role, block)| format!("{role} {block}")).collect();
     if named.is_empty() { String::new() } else { format!(": {}", named.join(", ")) }
 }
@@ -54,7 +54,7 @@ pub fn tree(built: &Built, table: Option<&Table>, source: Option<&Source>) -> St
     let links = links(&built.nodes, table);
     let lines = outline::lines(&built.nodes).into_iter().map(|line| {
         let role = if line.role.is_empty() { String::new() } else { format!("{}: ", line.role) };
-        let words = format!("{:>width$}  {:indent$}{role}{}", line.row, "", row(&built.nodes[line.row]), indent = 2 * line.depth);
+        let words = format!("{:>width$}  {:indent$}{role}{}", line.row, "", built.nodes[line.row], indent = 2 * line.depth);
         (words, shown_span(line.row, &built.nodes, &links))
     });
     aligned(lines.collect(), source)
@@ -65,13 +65,6 @@ pub fn shown_span(row: usize, nodes: &Nodes, links: &[Link]) -> Option<Span> {
     let around = nodes.as_slice().get(row + 1).filter(|node| matches!(node, Node::Instr { .. }));
     let again = around.is_some() && links[row + 1].span == links[row].span;
     links[row].span.filter(|_| !again)
-}
-
-/// A row with the name of its op.
-pub fn row(node: &Node) -> String {
-    let said = names::said(&names::row(node));
-    let space = if said.is_empty() { "" } else { " " };
-    format!("{}{space}{said}", node.op().name())
 }
 
 /// A line an instruction performed, the answers between them, and the reason.

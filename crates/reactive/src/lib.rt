@@ -1,4 +1,5 @@
-// The library for C (ffi/reactive.h): each function calls the library function of its name, and promises the same.
+// The library for C (ffi/reactive.h). Each function has the prefix `reactive_` and the name of a function in a room below, which it calls
+// and whose promise it has.
 #![tactic(auto)]
 
 ghost use Rattle.std.specs.Prelude.{◌≡◌, length};
@@ -74,7 +75,7 @@ pub extern "C" fn reactive_preview_language(
 }
 
 #[unsafe(no_mangle)]
-pub extern "C" fn tree_lookup(
+pub extern "C" fn reactive_tree_lookup(
     index: &[u32],
     lines: u32,
     label: u32,
@@ -89,14 +90,14 @@ pub extern "C" fn tree_lookup(
 }
 
 #[unsafe(no_mangle)]
-pub extern "C" fn tree_check(tree: &[u32], at: &mut u32) -> u32
+pub extern "C" fn reactive_tree_check(tree: &[u32], at: &mut u32) -> u32
     ensures { record { code = result; at = at.new } ≡ tree_checked tree.now }
 {
     tree_check::tree_check(tree, at)
 }
 
 #[unsafe(no_mangle)]
-pub extern "C" fn tree_run(
+pub extern "C" fn reactive_tree_run(
     tree: &[u32],
     answers: &[u32],
     performed: &mut [u32],
@@ -110,7 +111,7 @@ pub extern "C" fn tree_run(
 }
 
 #[unsafe(no_mangle)]
-pub extern "C" fn blocks_to_dot(
+pub extern "C" fn reactive_blocks_to_dot(
     words: &[u32],
     text: &mut [u8],
     at: &mut u32,
@@ -122,21 +123,31 @@ pub extern "C" fn blocks_to_dot(
 }
 
 #[unsafe(no_mangle)]
-pub extern "C" fn table_write(words: &[u32], text: &mut [u8], at: &mut u32, size: &mut usize) -> u32
+pub extern "C" fn reactive_table_write(
+    words: &[u32],
+    text: &mut [u8],
+    at: &mut u32,
+    size: &mut usize,
+) -> u32
     ensures { record { code = result; at = at.new; length = size.new; buffer = text.new } ≡ table_written words.now (length text.old) }
 {
     convert::writing::table_write(words, text, at, size)
 }
 
 #[unsafe(no_mangle)]
-pub extern "C" fn table_read(file: &[u8], words: &mut [u32], at: &mut u32, count: &mut usize) -> u32
+pub extern "C" fn reactive_table_read(
+    file: &[u8],
+    words: &mut [u32],
+    at: &mut u32,
+    count: &mut usize,
+) -> u32
     ensures { record { code = result; at = at.new; count = count.new; lent = words.new } ≡ table_read file.now (length words.old) }
 {
     convert::table_read::table_read(file, words, at, count)
 }
 
 #[unsafe(no_mangle)]
-pub extern "C" fn table_old_to_new(
+pub extern "C" fn reactive_table_old_to_new(
     file: &[u8],
     text: &mut [u8],
     at: &mut u32,
@@ -148,7 +159,7 @@ pub extern "C" fn table_old_to_new(
 }
 
 #[unsafe(no_mangle)]
-pub extern "C" fn table_new_to_old(
+pub extern "C" fn reactive_table_new_to_old(
     file: &[u8],
     text: &mut [u8],
     at: &mut u32,
@@ -160,7 +171,7 @@ pub extern "C" fn table_new_to_old(
 }
 
 #[unsafe(no_mangle)]
-pub extern "C" fn blocks_rearrange(
+pub extern "C" fn reactive_blocks_rearrange(
     words: &[u32],
     new_words: &mut [u32],
     old_numbers: &mut [u32],
@@ -172,7 +183,7 @@ pub extern "C" fn blocks_rearrange(
 }
 
 #[unsafe(no_mangle)]
-pub extern "C" fn blocks_restore(
+pub extern "C" fn reactive_blocks_restore(
     words: &[u32],
     old_numbers: &[u32],
     first_words: &mut [u32],
@@ -184,14 +195,14 @@ pub extern "C" fn blocks_restore(
 }
 
 #[unsafe(no_mangle)]
-pub extern "C" fn table_check(words: &[u32], at: &mut u32) -> u32
+pub extern "C" fn reactive_table_check(words: &[u32], at: &mut u32) -> u32
     ensures { (result ≡ code_of (checked words.now)) × (at.new ≡ place_of (checked words.now)) }
 {
     table_check::table_check(words, at)
 }
 
 #[unsafe(no_mangle)]
-pub extern "C" fn table_plain(words: &[u32], at: &mut u32, number: &mut u32) -> u32
+pub extern "C" fn reactive_table_plain(words: &[u32], at: &mut u32, number: &mut u32) -> u32
     ensures value { (result ≡ code_of (checked words.now)) × (at.new ≡ place_of (checked words.now)) }
     ensures number_after { number.new ≡ plainness_of words.now }
 {

@@ -9,9 +9,9 @@ use while_table::TABLE;
 fn main() {
     let told = preview(&TABLE);
     print("preview", told);
-    let mut rows = vec![0; told.rows as usize * ROW_WORDS];
+    let mut rows = vec![[0; ROW_WORDS]; told.rows as usize];
     let mut index = vec![0; told.lines as usize * LINE_WORDS];
-    print("build", build(&TABLE, &mut rows, &mut index));
+    print("build", build(&TABLE, rows.as_flattened_mut(), &mut index));
     // The same in one call.
     assert_eq!(tree(&TABLE), Ok(Tree { rows, index, lines: told.lines, visits: told.visits }));
 

@@ -1,6 +1,6 @@
 //! A table made of typed values, `while (pairs) { next }  return pairs`; its tree, walked node by node; and a table that is refused.
 
-use reactive_build::table::{Ending, Instruction, Table, Value, Variant};
+use reactive_build::table::{BlockRow, Ending, Instruction, Table, Value, Variant};
 use reactive_build::tree::{Node, Nodes};
 use reactive_build::{Refusal, Span, rows};
 
@@ -9,9 +9,10 @@ fn main() -> Result<(), Refusal> {
     let named = table.identifier(true);
     let pairs = table.place(named);
     let next = Instruction { id: 3, lvalue: pairs, value: Value::Other, span: Some(Span { from: 17, to: 21 }) };
-    table.block(&[], Ending::While { test: 1, loop_block: 2, fallthrough: 3 }, 1, None);
-    table.block(&[], Ending::Branch { test: pairs, consequent: 2, alternate: 3 }, 2, None);
-    table.block(&[next], Ending::Goto { block: 1, variant: Variant::Continue }, 4, None);
+    let [test, body, after] = [1, 2, 3].map(BlockRow);
+    table.entry = table.block(&[], Ending::While { test, loop_block: body, fallthrough: after }, 1, None);
+    table.block(&[], Ending::Branch { test: pairs, consequent: body, alternate: after }, 2, None);
+    table.block(&[next], Ending::Goto { block: test, variant: Variant::Continue }, 4, None);
     table.block(&[], Ending::Return { value: pairs }, 5, None);
 
     let rows = rows(&table.words())?;
@@ -26,7 +27,10 @@ fn main() -> Result<(), Refusal> {
         }
     }
 
-    table.blocks[0].ending = Ending::While { test: 1, loop_block: 2, fallthrough: 1 };
+    // The same in words.
+    print!("{nodes}");
+
+    table.blocks[0].ending = Ending::While { test, loop_block: body, fallthrough: test };
     if let Err(refusal) = reactive_build::rows(&table.words()) {
         println!("refused: {refusal}");
     }

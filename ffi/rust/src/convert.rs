@@ -12,39 +12,49 @@ pub const NEW_LARGEST: usize = 65_542;
 /// So many bytes hold the old text of any new file.
 pub const OLD_LARGEST: usize = 32_768;
 
-writers! { table_write: u32, table_old_to_new: u8, table_new_to_old: u8 }
+writers! { reactive_table_write: u32, reactive_table_old_to_new: u8, reactive_table_new_to_old: u8 }
 
 // SAFETY of the three calls: the exports read and write nothing but what they are handed.
 
 /// Writes a table's words into a lent buffer, both of any content and length. The buffer then holds the
 /// text and after it zeros; zeros alone if refused, 53 if the text does not fit.
 pub fn write(words: &[u32], text: &mut [u8]) -> Placed {
-    unsafe { place(table_write, words, text) }
+    unsafe { place(reactive_table_write, words, text) }
 }
 
 /// A file of the old form in the new one: a span s becomes from s and to s.
 pub fn old_to_new(file: &[u8], text: &mut [u8]) -> Placed {
-    unsafe { place(table_old_to_new, file, text) }
+    unsafe { place(reactive_table_old_to_new, file, text) }
 }
 
 /// A file of the new form in the old one; 52 where the ends of a span differ.
 pub fn new_to_old(file: &[u8], text: &mut [u8]) -> Placed {
-    unsafe { place(table_new_to_old, file, text) }
+    unsafe { place(reactive_table_new_to_old, file, text) }
 }
 
 /// So many words hold those of any file.
 pub const MOST_WORDS: usize = 16_384;
 
-/// Code (0 accepted), at, and the number of words.
+/// What a reading gives beside the words.
 #[derive(Clone, Copy, Debug, PartialEq, Eq)]
 pub struct WordsRead {
+    /// 0, or 50, 51 or 54 of [`code`](crate::code).
     pub code: u32,
+    /// Refused 50 the byte of the file, else 0.
     pub at: u32,
+    /// How many words the file has; refused 0.
     pub count: usize,
 }
 
 unsafe extern "C" {
-    fn table_read(file: *const u8, file_length: usize, words: *mut u32, word_count: usize, at: *mut u32, count: *mut usize) -> c_uint;
+    fn reactive_table_read(
+        file: *const u8,
+        file_length: usize,
+        words: *mut u32,
+        word_count: usize,
+        at: *mut u32,
+        count: *mut usize,
+    ) -> c_uint;
 }
 
 /// Reads a table's file into lent words, both of any content and length. They then hold the file's words and
@@ -54,7 +64,7 @@ pub fn read(file: &[u8], words: &mut [u32]) -> WordsRead {
     let (mut at, mut count) = (0, 0);
     // SAFETY: slices give pointers that are not null, aligned and valid for their lengths; `words` and the two
     // results are borrowed for this call alone. The function reads and writes nothing else.
-    let code = unsafe { table_read(file.as_ptr(), file.len(), words.as_mut_ptr(), words.len(), &mut at, &mut count) };
+    let code = unsafe { reactive_table_read(file.as_ptr(), file.len(), words.as_mut_ptr(), words.len(), &mut at, &mut count) };
     WordsRead { code, at, count }
 }
 

@@ -4,22 +4,24 @@
 //! nothing of their content and never panics, but where its page says so.
 //!
 //! ```
-//! use reactive_build::table::{Ending, Table, Variant};
+//! use reactive_build::table::{BlockRow, Ending, Table, Variant};
 //! use reactive_build::tree::{Node, Nodes};
 //!
 //! // while (place 0) {} return place 0
 //! let mut table = Table::default();
 //! let named = table.identifier(true);
 //! let value = table.place(named);
-//! table.block(&[], Ending::While { test: 1, loop_block: 2, fallthrough: 3 }, 1, None);
-//! table.block(&[], Ending::Branch { test: value, consequent: 2, alternate: 3 }, 2, None);
-//! table.block(&[], Ending::Goto { block: 1, variant: Variant::Continue }, 3, None);
+//! let [test, body, after] = [1, 2, 3].map(BlockRow); // the rows that the blocks will have
+//! table.entry = table.block(&[], Ending::While { test, loop_block: body, fallthrough: after }, 1, None);
+//! table.block(&[], Ending::Branch { test: value, consequent: body, alternate: after }, 2, None);
+//! table.block(&[], Ending::Goto { block: test, variant: Variant::Continue }, 3, None);
 //! table.block(&[], Ending::Return { value }, 4, None);
 //!
 //! let rows = reactive_build::rows(&table.words())?;
 //! let nodes = Nodes::of(&rows)?;
 //! let loops = nodes.iter().filter(|node| matches!(node, Node::While { .. })).count();
 //! assert_eq!(loops, 1);
+//! print!("{nodes}"); // the tree in words
 //! # Ok::<(), reactive_build::Refusal>(())
 //! ```
 //!
@@ -28,10 +30,18 @@
 //! | [`build`], [`build_language`] | a tree and its index into lent buffers, by the Rust's rule or the language's |
 //! | [`rows`], [`rows_language`] | the rows in memory of their own |
 //! | [`table`], [`tree`] | tables and trees as typed values |
+//! | [`outline`], [`columns`] | a tree in words; what each column of a row holds |
 //! | [`Refusal`], [`code`] | why there is no answer |
 //!
 //! The other modules are features, all on by default. They need nothing but the one archive: to leave one out makes nothing smaller that is
 //! linked.
+
+#![deny(missing_docs)]
+
+/// The page beside this crate: its example is run.
+#[cfg(doctest)]
+#[doc = include_str!("../README.md")]
+pub struct ReadMe;
 
 /// Declares the exports of the two entries (the Rust's rule and the language's), which have one signature, and its type.
 macro_rules! entries {
@@ -44,6 +54,7 @@ macro_rules! entries {
     };
 }
 
+pub mod columns;
 #[cfg(feature = "convert")]
 pub mod convert;
 #[cfg(feature = "dot")]
@@ -52,11 +63,13 @@ pub mod dot;
 pub mod lookup;
 #[cfg(feature = "order")]
 pub mod order;
+pub mod outline;
 #[cfg(feature = "plain")]
 pub mod plain;
 #[cfg(feature = "preview")]
 pub mod preview;
 mod refusal;
+mod rows;
 pub mod table;
 #[cfg(feature = "table-check")]
 pub mod table_check;
@@ -90,7 +103,9 @@ pub const INSTRUCTION_WORDS: usize = 7;
 /// Where something begins and ends in the source.
 #[derive(Clone, Copy, Debug, PartialEq, Eq, Hash)]
 pub struct Span {
+    /// Where it begins.
     pub from: u32,
+    /// Where it ends; not below `from` in a table that is accepted.
     pub to: u32,
 }
 
@@ -114,13 +129,18 @@ impl Span {
     }
 }
 
-/// Code (0 accepted), at, rows, visits and the number of lines.
+/// What a build gives beside the buffers.
 #[derive(Clone, Copy, Debug, PartialEq, Eq)]
 pub struct Outcome {
+    /// 0, or one of [`code`].
     pub code: u32,
+    /// The refusal's place ([`Refusal::at_counts`]); 0 where there is none.
     pub at: u32,
+    /// How many rows the tree has; refused 40 how many are needed, refused otherwise 0.
     pub rows: u32,
+    /// How many visits the walk had.
     pub visits: u32,
+    /// How many lines the index has; refused 0.
     pub lines: u32,
 }
 

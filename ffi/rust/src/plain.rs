@@ -4,7 +4,7 @@ use crate::Refusal;
 use std::ffi::c_uint;
 
 unsafe extern "C" {
-    fn table_plain(words: *const u32, word_count: usize, at: *mut u32, number: *mut u32) -> c_uint;
+    fn reactive_table_plain(words: *const u32, word_count: usize, at: *mut u32, number: *mut u32) -> c_uint;
 }
 
 /// The first law that speaks of a table.
@@ -12,12 +12,12 @@ unsafe extern "C" {
 pub enum Law {
     /// No law.
     None,
-    /// Paper 01's, of plain tables: of both entries.
-    Paper01,
-    /// M-113's, with Switch: of `build_language`.
+    /// That of plain tables without Switch: the trees of both entries run as the blocks do.
+    Plain,
+    /// That with Switch: of [`build_language`](crate::build_language).
     Switches,
-    /// The one with the loops and switches that compilers make, beyond the papers: of `build_language`, and of both entries where no block
-    /// ends in Switch.
+    /// That with the loops and switches that compilers make: of [`build_language`](crate::build_language), and of both entries where no
+    /// block ends in Switch.
     Loops,
 }
 
@@ -31,16 +31,16 @@ pub enum Law {
 /// let named = table.identifier(true);
 /// let value = table.place(named);
 /// table.block(&[], Ending::Return { value }, 1, None);
-/// assert_eq!(law(&table.words()), Ok(Law::Paper01));
+/// assert_eq!(law(&table.words()), Ok(Law::Plain));
 /// assert_eq!(law(&[0; 6]).unwrap_err().code, 3); // no blocks, so that the entry is none
 /// ```
 pub fn law(words: &[u32]) -> Result<Law, Refusal> {
     let (mut at, mut number) = (0, 0);
     // SAFETY: a slice gives a pointer that is not null, aligned and valid for its length; the two results are
     // borrowed for this call alone. The function reads and writes nothing else.
-    let code = unsafe { table_plain(words.as_ptr(), words.len(), &mut at, &mut number) };
+    let code = unsafe { reactive_table_plain(words.as_ptr(), words.len(), &mut at, &mut number) };
     match (code, number) {
-        (0, 1) => Ok(Law::Paper01),
+        (0, 1) => Ok(Law::Plain),
         (0, 2) => Ok(Law::Switches),
         (0, 3) => Ok(Law::Loops),
         (0, _) => Ok(Law::None),

@@ -1,5 +1,6 @@
 //! What a build will need, told beforehand.
 
+use crate::tree::Row;
 use crate::{LINE_WORDS, Outcome, ROW_WORDS, Refusal, build, build_language};
 use std::ffi::c_uint;
 
@@ -33,13 +34,30 @@ fn preview_by(entry: Entry, words: &[u32]) -> Outcome {
 /// A tree with its index, in memory of just their size.
 #[derive(Clone, Debug, PartialEq, Eq)]
 pub struct Tree {
-    pub rows: Vec<u32>,
+    /// The rows, as [`rows`](crate::rows) gives them and [`Nodes::of`](crate::tree::Nodes::of) takes them.
+    pub rows: Vec<Row>,
+    /// The words of the index.
     pub index: Vec<u32>,
+    /// How many lines the index has.
     pub lines: u32,
+    /// How many visits the walk had.
     pub visits: u32,
 }
 
 /// Previews, takes just enough memory and builds.
+///
+/// ```
+/// use reactive_build::table::{Ending, Table};
+/// use reactive_build::tree::Nodes;
+///
+/// let mut table = Table::default();
+/// let named = table.identifier(true);
+/// let value = table.place(named);
+/// table.block(&[], Ending::Return { value }, 7, None);
+/// let tree = reactive_build::preview::tree(&table.words())?;
+/// assert_eq!(Nodes::of(&tree.rows)?.to_string(), "1  BLOCK of 1\n0    RETURN place 0, id 7\n");
+/// # Ok::<(), reactive_build::Refusal>(())
+/// ```
 pub fn tree(words: &[u32]) -> Result<Tree, Refusal> {
     tree_by(preview, build, words)
 }
@@ -57,10 +75,10 @@ fn tree_by(preview: Preview, build: Build, words: &[u32]) -> Result<Tree, Refusa
     if code != 0 {
         return Err(Refusal { code, at });
     }
-    let mut tree = vec![0; rows as usize * ROW_WORDS];
+    let mut tree = vec![[0; ROW_WORDS]; rows as usize];
     let mut index = vec![0; lines as usize * LINE_WORDS];
     // The preview's numbers are the build's.
-    let built = build(words, &mut tree, &mut index);
+    let built = build(words, tree.as_flattened_mut(), &mut index);
     debug_assert_eq!(built.code, 0);
     Ok(Tree { rows: tree, index, lines, visits })
 }

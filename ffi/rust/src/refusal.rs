@@ -52,10 +52,12 @@ impl Display for Refusal {
 
 impl Error for Refusal {}
 
-/// Code (0 accepted) and at.
+/// What a check gives.
 #[derive(Clone, Copy, Debug, PartialEq, Eq)]
 pub struct Checked {
+    /// 0, or one of [`code`].
     pub code: u32,
+    /// The refusal's place ([`Refusal::at_counts`]); 0 where there is none.
     pub at: u32,
 }
 

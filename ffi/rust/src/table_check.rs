@@ -6,7 +6,7 @@ use std::ffi::c_uint;
 pub use crate::refusal::Checked;
 
 unsafe extern "C" {
-    fn table_check(words: *const u32, word_count: usize, at: *mut u32) -> c_uint;
+    fn reactive_table_check(words: *const u32, word_count: usize, at: *mut u32) -> c_uint;
 }
 
 /// Checks a table's words, of any content and number: 0, or 1 to 4 and the word.
@@ -20,7 +20,7 @@ pub fn check(words: &[u32]) -> Checked {
     let mut at = 0;
     // SAFETY: a slice gives a pointer that is not null, aligned and valid for its length; `at` is borrowed for this
     // call alone. The function reads and writes nothing else.
-    let code = unsafe { table_check(words.as_ptr(), words.len(), &mut at) };
+    let code = unsafe { reactive_table_check(words.as_ptr(), words.len(), &mut at) };
     Checked { code, at }
 }
 

@@ -2,11 +2,14 @@
 
 use std::ffi::c_uint;
 
-/// Code (0 accepted), at, and the length of the text.
+/// What a call that writes a text gives beside the text.
 #[derive(Clone, Copy, Debug, PartialEq, Eq)]
 pub struct Placed {
+    /// 0, or one of [`code`](crate::code).
     pub code: u32,
+    /// The refusal's place ([`Refusal::at_counts`](crate::Refusal::at_counts)); 0 where there is none.
     pub at: u32,
+    /// How many bytes the text has; refused 0.
     pub length: usize,
 }
 

@@ -1,20 +1,22 @@
 //! The rows of a tree as typed values: [`Op`], [`Node`], and [`Nodes`], which finds the parts of each row.
 //!
 //! ```
-//! use reactive_build::tree::{Node, Nodes};
+//! use reactive_build::tree::{Node, Nodes, PlaceRow};
 //!
 //! // RETURN of place 0 with id 7, then the BLOCK of one statement that is the body (docs/FORMAT.md)
 //! let rows = [[22, 0, 7, 0, 0, 0], [9, 1, 0, 0, 0, 0]];
 //! let nodes = Nodes::of(&rows).expect("the rows of one tree");
-//! assert_eq!(nodes.as_slice(), [Node::Return { value: 0, id: 7 }, Node::Block { statements: 1 }]);
+//! assert_eq!(nodes.as_slice(), [Node::Return { value: PlaceRow(0), id: 7 }, Node::Block { statements: 1 }]);
 //! assert_eq!(nodes.parts(1).collect::<Vec<_>>(), [0]);
 //! for visit in nodes.walk() {
 //!     println!("{:indent$}{}", "", nodes[visit.row].op().name(), indent = 2 * visit.depth);
 //! }
+//! println!("{nodes}"); // the same in words (`outline`)
 //! ```
 
 use crate::refusal::code;
-use crate::{ROW_WORDS, Refusal, Span};
+pub use crate::rows::{BlockRow, InstructionRow, PlaceRow};
+use crate::{ROW_WORDS, Refusal, Span, rows};
 use std::ops::{Index, Range};
 
 /// A label, a test of a CASE or a binding that is not there, as a word.
@@ -27,30 +29,55 @@ pub type Row = [u32; ROW_WORDS];
 #[derive(Clone, Copy, Debug, PartialEq, Eq, Hash)]
 #[repr(u32)]
 pub enum Op {
+    /// A value: of an instruction of the table.
     Plain = 1,
+    /// A value: of a place, which the walk loads.
     Load = 2,
+    /// A value: `undefined`.
     Undef = 3,
+    /// A statement, or a part of a SEQ: an instruction with its value.
     Instr = 4,
+    /// A value: instructions, and then a value.
     Seq = 5,
+    /// A value: `||`, `&&` or `??`.
     Logical = 6,
+    /// A value: `? :`.
     Cond = 7,
+    /// A value: a part of an optional chain.
     Optional = 8,
+    /// A list of statements.
     Block = 9,
+    /// A statement: `if`.
     If = 10,
+    /// A part of a SWITCH.
     Case = 11,
+    /// A statement: `switch`.
     Switch = 12,
+    /// A statement: `do` with `while`.
     DoWhile = 13,
+    /// A statement: `while`.
     While = 14,
+    /// A statement: `for`.
     For = 15,
+    /// A statement: `for` with `of`.
     ForOf = 16,
+    /// A statement: `for` with `in`.
     ForIn = 17,
+    /// A statement with a label.
     Label = 18,
+    /// A statement: `try` with `catch`.
     Try = 19,
+    /// A statement: statements that are memoized together.
     Scope = 20,
+    /// A statement: a scope that is not memoized.
     Pruned = 21,
+    /// A statement: `return`.
     Return = 22,
+    /// A statement: `throw`.
     Throw = 23,
+    /// A statement: `break`.
     Break = 24,
+    /// A statement: `continue`.
     Continue = 25,
 }
 
@@ -74,6 +101,7 @@ impl Op {
         Self::ALL.get(number.checked_sub(1)? as usize).copied()
     }
 
+    /// The first word of a row.
     pub const fn number(self) -> u32 {
         self as u32
     }
@@ -88,76 +116,249 @@ impl Op {
 #[derive(Clone, Copy, Debug, PartialEq, Eq, Hash)]
 #[repr(u32)]
 pub enum Operator {
+    /// `||`.
     Or = 0,
+    /// `&&`.
     And = 1,
+    /// `??`.
     Coalesce = 2,
 }
 
 impl Operator {
+    /// Every operator: number n is at n.
     pub const ALL: [Self; 3] = [Self::Or, Self::And, Self::Coalesce];
 
+    /// The operator of this number, if there is one.
     pub fn of(number: u32) -> Option<Self> {
         Self::ALL.get(number as usize).copied()
     }
 
+    /// The number that stands for it in a table and in a row.
     pub const fn number(self) -> u32 {
         self as u32
     }
+
+    /// The name that docs/FORMAT.md gives it.
+    pub const fn name(self) -> &'static str {
+        ["or", "and", "coalesce"][self as usize]
+    }
 }
 
-/// The kind of a jump.
+/// How a jump is written.
 #[derive(Clone, Copy, Debug, PartialEq, Eq, Hash)]
 #[repr(u32)]
 pub enum Kind {
+    /// Not at all: control gets there without it.
     Implicit = 0,
+    /// With the label of the statement that it goes to.
     Labeled = 1,
+    /// As a bare `break` or `continue`.
     Unlabeled = 2,
 }
 
 impl Kind {
+    /// Every kind: number n is at n.
     pub const ALL: [Self; 3] = [Self::Implicit, Self::Labeled, Self::Unlabeled];
 
+    /// The kind of this number, if there is one.
     pub fn of(number: u32) -> Option<Self> {
         Self::ALL.get(number as usize).copied()
     }
 
+    /// The number that stands for it in a row.
     pub const fn number(self) -> u32 {
         self as u32
     }
+
+    /// The name that docs/FORMAT.md gives it.
+    pub const fn name(self) -> &'static str {
+        ["Implicit", "Labeled", "Unlabeled"][self as usize]
+    }
 }
 
-/// A row as a typed value. Places, instructions and blocks (labels, targets) are rows of the table. A label, a test of a CASE, a binding or
-/// a span that is not there is `None`.
+/// A row as a typed value. A label, a test of a CASE, a binding or a span that is not there is `None`. Its parts are rows before it
+/// ([`Nodes::parts`]).
 #[rustfmt::skip] // a line a variant
 #[derive(Clone, Copy, Debug, PartialEq, Eq, Hash)]
 pub enum Node {
-    Plain { instruction: u32 },
-    Load { place: u32 },
-    Undef { span: Option<Span> },
-    Instr { id: u32, lvalue: u32, span: Option<Span> },
-    Seq { instructions: u32, id: u32 },
-    Logical { operator: Operator },
+    /// A value: of an instruction of the table.
+    Plain {
+        /// The instruction.
+        instruction: InstructionRow,
+    },
+    /// A value: of a place, which the walk loads. A LoadLocal of the table is a PLAIN.
+    Load {
+        /// What is loaded.
+        place: PlaceRow,
+    },
+    /// A value: `undefined`.
+    Undef {
+        /// The source text of the block's ending.
+        span: Option<Span>,
+    },
+    /// A statement, or a part of a SEQ: an instruction. Its part is its value.
+    Instr {
+        /// Its number in the order of evaluation.
+        id: u32,
+        /// The place that gets its result.
+        lvalue: PlaceRow,
+        /// Its source text.
+        span: Option<Span>,
+    },
+    /// A value. Its parts are INSTRs, and then a value.
+    Seq {
+        /// How many INSTRs.
+        instructions: u32,
+        /// The number of its value in the order of evaluation.
+        id: u32,
+    },
+    /// A value. Its parts are the left and the right side.
+    Logical {
+        /// Which operator.
+        operator: Operator,
+    },
+    /// A value of `? :`. Its parts are test, consequent and alternate.
     Cond,
-    Optional { optional: bool },
-    Block { statements: u32 },
-    If { test: u32, has_alternate: bool, id: u32, label: Option<u32> },
-    Case { test: Option<u32> },
-    Switch { test: u32, cases: u32, id: u32, label: Option<u32> },
-    DoWhile { id: u32, label: Option<u32> },
-    While { id: u32, label: Option<u32> },
-    For { id: u32, label: Option<u32>, has_update: bool },
-    ForOf { id: u32, label: Option<u32>, span: Option<Span> },
-    ForIn { id: u32, label: Option<u32>, span: Option<Span> },
-    Label { id: u32, label: Option<u32> },
-    Try { id: u32, label: Option<u32>, binding: Option<u32> },
-    Scope { scope: u32 },
-    Pruned { scope: u32 },
-    Return { value: u32, id: u32 },
-    Throw { value: u32, id: u32 },
-    /// `loops_left`: how many loops the jump leaves before its target, at most 128.
-    Break { target: u32, id: u32, kind: Kind, loops_left: u32 },
-    /// As for a break.
-    Continue { target: u32, id: u32, kind: Kind, loops_left: u32 },
+    /// A value: a part of an optional chain. Its part is a value.
+    Optional {
+        /// Whether `?.` stands here.
+        optional: bool,
+    },
+    /// A list of statements, which are its parts.
+    Block {
+        /// How many statements.
+        statements: u32,
+    },
+    /// An `if`. Its parts are the consequent and the alternate, where there is one.
+    If {
+        /// What is tested.
+        test: PlaceRow,
+        /// Whether there is an alternate.
+        has_alternate: bool,
+        /// The number of the block's ending in the order of evaluation.
+        id: u32,
+        /// The label by which jumps name it.
+        label: Option<BlockRow>,
+    },
+    /// A part of a SWITCH. Its part is a BLOCK.
+    Case {
+        /// What the SWITCH's value is compared with; none is the default.
+        test: Option<PlaceRow>,
+    },
+    /// A `switch`. Its parts are its CASEs, the last one first.
+    Switch {
+        /// What is compared.
+        test: PlaceRow,
+        /// How many CASEs.
+        cases: u32,
+        /// The number of the block's ending in the order of evaluation.
+        id: u32,
+        /// The label by which jumps name it.
+        label: Option<BlockRow>,
+    },
+    /// A `do` with its `while`. Its parts are the body and the test.
+    DoWhile {
+        /// The number of the block's ending in the order of evaluation.
+        id: u32,
+        /// The label by which jumps name it.
+        label: Option<BlockRow>,
+    },
+    /// A `while`. Its parts are the test and the body.
+    While {
+        /// The number of the block's ending in the order of evaluation.
+        id: u32,
+        /// The label by which jumps name it.
+        label: Option<BlockRow>,
+    },
+    /// A `for`. Its parts are the initializer, the test, the update, where there is one, and the body.
+    For {
+        /// The number of the block's ending in the order of evaluation.
+        id: u32,
+        /// The label by which jumps name it.
+        label: Option<BlockRow>,
+        /// Whether there is an update.
+        has_update: bool,
+    },
+    /// A `for` with `of`. Its parts are the iterated value, the test for a next item, and the body.
+    ForOf {
+        /// The number of the block's ending in the order of evaluation.
+        id: u32,
+        /// The label by which jumps name it.
+        label: Option<BlockRow>,
+        /// The source text of the block's ending.
+        span: Option<Span>,
+    },
+    /// A `for` with `in`. Its parts are the value whose keys are gone through, and the body.
+    ForIn {
+        /// The number of the block's ending in the order of evaluation.
+        id: u32,
+        /// The label by which jumps name it.
+        label: Option<BlockRow>,
+        /// The source text of the block's ending.
+        span: Option<Span>,
+    },
+    /// A statement with a label. Its part is a BLOCK.
+    Label {
+        /// The number of the block's ending in the order of evaluation.
+        id: u32,
+        /// The label by which jumps name it.
+        label: Option<BlockRow>,
+    },
+    /// A `try` with its `catch`. Its parts are the body and the handler.
+    Try {
+        /// The number of the block's ending in the order of evaluation.
+        id: u32,
+        /// The label by which jumps name it.
+        label: Option<BlockRow>,
+        /// Where the handler finds what was thrown.
+        binding: Option<PlaceRow>,
+    },
+    /// Statements that are memoized together. Its part is a BLOCK.
+    Scope {
+        /// The scope's number.
+        scope: u32,
+    },
+    /// A scope that is not memoized. Its part is a BLOCK.
+    Pruned {
+        /// The scope's number.
+        scope: u32,
+    },
+    /// A `return`.
+    Return {
+        /// What is returned.
+        value: PlaceRow,
+        /// The number of the block's ending in the order of evaluation.
+        id: u32,
+    },
+    /// A `throw`.
+    Throw {
+        /// What is thrown.
+        value: PlaceRow,
+        /// The number of the block's ending in the order of evaluation.
+        id: u32,
+    },
+    /// A `break`.
+    Break {
+        /// The label of the statement that it goes out of.
+        target: BlockRow,
+        /// The number of the block's ending in the order of evaluation.
+        id: u32,
+        /// How it is written.
+        kind: Kind,
+        /// How many loops it leaves before its target, at most 128.
+        loops_left: u32,
+    },
+    /// A `continue`.
+    Continue {
+        /// The fallthrough of the loop that it goes on with, which is the loop's label where it has one.
+        target: BlockRow,
+        /// The number of the block's ending in the order of evaluation.
+        id: u32,
+        /// How it is written.
+        kind: Kind,
+        /// How many loops it leaves before its target, at most 128.
+        loops_left: u32,
+    },
 }
 
 impl Node {
@@ -165,31 +366,35 @@ impl Node {
     #[inline]
     pub fn of_row(row: &Row) -> Option<Self> {
         Some(match *row {
-            [1, instruction, 0, 0, 0, 0] => Self::Plain { instruction },
-            [2, place, 0, 0, 0, 0] => Self::Load { place },
+            [1, instruction, 0, 0, 0, 0] => Self::Plain { instruction: InstructionRow(instruction) },
+            [2, place, 0, 0, 0, 0] => Self::Load { place: PlaceRow(place) },
             [3, from, to, 0, 0, 0] => Self::Undef { span: Span::of_words(from, to) },
-            [4, id, lvalue, from, to, 0] => Self::Instr { id, lvalue, span: Span::of_words(from, to) },
+            [4, id, lvalue, from, to, 0] => Self::Instr { id, lvalue: PlaceRow(lvalue), span: Span::of_words(from, to) },
             [5, instructions, id, 0, 0, 0] => Self::Seq { instructions, id },
             [6, operator, 0, 0, 0, 0] => Self::Logical { operator: Operator::of(operator)? },
             [7, 0, 0, 0, 0, 0] => Self::Cond,
             [8, optional @ (0 | 1), 0, 0, 0, 0] => Self::Optional { optional: optional == 1 },
             [9, statements, 0, 0, 0, 0] => Self::Block { statements },
-            [10, test, alternate @ (0 | 1), id, label, 0] => Self::If { test, has_alternate: alternate == 1, id, label: some(label) },
-            [11, test, 0, 0, 0, 0] => Self::Case { test: some(test) },
-            [12, test, cases, id, label, 0] => Self::Switch { test, cases, id, label: some(label) },
-            [13, id, label, 0, 0, 0] => Self::DoWhile { id, label: some(label) },
-            [14, id, label, 0, 0, 0] => Self::While { id, label: some(label) },
-            [15, id, label, update @ (0 | 1), 0, 0] => Self::For { id, label: some(label), has_update: update == 1 },
-            [16, id, label, from, to, 0] => Self::ForOf { id, label: some(label), span: Span::of_words(from, to) },
-            [17, id, label, from, to, 0] => Self::ForIn { id, label: some(label), span: Span::of_words(from, to) },
-            [18, id, label, 0, 0, 0] => Self::Label { id, label: some(label) },
-            [19, id, label, binding, 0, 0] => Self::Try { id, label: some(label), binding: some(binding) },
+            [10, test, alternate @ (0 | 1), id, label, 0] => {
+                Self::If { test: PlaceRow(test), has_alternate: alternate == 1, id, label: label_of(label) }
+            }
+            [11, test, 0, 0, 0, 0] => Self::Case { test: place_of(test) },
+            [12, test, cases, id, label, 0] => Self::Switch { test: PlaceRow(test), cases, id, label: label_of(label) },
+            [13, id, label, 0, 0, 0] => Self::DoWhile { id, label: label_of(label) },
+            [14, id, label, 0, 0, 0] => Self::While { id, label: label_of(label) },
+            [15, id, label, update @ (0 | 1), 0, 0] => Self::For { id, label: label_of(label), has_update: update == 1 },
+            [16, id, label, from, to, 0] => Self::ForOf { id, label: label_of(label), span: Span::of_words(from, to) },
+            [17, id, label, from, to, 0] => Self::ForIn { id, label: label_of(label), span: Span::of_words(from, to) },
+            [18, id, label, 0, 0, 0] => Self::Label { id, label: label_of(label) },
+            [19, id, label, binding, 0, 0] => Self::Try { id, label: label_of(label), binding: place_of(binding) },
             [20, scope, 0, 0, 0, 0] => Self::Scope { scope },
             [21, scope, 0, 0, 0, 0] => Self::Pruned { scope },
-            [22, value, id, 0, 0, 0] => Self::Return { value, id },
-            [23, value, id, 0, 0, 0] => Self::Throw { value, id },
-            [24, target, id, kind, loops_left, 0] => Self::Break { target, id, kind: Kind::of(kind)?, loops_left },
-            [25, target, id, kind, loops_left, 0] => Self::Continue { target, id, kind: Kind::of(kind)?, loops_left },
+            [22, value, id, 0, 0, 0] => Self::Return { value: PlaceRow(value), id },
+            [23, value, id, 0, 0, 0] => Self::Throw { value: PlaceRow(value), id },
+            [24, target, id, kind, loops_left, 0] => Self::Break { target: BlockRow(target), id, kind: Kind::of(kind)?, loops_left },
+            [25, target, id, kind, loops_left, 0] => {
+                Self::Continue { target: BlockRow(target), id, kind: Kind::of(kind)?, loops_left }
+            }
             _ => return None,
         })
     }
@@ -197,34 +402,35 @@ impl Node {
     /// The row of a node: the inverse.
     pub fn row(&self) -> Row {
         let [a, b, c, d] = match *self {
-            Self::Plain { instruction } => [instruction, 0, 0, 0],
-            Self::Load { place } => [place, 0, 0, 0],
+            Self::Plain { instruction } => [instruction.0, 0, 0, 0],
+            Self::Load { place } => [place.0, 0, 0, 0],
             Self::Undef { span } => {
                 let [from, to] = Span::words(span);
                 [from, to, 0, 0]
             }
-            Self::Instr { id, lvalue, span } => with_span([id, lvalue], span),
+            Self::Instr { id, lvalue, span } => with_span([id, lvalue.0], span),
             Self::Seq { instructions, id } => [instructions, id, 0, 0],
             Self::Logical { operator } => [operator.number(), 0, 0, 0],
             Self::Cond => [0; 4],
             Self::Optional { optional } => [optional.into(), 0, 0, 0],
             Self::Block { statements } => [statements, 0, 0, 0],
-            Self::If { test, has_alternate, id, label } => [test, has_alternate.into(), id, word(label)],
-            Self::Case { test } => [word(test), 0, 0, 0],
-            Self::Switch { test, cases, id, label } => [test, cases, id, word(label)],
-            Self::DoWhile { id, label } | Self::While { id, label } | Self::Label { id, label } => [id, word(label), 0, 0],
-            Self::For { id, label, has_update } => [id, word(label), has_update.into(), 0],
-            Self::ForOf { id, label, span } | Self::ForIn { id, label, span } => with_span([id, word(label)], span),
-            Self::Try { id, label, binding } => [id, word(label), word(binding), 0],
+            Self::If { test, has_alternate, id, label } => [test.0, has_alternate.into(), id, label_word(label)],
+            Self::Case { test } => [place_word(test), 0, 0, 0],
+            Self::Switch { test, cases, id, label } => [test.0, cases, id, label_word(label)],
+            Self::DoWhile { id, label } | Self::While { id, label } | Self::Label { id, label } => [id, label_word(label), 0, 0],
+            Self::For { id, label, has_update } => [id, label_word(label), has_update.into(), 0],
+            Self::ForOf { id, label, span } | Self::ForIn { id, label, span } => with_span([id, label_word(label)], span),
+            Self::Try { id, label, binding } => [id, label_word(label), place_word(binding), 0],
             Self::Scope { scope } | Self::Pruned { scope } => [scope, 0, 0, 0],
-            Self::Return { value, id } | Self::Throw { value, id } => [value, id, 0, 0],
+            Self::Return { value, id } | Self::Throw { value, id } => [value.0, id, 0, 0],
             Self::Break { target, id, kind, loops_left } | Self::Continue { target, id, kind, loops_left } => {
-                [target, id, kind.number(), loops_left]
+                [target.0, id, kind.number(), loops_left]
             }
         };
         [self.op().number(), a, b, c, d, 0]
     }
 
+    /// What it is: the first word of its row.
     pub fn op(&self) -> Op {
         match self {
             Self::Plain { .. } => Op::Plain,
@@ -256,7 +462,7 @@ impl Node {
     }
 
     /// The label of a statement, where it can have one and has it.
-    pub fn label(&self) -> Option<u32> {
+    pub fn label(&self) -> Option<BlockRow> {
         match *self {
             Self::If { label, .. }
             | Self::Switch { label, .. }
@@ -334,12 +540,20 @@ impl Sort {
     }
 }
 
-fn some(word: u32) -> Option<u32> {
-    (word != NONE).then_some(word)
+fn label_of(word: u32) -> Option<BlockRow> {
+    (word != NONE).then_some(BlockRow(word))
 }
 
-fn word(number: Option<u32>) -> u32 {
-    number.unwrap_or(NONE)
+fn place_of(word: u32) -> Option<PlaceRow> {
+    (word != NONE).then_some(PlaceRow(word))
+}
+
+fn label_word(label: Option<BlockRow>) -> u32 {
+    label.map_or(NONE, |label| label.0)
+}
+
+fn place_word(place: Option<PlaceRow>) -> u32 {
+    place.map_or(NONE, |place| place.0)
 }
 
 fn with_span([a, b]: [u32; 2], span: Option<Span>) -> [u32; 4] {
@@ -355,10 +569,12 @@ pub struct Nodes {
     first: Vec<usize>,
 }
 
-/// A row met on a walk, and how many nodes are around it.
+/// A node met on a walk.
 #[derive(Clone, Copy, Debug, PartialEq, Eq)]
 pub struct Visit {
+    /// Its row.
     pub row: usize,
+    /// How many nodes are around it.
     pub depth: usize,
 }
 
@@ -367,13 +583,13 @@ impl Nodes {
     /// [`Node::of_row`]), 61 at the first that does not find its parts before it, whichever comes first; 62 where anything is left in the
     /// end but one BLOCK. These are the refusals of the proved check of rows (`tree_check`), which also limits the numbers in the columns
     /// and the number of rows.
-    pub fn of(rows: &[Row]) -> Result<Self, Refusal> {
-        let mut nodes = Vec::with_capacity(rows.len());
-        let mut first = Vec::with_capacity(rows.len());
+    pub fn of(tree: &[Row]) -> Result<Self, Refusal> {
+        let mut nodes = Vec::with_capacity(tree.len());
+        let mut first = Vec::with_capacity(tree.len());
         // The rows that are no part yet, last on top.
         let mut open: Vec<usize> = Vec::new();
-        for (row, words) in rows.iter().enumerate() {
-            let refused = |code| Refusal { code, at: row as u32 };
+        for (row, words) in tree.iter().enumerate() {
+            let refused = |code| Refusal { code, at: rows::count(row) };
             let node = Node::of_row(words).ok_or(refused(code::ROW_OUT_OF_RANGE))?;
             let (sort, count, after) = node.expected();
             let mut begin = row;
@@ -398,6 +614,7 @@ impl Nodes {
         self.nodes.len() - 1
     }
 
+    /// Row by row, as a slice.
     pub fn as_slice(&self) -> &[Node] {
         &self.nodes
     }
@@ -432,12 +649,25 @@ impl Nodes {
         parts.into_iter()
     }
 
-    /// Every node once, the body first, a node before its parts, these in the order of [`Nodes::parts`].
+    /// The same in the order of the source: a SWITCH has its first CASE first. In all others that is the order of the rows.
+    ///
+    /// # Panics
+    ///
+    /// Where there is no such row, as an index of a slice does.
+    pub fn parts_of_source(&self, row: usize) -> impl DoubleEndedIterator<Item = usize> + use<> {
+        let mut parts: Vec<usize> = self.parts(row).collect();
+        if matches!(self[row], Node::Switch { .. }) {
+            parts.reverse();
+        }
+        parts.into_iter()
+    }
+
+    /// Every node once, the body first, a node before its parts, these in the order of the source.
     pub fn walk(&self) -> impl Iterator<Item = Visit> + '_ {
         let mut open = vec![Visit { row: self.body(), depth: 0 }];
         std::iter::from_fn(move || {
             let visit = open.pop()?;
-            open.extend(self.parts(visit.row).rev().map(|row| Visit { row, depth: visit.depth + 1 }));
+            open.extend(self.parts_of_source(visit.row).rev().map(|row| Visit { row, depth: visit.depth + 1 }));
             Some(visit)
         })
     }

@@ -1,7 +1,9 @@
 //! Any input: every public function on empty, odd and huge slices, and on a good table and tree spoilt word by word. None panics but where
 //! its page says so, and where a call refuses, what was lent holds zeros. Each is called by its path (`every_public_function_is_called`).
 
-use reactive_build::table::{Block, Case, Ending, Instruction, Table, Value, Variant};
+use reactive_build::columns::Holds;
+use reactive_build::outline;
+use reactive_build::table::{Block, BlockRow, Case, Ending, IdentifierRow, Instruction, PlaceRow, Table, Value, Variant};
 use reactive_build::table_check::Checked;
 use reactive_build::tree::{Kind, Node, Nodes, Op, Operator, Row};
 use reactive_build::{
@@ -17,10 +19,11 @@ fn good_table() -> Vec<u32> {
     let mut table = Table::default();
     let named = table.identifier(true);
     let place = table.place(named);
-    table.block(&[], Ending::While { test: 1, loop_block: 2, fallthrough: 3 }, 1, Span::of_words(3, 9));
-    table.block(&[], Ending::Branch { test: place, consequent: 2, alternate: 3 }, 2, None);
-    table.block(&[], Ending::Goto { block: 1, variant: Variant::Continue }, 3, None);
-    let switch = table.switch(place, &[Case { test: None, block: 4 }], 5);
+    let [test, body, after, case, end] = [1, 2, 3, 4, 5].map(BlockRow);
+    table.block(&[], Ending::While { test, loop_block: body, fallthrough: after }, 1, Span::of_words(3, 9));
+    table.block(&[], Ending::Branch { test: place, consequent: body, alternate: after }, 2, None);
+    table.block(&[], Ending::Goto { block: test, variant: Variant::Continue }, 3, None);
+    let switch = table.switch(place, &[Case { test: None, block: case }], end);
     table.block(&[], switch, 4, None);
     table.block(&[], Ending::Return { value: place }, 5, None);
     table.block(&[], Ending::Return { value: place }, 6, None);
@@ -76,13 +79,17 @@ fn words_are_taken(words: &[u32], lent: usize) {
             Err(refusal) => assert_eq!(refusal, Refusal { code, at }),
         }
     }
-    assert_eq!(preview::tree(words).map(|tree| tree.rows), reactive_build::rows(words).map(|rows| rows.concat()));
-    assert_eq!(preview::tree_language(words).map(|tree| tree.rows), reactive_build::rows_language(words).map(|rows| rows.concat()));
+    assert_eq!(preview::tree(words).map(|tree| tree.rows), reactive_build::rows(words));
+    assert_eq!(preview::tree_language(words).map(|tree| tree.rows), reactive_build::rows_language(words));
     assert_eq!(table_check::is_table(words), Checked::result(&table_check::check(words)));
     assert_eq!(plain::law(words).err(), table_check::is_table(words).err());
     let drawn = dot::draw(words, &mut text);
     assert!(!refused(drawn.code) || zeros(&text));
-    assert!(dot::text(words).is_ok() || refused(drawn.code));
+    assert!(dot::largest_of(words) <= dot::LARGEST);
+    match dot::text(words) {
+        Ok(text) => assert!(text.len() <= dot::largest_of(words)),
+        Err(refusal) => assert!(refused(drawn.code) && refusal.code != code::DRAWING_LENT),
+    }
     let placed = convert::write(words, &mut text);
     assert!(!refused(placed.code) || zeros(&text));
     let moved = order::rearrange(words, &mut tree, &mut index);
@@ -129,7 +136,13 @@ fn nodes_are_taken(rows: &[Row]) {
     assert_eq!((Nodes::body(&nodes), Nodes::walk(&nodes).count()), (rows.len() - 1, rows.len()));
     assert!(Nodes::iter(&nodes).eq(Nodes::as_slice(&nodes)));
     assert!((&nodes).into_iter().map(Node::row).eq(rows.iter().copied()));
+    assert!(outline::lines(&nodes).iter().map(|line| (line.row, line.depth)).eq(Nodes::walk(&nodes).map(|visit| (visit.row, visit.depth))));
+    assert_eq!(nodes.to_string().lines().count(), rows.len());
     for row in 0..rows.len() {
+        assert!(outline::roles(&nodes[row]).len() <= Node::part_count(&nodes[row]));
+        let mut of_source: Vec<usize> = Nodes::parts_of_source(&nodes, row).collect();
+        of_source.sort_unstable();
+        assert!(Nodes::parts(&nodes, row).eq(of_source));
         let subtree = Nodes::subtree(&nodes, row);
         let parts: Vec<usize> = Nodes::parts(&nodes, row).map(|part| Nodes::subtree(&nodes, part).len()).collect();
         assert_eq!((parts.len(), parts.iter().sum::<usize>() + 1), (Node::part_count(&nodes[row]), subtree.len()));
@@ -143,7 +156,9 @@ fn row_is_taken(row: &Row) {
         assert_eq!((Node::row(&node), Node::span(&node)), (*row, span));
         assert_eq!(Op::of(row[0]), Some(Node::op(&node)));
         let of_a_label = (10..=19).contains(&row[0]);
-        assert!(Node::label(&node).is_none_or(|label| of_a_label && row.contains(&label)));
+        assert!(Node::label(&node).is_none_or(|label| of_a_label && row.contains(&label.0)));
+        assert_eq!(node.to_string().split(' ').next(), Some(Op::name(Node::op(&node))));
+        assert!(outline::pieces(&node).iter().all(|piece| node.to_string().contains(&piece.to_string())));
         assert!(Node::part_count(&node) <= u32::MAX as usize + 1);
     }
 }
@@ -235,8 +250,9 @@ fn huge_slices() {
         rows_are_taken(&huge, &huge, u32::MAX);
         tree_run::run(&reactive_build::rows(&good_table()).expect("a tree").concat(), &huge, &mut vec![7; 3_000_001]);
         let mut table = Table::default();
-        let instruction = Instruction { id: word, lvalue: word, value: Value::Other, span: None };
-        let switch = Table::switch(&mut table, word, &vec![Case { test: Some(word), block: word }; 300_000], word);
+        let (block, place) = (BlockRow(word), PlaceRow(word));
+        let instruction = Instruction { id: word, lvalue: place, value: Value::Other, span: None };
+        let switch = Table::switch(&mut table, place, &vec![Case { test: Some(place), block }; 300_000], block);
         Table::block(&mut table, &vec![instruction; 300_000], switch, word, None);
         assert!(matches!(reactive_build::rows(&Table::words(&table)), Err(Refusal { code: code::COUNT_LIMIT, .. })));
     }
@@ -249,7 +265,10 @@ fn numbers_of_any_size() {
         let kinds = [Kind::of(number).map(Kind::number), Operator::of(number).map(Operator::number)];
         let others = [Variant::of(number).map(Variant::number), Op::of(number).map(Op::number)];
         assert!(kinds.into_iter().chain(others).flatten().all(|told| told == number));
-        assert!(Op::of(number).is_none_or(|op| !Op::name(op).is_empty()));
+        assert!(Op::of(number).is_none_or(|op| !Op::name(op).is_empty() && Op::columns(op).len() < 5));
+        assert_eq!(Ending::columns_of(number).is_some(), number < 22);
+        let names = [Kind::of(number).map(Kind::name), Operator::of(number).map(Operator::name), Variant::of(number).map(Variant::name)];
+        assert!(names.into_iter().all(|name| name.is_some() == (number < 3)));
         for word in EDGES {
             (0..6).for_each(|used| columns_are_taken(number, array::from_fn(|at| if at < used { word } else { 0 })));
             assert_eq!(Span::words(Span::of_words(number, word)), [number, word]);
@@ -269,6 +288,15 @@ fn columns_are_taken(number: u32, columns: [u32; 5]) {
     if let Some(ending) = Ending::of_columns(number, columns) {
         assert_eq!((Ending::code(&ending), Ending::columns(&ending)), (number, columns));
         assert_eq!(Ending::name(&ending), Ending::NAMES[number as usize]);
+        assert!(Ending::blocks(&ending).all(|block| columns.contains(&block.0)));
+        let used = Ending::columns_of(number).expect("a code");
+        assert!(used.iter().all(|column| !Holds::name(column.holds).is_empty()));
+        let blocks = used.iter().zip(columns).filter(|(column, word)| match column.holds {
+            Holds::Block => true,
+            Holds::BlockOrNone => *word != 65_535,
+            _ => false,
+        });
+        assert!(blocks.map(|(_, word)| BlockRow(word)).eq(Ending::blocks(&ending)));
     }
     let row = [e, d, number, a, b, c, d, e, a, b, c];
     assert!(Block::of_row(&row).is_none_or(|block| Block::row(&block) == row));
@@ -279,12 +307,12 @@ fn columns_are_taken(number: u32, columns: [u32; 5]) {
 #[test]
 fn a_table_of_any_numbers() {
     for word in EDGES {
-        let mut table = Table { entry: word, places: vec![word], ..Table::default() };
-        let place = Table::place(&mut table, word);
-        let switch = Table::switch(&mut table, place, &[], word);
+        let mut table = Table { entry: BlockRow(word), places: vec![IdentifierRow(word)], ..Table::default() };
+        let place = Table::place(&mut table, IdentifierRow(word));
+        let switch = Table::switch(&mut table, place, &[], BlockRow(word));
         Table::block(&mut table, &[], switch, word, Span::of_words(word, 0));
         assert!(reactive_build::rows(&Table::words(&table)).is_err(), "it has no identifier");
-        assert_eq!((place, Table::identifier(&mut table, true)), (1, 0));
+        assert_eq!((place, Table::identifier(&mut table, true)), (PlaceRow(1), IdentifierRow(0)));
     }
 }
 

@@ -97,6 +97,36 @@ fn the_parts_of_each_row() {
 }
 
 #[test]
+fn the_cases_of_a_switch_are_walked_in_the_order_of_the_source() {
+    // switch (0) { case 1: return 1; default: return 0 }, and the rows with the last case first
+    let rows = [
+        [22, 0, 3, 0, 0, 0],
+        [9, 1, 0, 0, 0, 0],
+        [11, 65_535, 0, 0, 0, 0],
+        [22, 1, 2, 0, 0, 0],
+        [9, 1, 0, 0, 0, 0],
+        [11, 1, 0, 0, 0, 0],
+        [12, 0, 2, 1, 65_535, 0],
+        [9, 1, 0, 0, 0, 0],
+    ];
+    let nodes = Nodes::of(&rows).expect("one tree");
+    assert_eq!(nodes.parts(6).collect::<Vec<_>>(), [2, 5]);
+    assert_eq!(nodes.parts_of_source(6).collect::<Vec<_>>(), [5, 2]);
+    assert_eq!(nodes.walk().map(|visit| visit.row).collect::<Vec<_>>(), [7, 6, 5, 4, 3, 2, 1, 0]);
+    let outline = "\
+7  BLOCK of 1
+6    SWITCH place 0, 2 cases, id 1
+5      CASE place 1
+4        BLOCK of 1
+3          RETURN place 1, id 2
+2      CASE default
+1        BLOCK of 1
+0          RETURN place 0, id 3
+";
+    assert_eq!(nodes.to_string(), outline);
+}
+
+#[test]
 fn rows_that_are_no_tree() {
     let refused = |rows: &[Row]| Nodes::of(rows).map(|_| ()).map_err(|Refusal { code, at }| (code, at));
     let (load, block, huge) = ([2, 0, 0, 0, 0, 0], [9, 0, 0, 0, 0, 0], [9, u32::MAX, 0, 0, 0, 0]);

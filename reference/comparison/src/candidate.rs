@@ -95,7 +95,7 @@ pub const CANDIDATE_PLAIN: Option<CandidatePlain> = Some(plain);
 #[cfg(feature = "candidate")]
 fn plain(words: &[u32]) -> Result<usize, (u32, u32)> {
     use reactive_build::plain::{Law, law};
-    let laws = [Law::None, Law::Paper01, Law::Switches, Law::Loops];
+    let laws = [Law::None, Law::Plain, Law::Switches, Law::Loops];
     match law(words) {
         Ok(found) => Ok(laws.iter().position(|law| *law == found).unwrap()),
         Err(refusal) => Err((refusal.code, refusal.at)),

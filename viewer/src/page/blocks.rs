@@ -41,7 +41,7 @@ impl Shown<'_> {
         let goes = names::targets(&block.ending, &self.table.cases);
         let goes: Vec<String> = goes.iter().map(|(role, to)| format!("{role} <a data-to=\"{to}\">{to}</a>")).collect();
         let goes = if goes.is_empty() { String::new() } else { format!("<span class=\"goes\">{}</span>", goes.join(", ")) };
-        let rows = self.table.instructions.iter().enumerate().skip(block.first as usize).take(block.count as usize);
+        let rows = self.table.instructions.iter().enumerate().skip(block.first.into()).take(block.count as usize);
         let source = self.input.source.map(|(_, source)| source);
         let told = rows.clone().map(|(row, instruction)| match text(instruction.span, source) {
             Some(text) => format!("<span class=\"instruction\">{row} <q>{}</q></span>", html(&text)),
@@ -49,7 +49,7 @@ impl Shown<'_> {
         });
         let spans: Vec<Span> = rows.clone().filter_map(|(_, instruction)| instruction.span).chain(block.span).collect();
         let mut marks = String::new();
-        if number == self.table.entry as usize {
+        if number == usize::from(self.table.entry) {
             marks.push_str(" <em>entry</em>");
         }
         let refused = if self.refused_block() == Some(number) { " class=\"refused\"" } else { "" };

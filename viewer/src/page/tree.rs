@@ -3,12 +3,13 @@
 use super::{Shown, linked, panel};
 use crate::escape::html;
 use crate::links::{Link, links};
-use crate::names::{self, Piece};
 use crate::outline::{Line, lines};
 use crate::proved::Built;
 use crate::source::Source;
 use crate::text::{shown_span, text};
 use crate::ways::{LEVEL, svg, ways};
+use reactive_build::outline::{Piece, pieces};
+use reactive_build::tree::BlockRow;
 use std::collections::HashMap;
 
 /// More rows are not shown: a page of them would not be usable.
@@ -33,7 +34,7 @@ impl Shown<'_> {
 
 /// Where the statement of each label stands in the outline: its first line, and how many lines it has.
 struct Labels {
-    lines: HashMap<u32, (usize, usize)>,
+    lines: HashMap<BlockRow, (usize, usize)>,
 }
 
 impl Labels {
@@ -46,7 +47,7 @@ impl Labels {
         Self { lines: found.collect() }
     }
 
-    fn button(&self, label: u32, words: &str) -> String {
+    fn button(&self, label: BlockRow, words: &str) -> String {
         match self.lines.get(&label) {
             Some((head, count)) => {
                 format!(
@@ -94,12 +95,13 @@ struct Said {
 impl Said {
     fn of(built: &Built, line: &Line, labels: &Labels) -> Self {
         let node = &built.nodes[line.row];
-        let pieces = names::row(node);
+        let pieces = pieces(node);
         let role = if line.role.is_empty() { String::new() } else { format!("<i>{}</i> ", line.role) };
         let told: Vec<String> = pieces.iter().map(|piece| told(piece, labels)).collect();
         let space = if told.is_empty() { "" } else { " " };
         let html = format!("{role}<b>{}</b>{space}{}", node.op().name(), told.join(", "));
-        let length = line.role.len() + 2 + node.op().name().len() + names::said(&pieces).len();
+        // one letter more where nothing is said behind the op
+        let length = line.role.len() + 1 + node.to_string().len() + usize::from(pieces.is_empty());
         Self { html, length }
     }
 }
@@ -107,7 +109,7 @@ impl Said {
 fn told(piece: &Piece, labels: &Labels) -> String {
     match piece {
         Piece::Text(words) => html(words),
-        Piece::Label(label) => labels.button(*label, &names::piece(piece)),
+        Piece::Label(label) => labels.button(*label, &piece.to_string()),
         Piece::Target(label) => format!("to {}", labels.button(*label, &label.to_string())),
     }
 }

@@ -9,7 +9,7 @@ use std::mem::{Discriminant, discriminant};
 
 use oxc_ast::ast::LogicalOperator;
 use oxc_span::Span;
-use reactive_build::table::{Ending, LIMITS, NONE, Operator, Variant};
+use reactive_build::table::{BlockRow, Ending, LIMITS, NONE, Operator, PlaceRow, Variant};
 use rustc_hash::FxHashMap;
 
 use super::Outside;
@@ -147,27 +147,27 @@ impl<'h, 'a> Lowering<'h, 'a> {
         let mut words = Vec::with_capacity(
             1 + counts.len() + parts.iter().map(|part| part.len()).sum::<usize>(),
         );
-        words.push(entry);
+        words.push(entry.0);
         words.extend(counts.map(|count| count as u32));
         parts.iter().for_each(|part| words.extend_from_slice(part));
         let Self { blocks, places, spans, scopes, .. } = self;
         Ok(Lowered { words, blocks, instructions, places, spans, scopes })
     }
 
-    fn block(&mut self, id: BlockId) -> u32 {
+    fn block(&mut self, id: BlockId) -> BlockRow {
         let (row, is_new) = self.block_rows.of(id.index());
         if is_new {
             self.blocks.push(id);
         }
-        row
+        BlockRow(row)
     }
 
-    fn place(&mut self, place: Place) -> u32 {
+    fn place(&mut self, place: Place) -> PlaceRow {
         let next = self.places.len() as u32;
         if let Some(rows) = &mut self.place_rows {
             let row = *rows.entry(key(&place)).or_insert(next);
             if row != next {
-                return row;
+                return PlaceRow(row);
             }
         }
         let (row, is_new) = self.identifier_rows.of(place.identifier.index());
@@ -176,10 +176,10 @@ impl<'h, 'a> Lowering<'h, 'a> {
         }
         self.places.push(place);
         self.place_identifiers.push(row);
-        next
+        PlaceRow(next)
     }
 
-    fn place_or_none(&mut self, place: Option<Place>) -> Option<u32> {
+    fn place_or_none(&mut self, place: Option<Place>) -> Option<PlaceRow> {
         place.map(|place| self.place(place))
     }
 
@@ -196,24 +196,24 @@ impl<'h, 'a> Lowering<'h, 'a> {
     fn instruction(&mut self, instruction: &Instruction) -> Result<[u32; 7], Outside> {
         let lvalue = self.place(instruction.lvalue);
         let (code, p, q) = match &instruction.value {
-            InstructionValue::LoadLocal { place, .. } => (1, self.place(*place), 0),
+            InstructionValue::LoadLocal { place, .. } => (1, self.place(*place).0, 0),
             InstructionValue::StoreLocal { lvalue, value, .. } => {
                 let stored = self.place(lvalue.place);
                 self.name(stored)?;
-                (2, stored, self.place(*value))
+                (2, stored.0, self.place(*value).0)
             }
             _ => (0, 0, 0),
         };
         let [from, to] = self.span(instruction.span);
-        Ok([instruction.id.index() as u32, lvalue, code, p, q, from, to])
+        Ok([instruction.id.index() as u32, lvalue.0, code, p, q, from, to])
     }
 
     /// Whether the identifier of a place has a name. The Rust asks this of identifiers that are stored to, and of no
     /// others.
-    fn name(&mut self, place: u32) -> Result<(), Outside> {
-        let id = self.places[place as usize].identifier;
+    fn name(&mut self, place: PlaceRow) -> Result<(), Outside> {
+        let id = self.places[usize::from(place)].identifier;
         let identifier = self.env.identifiers.get(id).ok_or(Outside::NoIdentifier)?;
-        let row = self.place_identifiers[place as usize];
+        let row = self.place_identifiers[usize::from(place)];
         // where an id is too large, no row is its own
         if let Some(named) = self.named.get_mut(row as usize) {
             *named = identifier.name.is_some().into();
@@ -246,9 +246,9 @@ impl<'h, 'a> Lowering<'h, 'a> {
                 let test = self.place(*test);
                 let first_case = self.cases.len() as u32;
                 for case in cases.iter() {
-                    let row =
-                        [self.place_or_none(case.test).unwrap_or(NONE), self.block(case.block)];
-                    self.cases.push(row);
+                    let test = self.place_or_none(case.test).map_or(NONE, |test| test.0);
+                    let block = self.block(case.block);
+                    self.cases.push([test, block.0]);
                 }
                 let fallthrough = self.block(*fallthrough);
                 Ending::Switch { test, first_case, cases: cases.len() as u32, fallthrough }
@@ -318,7 +318,7 @@ impl<'h, 'a> Lowering<'h, 'a> {
         }
     }
 
-    fn blocks<const N: usize>(&mut self, ids: [BlockId; N]) -> [u32; N] {
+    fn blocks<const N: usize>(&mut self, ids: [BlockId; N]) -> [BlockRow; N] {
         ids.map(|id| self.block(id))
     }
 }

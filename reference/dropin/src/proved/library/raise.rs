@@ -4,7 +4,7 @@
 use oxc_allocator::{Box as ArenaBox, CloneIn, Vec as ArenaVec};
 use oxc_ast::ast::LogicalOperator;
 use oxc_span::Span;
-use reactive_build::tree::{Kind, Node, Operator, Row};
+use reactive_build::tree::{BlockRow, Kind, Node, Operator, PlaceRow, Row};
 
 use super::lower::Lowered;
 use crate::react_compiler_hir::environment::Environment;
@@ -181,7 +181,7 @@ impl<'a> Raising<'_, 'a> {
     fn instruction_value(&mut self, node: Node) {
         let value = match node {
             Node::Plain { instruction } => {
-                let instruction = self.lowered.instructions[instruction as usize];
+                let instruction = self.lowered.instructions[usize::from(instruction)];
                 self.hir.instructions[instruction.index()].value.clone_in(self.env.allocator)
             }
             Node::Load { place } => {
@@ -244,11 +244,11 @@ impl<'a> Raising<'_, 'a> {
         self.blocks.pop().expect("a block before its row")
     }
 
-    fn place(&self, row: u32) -> Place {
-        self.lowered.places[row as usize]
+    fn place(&self, row: PlaceRow) -> Place {
+        self.lowered.places[usize::from(row)]
     }
 
-    fn place_or_none(&self, row: Option<u32>) -> Option<Place> {
+    fn place_or_none(&self, row: Option<PlaceRow>) -> Option<Place> {
         row.map(|row| self.place(row))
     }
 
@@ -256,8 +256,8 @@ impl<'a> Raising<'_, 'a> {
         span.map(|span| self.lowered.spans[span.from as usize - 1])
     }
 
-    fn target(&self, block: u32) -> BlockId {
-        self.lowered.blocks[block as usize]
+    fn target(&self, block: BlockRow) -> BlockId {
+        self.lowered.blocks[usize::from(block)]
     }
 }
 
