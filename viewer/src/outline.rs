@@ -44,7 +44,3 @@ pub fn roles(node: &Node) -> &'static [&'static str] {
         _ => &[],
     }
 }
-
-pub fn is_loop(node: &Node) -> bool {
-    matches!(node, Node::DoWhile { .. } | Node::While { .. } | Node::For { .. } | Node::ForOf { .. } | Node::ForIn { .. })
-}
