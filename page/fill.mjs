@@ -1,7 +1,7 @@
 // node page/fill.mjs [TABLE [SOURCE] [ANSWERS]] >page.html: target/js/page.html with these files in it. `./run view` calls it.
 import { readFileSync } from 'node:fs';
 import { basename } from 'node:path';
-import { data } from './make.mjs';
+import { data } from './data.mjs';
 import { Refusal } from '../target/js/package/core.js';
 import reactive from '../target/js/package/inline.js';
 

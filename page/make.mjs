@@ -3,9 +3,9 @@ import { execFileSync } from 'node:child_process';
 import { createHash } from 'node:crypto';
 import { readFileSync, writeFileSync } from 'node:fs';
 import { fileURLToPath } from 'node:url';
+import { data } from './data.mjs';
 
 const here = name => readFileSync(new URL(name, import.meta.url), 'utf8'), example = name => here(`../examples/${name}`);
-export const data = value => JSON.stringify(value).replace(/</g, '\\u003c');
 const examples = {
   'Rows, columns, a switch': { source: here('examples/rows.js') },
   'Retry: do, throw, a label': { source: here('examples/retry.js'), values: false },
@@ -22,4 +22,4 @@ const script = `'use strict';\n${licences}${bundle.replace(/<\/script/gi, '<\\/s
 const sum = text => `'sha256-${createHash('sha256').update(text).digest('base64')}'`;
 const policy = `default-src 'none'; style-src ${sum(style)}; script-src ${sum(script)} 'wasm-unsafe-eval'; base-uri 'none'; form-action 'none'; require-trusted-types-for 'script'`;
 const parts = { POLICY: policy, STYLE: style, SCRIPT: script, EXAMPLES: data(examples) };
-if (process.argv[1] === fileURLToPath(import.meta.url)) writeFileSync(process.argv[2], here('page.html').replace(/@([A-Z]+)@/g, (_, name) => parts[name]));
+writeFileSync(process.argv[2], here('page.html').replace(/@([A-Z]+)@/g, (_, name) => parts[name]));

@@ -1,9 +1,11 @@
-// node engine.mjs COUNT: random programs of JavaScript, each run by this very engine and, as the table that page/lower.js makes of it, by
-// the tree of the language entry: for the same answers both must do the same things in the same order and stop for the same reason. The
-// first entry resolves breaks out of a switch as the Rust does, and must part from the engine there and nowhere else.
+// node engine.mjs COUNT: random programs of JavaScript, each run by this very engine and, as the table that page/lower.js makes of it, by the
+// tree of the language entry: for the same answers both must do the same things in the same order and stop for the same reason. So must the
+// code that page/code.js prints of that tree. The first entry resolves breaks out of a switch as the Rust does, and must part from the engine
+// there and nowhere else.
 import { createRequire } from 'node:module';
+import { code as printed } from '../../page/code.js';
 import { lower } from '../../page/lower.js';
-import { random, reactive } from './package.mjs';
+import { random, reactive, tree } from './package.mjs';
 
 const { parse } = createRequire(import.meta.url)('/usr/share/nodejs/acorn');
 const below = random(12345), of = list => list[below(list.length)], many = Number(process.argv[2] ?? 20000), RUNS = 6;
@@ -56,7 +58,16 @@ function run(code, answers) {
   }
 }
 
-const seen = { build: 0, buildLanguage: 0 };
+/** The code of a tree as the page shows it, compiled by the engine. */
+function codeOf(words, rows, source) {
+  const table = tree.Table.of(words), nodes = tree.readTree(rows, table), ranges = tree.rangesOf(nodes, table);
+  const rangeOf = node => ranges[node.type === 'Instr' && node.value.type === 'Plain' ? node.value.row : node.row];
+  const lines = printed(nodes, ({ row }) => ranges[row] && source.slice(...ranges[row]).replace(/;$/, ''), rangeOf);
+  const text = lines.map(({ parts }) => parts.map(part => part.text ?? part).join('')).join('\n');
+  return new Function('f', 'q', 's', `let ${table.places.map((_, place) => `i${place}, t${place}`).join()};\n${text}`);
+}
+
+const seen = { build: 0, buildLanguage: 0, code: 0 };
 let runs = 0, calls = 0, withSwitch = 0, elsewhere = 0, shortest;
 for (let left = many; left > 0; left--) {
   number = 0;
@@ -64,11 +75,14 @@ for (let left = many; left > 0; left--) {
   const source = block(4, []), words = reactive.rearrange(lower(source, { parse })).words, code = new Function('f', 'q', 's', source);
   const spans = 6 + 11 * words[1] + 5, text = row => source.slice(words[spans + 7 * row], words[spans + 7 * row + 1]).replace(/;$/, '');
   const trees = { build: reactive.build(words).tree, buildLanguage: reactive.buildLanguage(words).tree };
+  const again = codeOf(words, trees.buildLanguage, source);
   if (source.includes('switch')) withSwitch++;
   for (let round = 0; round < RUNS; round++) {
     const answers = Array.from({ length: below(20) }, () => below(3)), engine = run(code, answers);
     runs++;
     calls += engine.log.length;
+    const read = run(again, answers);
+    if (read.log.join() !== engine.log.join() || read.reason !== engine.reason) seen.code++;
     for (const rule in trees) {
       const ran = reactive.runTree(trees[rule], answers), log = [...ran.performed].map(text).filter(part => /^[fqs]\(/.test(part));
       if (log.join() === engine.log.join() && ran.reason === engine.reason) continue;
@@ -79,8 +93,9 @@ for (let left = many; left > 0; left--) {
   }
 }
 console.log(`engine: ${many} programs, ${withSwitch} with a switch, ${runs} runs, ${calls} calls`);
+console.log(`engine: the code printed of the language entry's trees differs in ${seen.code} runs`);
 console.log(`engine: the trees differ from node in ${seen.buildLanguage} runs by the language entry, in ${seen.build} by the first`);
-if (seen.buildLanguage || elsewhere || !seen.build || calls < 3 * runs) {
+if (seen.buildLanguage || seen.code || elsewhere || !seen.build || calls < 3 * runs) {
   console.log(`engine: FAILED${shortest ? `: ${shortest}` : ''}`);
   process.exitCode = 1;
 }
