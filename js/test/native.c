@@ -1,6 +1,7 @@
 /* Reads a corpus (corpus.mjs) from standard input, makes every call of reactive.h on each table, with lent buffers of several lengths, and
  * writes all that came back as 32-bit numbers: a number as it is, a buffer as its length and two sums. compare.mjs makes the same calls of
  * the module. With an argument N it prints times instead: of each table the least microseconds of N calls. */
+#define _POSIX_C_SOURCE 199309L /* clock_gettime */
 #include <stdio.h>
 #include <stdlib.h>
 #include <string.h>
