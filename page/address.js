@@ -1,7 +1,8 @@
 // What the page holds as a part of an address: JSON, deflated, in base 64 for addresses.
 const MOST = 64000, MOST_UNPACKED = 4000000;
 
-const through = (bytes, stream) => new Response(new Blob([bytes]).stream().pipeThrough(stream)).arrayBuffer().then(buffer => new Uint8Array(buffer));
+const through = (bytes, stream) => new Response(new Blob([bytes]).stream().pipeThrough(stream)).arrayBuffer().then(buffer =>
+  new Uint8Array(buffer));
 
 /** `s=…`, or null where that is too long for an address. */
 export async function pack(what) {

@@ -1,5 +1,5 @@
-// The page: a source or a table is edited, and the proved functions answer at each key. What they answer is drawn; nothing of it is worked out here but
-// where it says so.
+// The page: a source or a table is edited, and the proved functions answer at each key. What they answer is drawn; nothing of it is worked
+// out here but where it says so.
 import { parse } from 'acorn';
 import { Refusal } from '../target/js/package/core.js';
 import reactive from '../target/js/package/inline.js';
@@ -49,7 +49,8 @@ function make(text) {
 function otherRule({ words, built }) {
   try {
     const { tree } = reactive[state.rule === 'build' ? 'buildLanguage' : 'build'](words), differ = new Set();
-    if (built) for (let word = 0; word < Math.max(tree.length, built.tree.length); word++) if (tree[word] !== built.tree[word]) differ.add(Math.floor(word / 6));
+    if (built) for (let word = 0; word < Math.max(tree.length, built.tree.length);
+      word++) if (tree[word] !== built.tree[word]) differ.add(Math.floor(word / 6));
     return { differ };
   } catch (refusal) {
     if (!(refusal instanceof Refusal)) throw refusal;
@@ -112,25 +113,32 @@ function caseText(table, test, place) {
 const RULES = { build: 'By the Rust’s rule', buildLanguage: 'By JavaScript’s rule' };
 const LAWS = {
   none: 'No theorem says how this tree runs.', plain: 'Proved: this tree runs as the blocks do.',
-  switches: 'Proved, with switches: this tree runs as the blocks do.', loops: 'Proved, with loops and switches: this tree runs as the blocks do.',
+  switches: 'Proved, with switches: this tree runs as the blocks do.',
+    loops: 'Proved, with loops and switches: this tree runs as the blocks do.',
 };
 function tell() {
   const { made, wrong } = state, told = one('#told'), say = (...parts) => told.replaceChildren(el('p', {}, ...parts));
   const more = text => [' ', el('span', { class: 'more' }, text)];
   if (wrong) {
     const { line, column } = lineAt(source.text, wrong.pos);
-    return say(el('span', { class: 'refusal' }, `Source, line ${line}, column ${column}: ${wrong.message}.`), more('The table is that of the last source that could be read.'));
+    return say(el('span', { class: 'refusal' }, `Source, line ${line}, column ${column}: ${wrong.message}.`),
+      more('The table is that of the last source that could be read.'));
   }
   if (made.refusal) {
     const { at, unit, code, sentence, advice } = made.refusal, place = placeInWords(made);
     const isEmpty = code === 50 && made.text.trim() === '';
     if (isEmpty) return say(more('Type a small JavaScript, or paste a table.'));
-    return say(el('span', { class: 'refusal' }, `Refused with ${code}${unit === null ? '' : ` at ${unit} ${at}`}: ${sentence}`), more(`${place}${advice}${/[.]$/.test(advice) ? '' : '.'}`));
+    return say(el('span', { class: 'refusal' }, `Refused with ${code}${unit === null ? '' : ` at ${unit} ${at}`}: ${sentence}`),
+      more(`${place}${advice}${/[.]$/.test(advice) ? '' : '.'}`));
   }
-  const { table, built, law, other } = made, isCovered = state.rule === 'buildLanguage' || law === 'plain' || law === 'loops' && !table.blocks.some(({ type }) => type === 'Switch');
+  const { table, built, law, other } = made, isCovered = state.rule === 'buildLanguage' || law === 'plain' || law === 'loops'
+    && !table.blocks.some(({ type }) => type === 'Switch');
   const by = state.rule === 'build' ? 'buildLanguage' : 'build', rule = RULES[by];
-  const difference = other.refusal ? `${rule} it is refused: ${other.refusal.message}` : other.differ.size ? `${rule} ${count(other.differ.size, 'row')} ${other.differ.size === 1 ? 'is' : 'are'} another.` : `${rule} it is the same.`;
-  say(el('b', { class: 'good' }, 'Accepted. '), `${count(table.blocks.length, 'block')} and ${count(table.instructions.length, 'instruction')} became ${count(built.rows, 'row')} with ${count(built.lines, 'label')}. `,
+  const difference = other.refusal ? `${rule} it is refused: ${other.refusal.message}` : other.differ.size
+    ? `${rule} ${count(other.differ.size, 'row')} ${other.differ.size === 1 ? 'is' : 'are'} another.` : `${rule} it is the same.`;
+  say(el('b', { class: 'good' }, 'Accepted. '),
+    `${count(table.blocks.length, 'block')} and ${count(table.instructions.length, 'instruction')} became `,
+    `${count(built.rows, 'row')} with ${count(built.lines, 'label')}. `,
     more(`${LAWS[isCovered ? law : 'none']} ${difference}`));
 }
 /** Where a refusal is, as a person finds it. */
@@ -148,9 +156,11 @@ function placeInWords({ refusal, text, table }) {
 const classesOf = row => [state.marks.rows.get(row), state.shown?.other?.differ?.has(row) && 'parted'].filter(Boolean).join(' ');
 const tree = new Lines(one('#tree'), k => {
   const { node, depth, role } = state.tree.lines[k], text = textOf(state.shown.ranges[node.row]);
-  const item = el('li', { role: 'treeitem', id: `row-${node.row}`, 'aria-level': depth + 1, 'data-r': node.row, 'class': classesOf(node.row) },
+  const item = el('li', { role: 'treeitem', id: `row-${node.row}`, 'aria-level': depth + 1, 'data-r': node.row,
+    'class': classesOf(node.row) },
     el('span', { class: 'n' }, String(node.row)),
-    el('span', { class: 'w' }, role ? [el('i', {}, role), ' '] : [], el('b', {}, node.type.toUpperCase()), ' ', words(node).map(part => typeof part === 'string' ? part : labelButton(part))),
+    el('span', { class: 'w' }, role ? [el('i', {}, role), ' '] : [], el('b', {}, node.type.toUpperCase()), ' ',
+      words(node).map(part => typeof part === 'string' ? part : labelButton(part))),
     text === null ? null : el('q', {}, short(text, 70)));
   item.children[1].style.paddingLeft = indent(depth);
   item.children[1].style.minWidth = `calc(${indent(state.tree.deepest)} + 17em)`;
@@ -158,7 +168,8 @@ const tree = new Lines(one('#tree'), k => {
 }, (from, to) => svg(state.tree.ways, from, to, (state.tree.deepest + 1) * 1.5, classesOf));
 const codeLines = new Lines(one('#code'), k => {
   const { depth, parts } = state.tree.code[k], rows = rowsOfLine(state.tree.code[k]);
-  const item = el('li', { role: 'option', id: `line-${k}`, 'data-k': k, 'data-r': rows[0] ?? null, 'class': classesOfLine(rows) }, el('span', { class: 'n' }, String(k + 1)),
+  const item = el('li', { role: 'option', id: `line-${k}`, 'data-k': k, 'data-r': rows[0] ?? null, 'class': classesOfLine(rows) },
+    el('span', { class: 'n' }, String(k + 1)),
     el('span', { class: 'w' }, parts.map(part => typeof part === 'string' ? part : part.label !== undefined ? labelButton(part)
       : el('span', { 'data-r': part.row, 'class': `t ${state.marks.rows.get(part.row) ?? ''}` }, part.text))));
   item.children[1].style.paddingLeft = `${depth * 2}ch`;
@@ -167,7 +178,8 @@ const codeLines = new Lines(one('#code'), k => {
 const labelButton = ({ label, text }) => {
   if (!state.shown.labels.some(line => line.label === label)) return text;
   const [, before = '', words, after = ''] = text.match(/^(\s*)(.*?)(:? *)$/);
-  return [before, el('button', { type: 'button', 'class': 'label', tabindex: -1, 'data-label': label, title: `Show the statement with label ${label} alone` }, words), after];
+  return [before, el('button', { type: 'button', 'class': 'label', tabindex: -1, 'data-label': label,
+    title: `Show the statement with label ${label} alone` }, words), after];
 };
 const rowsOfLine = line => line.parts.map(part => part.row).filter(row => row !== undefined);
 const classesOfLine = rows => ['now', 'on', 'hot'].find(name => rows.some(row => state.marks.rows.get(row) === name)) ?? '';
@@ -179,7 +191,8 @@ function drawTree() {
   } else {
     const root = only === null ? shown.nodes.root : shown.nodes.rows[only.closing], lines = outline(root);
     const body = root.type === 'Block' ? root : { type: 'Block', row: root.row, body: [root] };
-    state.tree = { lines, ways: ways(lines), deepest: lines.reduce((most, { depth }) => Math.max(most, depth), 0), at: new Map(lines.map(({ node }, at) => [node.row, at])) };
+    state.tree = { lines, ways: ways(lines), deepest: lines.reduce((most, { depth }) => Math.max(most, depth), 0),
+      at: new Map(lines.map(({ node }, at) => [node.row, at])) };
     Object.defineProperty(state.tree, 'code', { get() { // printed when it is looked at
       const rangeOf = node => shown.ranges[node.type === 'Instr' && node.value.type === 'Plain' ? node.value.row : node.row];
       const printed = code({ root: body }, node => textOf(shown.ranges[node.row]), rangeOf);
@@ -218,7 +231,8 @@ function showStatement({ label }, isAgain = false) {
 // ---- What is marked: what a pointer is on, a selection, the step of the run, a refusal
 
 const graph = new Graph(one('#graph .view'), {
-  block: number => state.made?.refusal?.unit === 'block' && state.made.refusal.at === number || state.made?.other?.refusal?.unit === 'block' && state.made.other.refusal.at === number
+  block: number => state.made?.refusal?.unit === 'block' && state.made.refusal.at === number
+    || state.made?.other?.refusal?.unit === 'block' && state.made.other.refusal.at === number
     ? 'refused' : state.marks.blocks.get(number) ?? '',
   taken: key => state.marks.taken.has(key),
 });
@@ -227,7 +241,8 @@ state.marks = { rows: new Map(), blocks: new Map(), taken: new Set() };
 /** What belongs to a thing that is pointed at: rows, blocks, ranges of the source. */
 function linked(what) {
   const { shown, graphed } = state;
-  const rows = what.rows ?? (shown && !state.made.refusal ? what.blocks.flatMap(block => shown.blocks.flatMap((blocks, row) => blocks.includes(block) ? [row] : [])) : []);
+  const rows = what.rows ?? (shown && !state.made.refusal
+    ? what.blocks.flatMap(block => shown.blocks.flatMap((blocks, row) => blocks.includes(block) ? [row] : [])) : []);
   const blocks = what.blocks ?? [...new Set(rows.flatMap(row => shown.blocks[row]))];
   const spans = what.rows ? rows.map(row => shown.ranges[row]) : blocks.flatMap(block => {
     const { first, count, range } = graphed.table.blocks[block];
@@ -236,7 +251,8 @@ function linked(what) {
   return { rows, blocks, spans: spans.filter(Boolean) };
 }
 function mark() {
-  const { ran, made, shown, wrong } = state, marks = state.marks = { rows: new Map(), blocks: new Map(), taken: new Set() }, inSource = [], inTable = [];
+  const { ran, made, shown, wrong } = state, marks = state.marks = { rows: new Map(), blocks: new Map(), taken: new Set() }, inSource = [],
+    inTable = [];
   const put = (name, what) => {
     if (!what || !shown && !state.graphed) return;
     const { rows, blocks, spans } = linked(what);
@@ -255,9 +271,11 @@ function mark() {
   const step = ran?.steps?.[state.step - 1];
   if (step && made.nodes) put('now', { rows: [step.row] });
   if (ran?.steps && made.nodes) {
-    const until = ran.steps.slice(0, state.step), performed = until.filter(({ asks }) => !asks).map(({ row }) => made.nodes.rows[row].instruction);
+    const until = ran.steps.slice(0, state.step), performed = until.filter(({ asks }) => !asks).map(({ row }) =>
+      made.nodes.rows[row].instruction);
     const answers = until.filter(({ asks, answer }) => asks && answer !== undefined).map(({ answer }) => answer);
-    for (const { from, to, role, place } of state.step > 0 ? takenBy(made.table, performed, answers) ?? [] : []) marks.taken.add(edgeKey({ from, to, role, place }));
+    for (const { from, to, role, place } of state.step > 0 ? takenBy(made.table, performed, answers) ?? []
+      : []) marks.taken.add(edgeKey({ from, to, role, place }));
   }
   if (made?.refusal && !wrong) inTable.push(...placesOfRefusal(made));
   if (wrong) {
@@ -277,7 +295,8 @@ function placesOfRefusal({ refusal: { at, unit, code }, text }) {
 /** The classes of what is drawn already. */
 function paint() {
   for (const item of one('#tree ol')?.children ?? []) item.className = classesOf(+item.dataset.r);
-  for (const way of all('#tree [data-way]')) for (const name of ['hot', 'on', 'now']) way.classList.toggle(name, state.marks.rows.get(+way.dataset.way) === name);
+  for (const way of all('#tree [data-way]')) for (const name of ['hot', 'on', 'now']) way.classList.toggle(name,
+    state.marks.rows.get(+way.dataset.way) === name);
   for (const item of one('#code ol')?.children ?? []) {
     item.className = classesOfLine(rowsOfLine(state.tree.code[+item.dataset.k] ?? { parts: [] }));
     for (const part of all('.t', item)) part.className = `t ${state.marks.rows.get(+part.dataset.r) ?? ''}`;
@@ -286,7 +305,8 @@ function paint() {
 }
 /** Brings what is marked into view. */
 function show(name) {
-  const row = [...state.marks.rows].find(([, each]) => each === name)?.[0], block = [...state.marks.blocks].find(([, each]) => each === name)?.[0];
+  const row = [...state.marks.rows].find(([, each]) => each === name)?.[0],
+    block = [...state.marks.blocks].find(([, each]) => each === name)?.[0];
   if (row !== undefined && state.tab === 'tree' && state.tree.at?.has(row)) tree.show(state.tree.at.get(row));
   if (row !== undefined && state.tab === 'code') {
     const line = state.tree.code.findIndex(each => rowsOfLine(each).includes(row));
@@ -313,7 +333,9 @@ function runAgain(toEnd) {
     state.step = toEnd ? ran.steps.length : Math.min(state.step, ran.steps.length);
     one('#range').max = ran.steps.length;
   }
-  const asks = one('#asks'), answers = state.answers.map((answer, k) => el('button', { type: 'button', 'data-forget': k, 'class': ran?.steps && k < ran.used ? 'given' : '', title: 'Take back this answer and those after it' }, String(answer)));
+  const asks = one('#asks'), answers = state.answers.map((answer, k) =>
+    el('button', { type: 'button', 'data-forget': k, 'class': ran?.steps && k < ran.used ? 'given' : '',
+      title: 'Take back this answer and those after it' }, String(answer)));
   one('#answers').replaceChildren(...ran?.steps && answers.length ? ['answers ', ...answers] : []);
   asks.replaceChildren(...ran?.refusal ? notRun(ran.refusal) : ran?.steps ? questionOf(ran) : []);
   step(state.step);
@@ -326,18 +348,21 @@ function running(made) {
   }
 }
 function notRun(refusal) {
-  const why = el('span', {}, `This tree is not run. ${refusal.code === 64 ? `Row ${refusal.at} is ${state.made.nodes.rows[refusal.at].type.toUpperCase()}, which the runner leaves out.` : refusal.message} `);
-  const isValue = refusal.code === 64 && /^(Logical|Cond|Optional)$/.test(state.made.nodes.rows[refusal.at].type);
+  const { type } = refusal.code === 64 ? state.made.nodes.rows[refusal.at] : {}, isValue = /^(Logical|Cond|Optional)$/.test(type);
+  const because = type ? `Row ${refusal.at} is ${type.toUpperCase()}, which the runner leaves out.` : refusal.message;
+  const why = el('span', {}, `This tree is not run. ${because} `);
   return isValue && state.lowers ? [why, el('button', { type: 'button', id: 'whole' }, 'Keep expressions whole, to run it')] : [why];
 }
 function questionOf({ pending, reason, isUnknown }) {
   const button = (answer, name) => el('button', { type: 'button', 'data-answer': answer }, name);
   if (isUnknown) return ['A row asks. ', button(1, 'yes'), button(0, 'no')];
   if (!pending) return [{ return: 'It returns.', throw: 'It throws.', end: 'The end of the tree is reached.' }[reason]];
-  const text = textOf(rangeOfQuestion(pending)), what = el('span', {}, el('b', {}, pending.type.toUpperCase()), ` of row ${pending.row} asks `, text === null ? '' : el('q', {}, short(text, 34)));
+  const text = textOf(rangeOfQuestion(pending)), what = el('span', {}, el('b', {}, pending.type.toUpperCase()),
+    ` of row ${pending.row} asks `, text === null ? '' : el('q', {}, short(text, 34)));
   if (pending.type !== 'Switch') return [what, button(1, 'yes'), button(0, 'no')];
   const table = state.made.table, names = pending.cases.map(({ test }, k) => test === null ? 'default' : caseText(table, test, k));
-  return [what, ...names.map((name, k) => button(k, name)), ...pending.cases.some(({ test }) => test === null) ? [] : [button(names.length, 'no case')]];
+  return [what, ...names.map((name, k) => button(k, name)), ...pending.cases.some(({ test }) => test === null) ? []
+    : [button(names.length, 'no case')]];
 }
 /** The range of what asks: of a loop its test's, of an If and a Switch that of the instruction whose place they test. */
 function rangeOfQuestion(node) {
@@ -349,16 +374,22 @@ function rangeOfQuestion(node) {
 function step(to) {
   const { ran, made } = state;
   if (ran?.steps) {
-    const n = ran.steps.length, at = state.step = Math.max(0, Math.min(n, to)), now = ran.steps[at - 1], node = now && made.nodes.rows[now.row];
+    const n = ran.steps.length, at = state.step = Math.max(0, Math.min(n, to)), now = ran.steps[at - 1],
+      node = now && made.nodes.rows[now.row];
     one('#range').value = at;
-    const text = node && textOf(made.ranges[now.row]);
-    one('#said').replaceChildren(...!now ? [n ? `Before the first of ${count(n, 'step')}` : 'No step'] : [`Step ${at} of ${n}: `, ...now.asks
-      ? [`${node.type.toUpperCase()} of row ${now.row} asks${now.answer === undefined ? '' : node.type === 'Switch' ? `, case ${now.answer}` : now.answer ? ', yes' : ', no'}`]
-      : [`instruction ${node.instruction} `, text === null ? '' : el('q', {}, short(text, 60))]]);
-    for (const [name, isOff] of [['first', at === 0], ['back', at === 0], ['on', at === n], ['last', at === n]]) one(`[data-step="${name}"]`).disabled = isOff;
+    one('#said').replaceChildren(...now ? [`Step ${at} of ${n}: `, ...stepInWords(now, node)]
+      : [n ? `Before the first of ${count(n, 'step')}` : 'No step']);
+    for (const [name, isOff] of [['first', at === 0], ['back', at === 0], ['on', at === n],
+      ['last', at === n]]) one(`[data-step="${name}"]`).disabled = isOff;
   }
   mark();
   if (state.step > 0) show('now');
+}
+function stepInWords({ row, asks, answer }, node) {
+  const text = textOf(state.made.ranges[row]);
+  if (!asks) return [`instruction ${node.instruction} `, text === null ? '' : el('q', {}, short(text, 60))];
+  const given = answer === undefined ? '' : node.type === 'Switch' ? `, case ${answer}` : answer ? ', yes' : ', no';
+  return [`${node.type.toUpperCase()} of row ${row} asks${given}`];
 }
 function answer(number) {
   state.answers = [...state.answers.slice(0, state.ran.used), number];
@@ -384,8 +415,10 @@ async function save() {
 let saved = '';
 function open(what) {
   const { source: text = '', table: rows = '', answers = [], name = '' } = what;
-  Object.assign(state, SETTINGS, { rule: what.rule === 'build' ? 'build' : 'buildLanguage', tab: what.tab === 'code' ? 'code' : 'tree', values: what.values !== false, lowers: what.lowers ?? !rows },
-    { answers: Array.isArray(answers) ? answers.filter(each => Number.isInteger(each) && each >= 0 && each < 2 ** 32).slice(0, 65536) : [], step: Number(what.step) || 0, name: String(name) },
+  Object.assign(state, SETTINGS, { rule: what.rule === 'build' ? 'build' : 'buildLanguage', tab: what.tab === 'code' ? 'code' : 'tree',
+    values: what.values !== false, lowers: what.lowers ?? !rows },
+    { answers: Array.isArray(answers) ? answers.filter(each => Number.isInteger(each) && each >= 0 && each < 2 ** 32).slice(0, 65536) : [],
+      step: Number(what.step) || 0, name: String(name) },
     { selected: null, only: null, hot: null, shown: null, graphed: null });
   graph.key = null;
   one('#graph .view').replaceChildren();
@@ -406,7 +439,8 @@ async function openAddress() {
   const packed = asked.has('s') ? await unpack(asked.get('s')) : null, first = Object.keys(examples)[0];
   const example = asked.has('example') && Object.hasOwn(examples, asked.get('example')) ? asked.get('example') : first;
   one('#example').value = example;
-  open({ ...packed ?? (given.table !== undefined || given.source !== undefined ? given : { ...examples[example], name: example }), ...step === null ? {} : { step } });
+  open({ ...packed ?? (given.table !== undefined || given.source !== undefined ? given : { ...examples[example], name: example }),
+    ...step === null ? {} : { step } });
 }
 
 // ---- Keys, clicks, pointers
@@ -433,7 +467,8 @@ document.addEventListener('click', event => {
   else if (id === 'whole') {
     state.values = one('#values').checked = false;
     refresh();
-  } else if (id === 'order' || id === 'old') changeTable(id === 'old' ? () => reactive.oldToNew(table.text) : () => reactive.writeTable(reactive.rearrange(state.made.words).words));
+  } else if (id === 'order' || id === 'old') changeTable(id === 'old' ? () => reactive.oldToNew(table.text)
+    : () => reactive.writeTable(reactive.rearrange(state.made.words).words));
   else if (id === 'link') copyLink();
   else if (dataset.b !== undefined) select({ blocks: [+dataset.b] });
   else if (dataset.r !== undefined) select({ rows: [+dataset.r] });
@@ -467,7 +502,8 @@ function changeTable(change) {
 }
 async function copyLink() {
   clearTimeout(saving);
-  const button = one('#link'), isSaved = await save(), copied = isSaved && await navigator.clipboard?.writeText(location.href).then(() => true, () => false);
+  const button = one('#link'), isSaved = await save(), copied = isSaved
+    && await navigator.clipboard?.writeText(location.href).then(() => true, () => false);
   button.textContent = !isSaved ? 'Too long for an address' : copied ? 'Copied' : 'It is in the address bar';
   setTimeout(() => { button.textContent = 'Copy link'; }, 1600);
 }
@@ -499,10 +535,12 @@ one('#range').addEventListener('input', event => step(+event.target.value));
 
 let pointed = null;
 document.addEventListener('mouseover', event => {
-  const target = event.target.closest?.('#tree li, #code .t, #code li, .block'), key = target ? `${target.dataset.r} ${target.dataset.b}` : null;
+  const target = event.target.closest?.('#tree li, #code .t, #code li, .block'), key = target ? `${target.dataset.r} ${target.dataset.b}`
+    : null;
   if (key === pointed) return;
   pointed = key;
-  state.hot = !target || !state.shown && target.dataset.b === undefined ? null : target.dataset.b !== undefined ? { blocks: [+target.dataset.b] } : target.dataset.r === undefined ? null : { rows: [+target.dataset.r] };
+  state.hot = !target || !state.shown && target.dataset.b === undefined ? null : target.dataset.b !== undefined
+    ? { blocks: [+target.dataset.b] } : target.dataset.r === undefined ? null : { rows: [+target.dataset.r] };
   mark();
 });
 
@@ -510,11 +548,14 @@ document.addEventListener('mouseover', event => {
 function move(view, by) {
   const { selected } = state;
   if (view.id === 'tree' || view.id === 'code') {
-    const lines = view.id === 'tree' ? state.tree.lines.map(({ node }) => [node.row]) : state.tree.code.map(rowsOfLine), at = lines.findIndex(rows => rows.includes(selected?.rows?.[0]));
-    for (let next = at < 0 ? (by > 0 ? 0 : lines.length - 1) : at + by; lines[next]; next += by) if (lines[next].length) return select({ rows: [lines[next][0]] });
+    const lines = view.id === 'tree' ? state.tree.lines.map(({ node }) => [node.row]) : state.tree.code.map(rowsOfLine),
+      at = lines.findIndex(rows => rows.includes(selected?.rows?.[0]));
+    for (let next = at < 0 ? (by > 0 ? 0 : lines.length - 1) : at + by; lines[next]; next += by) if (lines[next].length)
+      return select({ rows: [lines[next][0]] });
     return;
   }
-  const boxes = graph.drawn?.boxes ?? [], at = boxes.findIndex(({ box }) => box === selected?.blocks?.[0]), next = boxes[at < 0 ? 0 : at + by];
+  const boxes = graph.drawn?.boxes ?? [], at = boxes.findIndex(({ box }) => box === selected?.blocks?.[0]),
+    next = boxes[at < 0 ? 0 : at + by];
   if (next) select({ blocks: [next.box] });
 }
 document.addEventListener('keydown', event => {
@@ -534,7 +575,8 @@ document.addEventListener('keydown', event => {
     one(`#tab-${state.tab}`).focus();
   } else if (view && (key === 'ArrowDown' || key === 'ArrowUp')) move(view, key === 'ArrowDown' ? 1 : -1);
   else if (view && key === 'Enter') {
-    const node = state.shown?.nodes.rows[state.selected?.rows?.[0]], label = node && (node.type === 'Break' || node.type === 'Continue' ? node.target : node.label);
+    const node = state.shown?.nodes.rows[state.selected?.rows?.[0]],
+      label = node && (node.type === 'Break' || node.type === 'Continue' ? node.target : node.label);
     if (typeof label !== 'number') return;
     showStatement({ label });
     drawTree();
@@ -560,7 +602,8 @@ addEventListener('afterprint', () => {
 addEventListener('hashchange', openAddress);
 // What no part of the page expects is told, and not only to the console.
 for (const name of ['error', 'unhandledrejection']) addEventListener(name, event => {
-  one('#told').replaceChildren(el('p', { class: 'refusal' }, `This page has failed: ${event.message ?? event.reason?.message ?? event.reason}`));
+  one('#told').replaceChildren(el('p', { class: 'refusal' },
+    `This page has failed: ${event.message ?? event.reason?.message ?? event.reason}`));
 });
 
 openAddress().then(() => { document.body.dataset.ready = 'yes'; });

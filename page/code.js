@@ -1,10 +1,11 @@
-// A tree as code in the way of JavaScript, for reading: labels, breaks and continues as they would be printed. An instruction is its text in the source, or
-// `i7` without one. What is worked out for one use alone stands where it is used.
+// A tree as code in the way of JavaScript, for reading: labels, breaks and continues as they would be printed. An instruction is its text
+// in the source, or `i7` without one. What is worked out for one use alone stands where it is used.
 import { walk } from '../target/js/package/tree.js';
 
 const SIMPLE = /^(?:[\w$.]+(?:\([^()]*\))?|'[^']*'|"[^"]*")$/;
 
-/** Lines: {depth, parts}, a part being a text, {row, text}, or {row, text, label}. `textOf` gives the source text of a node, or null; `rangeOf` its range. */
+/** Lines: {depth, parts}, a part being a text, {row, text}, or {row, text, label}. `textOf` gives the source text of a node, or null;
+ * `rangeOf` its range. */
 export function code(tree, textOf, rangeOf) {
   const uses = usesOf(tree.root);
   for (const kept = new Set(); ;) { // again without what was left out, if its use is not printed
@@ -31,7 +32,8 @@ function usesOf(root) {
 /** The labels that a Labeled jump names. */
 function namedLabels(root) {
   const labels = new Set();
-  walk(root, { enter(node) { if ((node.type === 'Break' || node.type === 'Continue') && node.kind === 'Labeled') labels.add(node.target); } });
+  walk(root, { enter(node) { if ((node.type === 'Break' || node.type === 'Continue') && node.kind === 'Labeled') labels.add(node.target);
+    } });
   return labels;
 }
 
@@ -71,14 +73,17 @@ class Printer {
       case 'Load': return this.use(node.place, node.row);
       case 'Undef': return [];
       case 'Logical': return [this.operand(node.left), { row: node.row, text: ` ${node.operator} ` }, this.operand(node.right)];
-      case 'Cond': return [this.operand(node.test), { row: node.row, text: ' ? ' }, this.operand(node.consequent), { row: node.row, text: ' : ' }, this.operand(node.alternate)];
+      case 'Cond': return [this.operand(node.test), { row: node.row, text: ' ? ' }, this.operand(node.consequent),
+        { row: node.row, text: ' : ' }, this.operand(node.alternate)];
       case 'Optional': { // the text behind the `?.` is that of the whole
         const parts = this.value(node.value).flat(Infinity), isText = parts.length === 1 && parts[0].text?.includes('?.');
         return isText ? parts : [{ row: node.row, text: 'optional(' }, parts, { row: node.row, text: ')' }];
       }
       case 'Seq': {
-        const last = node.instructions.at(-1), isLast = node.value.type === 'Load' && last?.lvalue === node.value.place, list = isLast ? node.instructions.slice(0, -1) : node.instructions;
-        const before = list.filter((part, k) => !this.isCovered(part, [...list.slice(0, k + 1), ...node.instructions.slice(k + 1), ...inner(node.value)], k)).map(part => this.instruction(part));
+        const last = node.instructions.at(-1), isLast = node.value.type === 'Load' && last?.lvalue === node.value.place,
+          list = isLast ? node.instructions.slice(0, -1) : node.instructions;
+        const before = list.filter((part, k) => !this.isCovered(part, [...list.slice(0, k + 1), ...node.instructions.slice(k + 1),
+          ...inner(node.value)], k)).map(part => this.instruction(part));
         const all = [...before.filter(Boolean), this.value(isLast ? last.value : node.value)].filter(parts => parts.length);
         return all.flatMap((parts, k) => k ? [', ', parts] : [parts]);
       }
@@ -105,7 +110,8 @@ class Printer {
   }
 
   statement(node, depth) {
-    const at = text => ({ row: node.row, text }), label = node.label !== undefined && this.labels.has(node.label) ? [{ label: node.label, row: node.row, text: `L${node.label}: ` }] : [];
+    const at = text => ({ row: node.row, text }), label = node.label !== undefined && this.labels.has(node.label)
+      ? [{ label: node.label, row: node.row, text: `L${node.label}: ` }] : [];
     const inner = (block, end = '}') => {
       this.block(block, depth + 1);
       if (end) this.line(depth, end);
@@ -127,7 +133,8 @@ class Printer {
       case 'Switch':
         this.line(depth, label, at('switch ('), this.use(node.test, node.row), at(') {'));
         for (const one of node.cases) {
-          this.line(depth + 1, ...one.test === null ? [{ row: one.row, text: 'default:' }] : [{ row: one.row, text: 'case ' }, this.use(one.test, one.row), ':']);
+          this.line(depth + 1, ...one.test === null ? [{ row: one.row, text: 'default:' }]
+            : [{ row: one.row, text: 'case ' }, this.use(one.test, one.row), ':']);
           this.block(one.body, depth + 2);
         }
         return this.line(depth, '}');
@@ -139,7 +146,8 @@ class Printer {
         inner(node.body, null);
         return this.line(depth, '} while (', this.value(node.test), ');');
       case 'For':
-        this.line(depth, label, at('for ('), this.value(node.init), at('; '), this.value(node.test), at('; '), node.update ? this.value(node.update) : [], at(') {'));
+        this.line(depth, label, at('for ('), this.value(node.init), at('; '), this.value(node.test), at('; '),
+          node.update ? this.value(node.update) : [], at(') {'));
         return inner(node.body);
       case 'ForOf': case 'ForIn': {
         const list = this.value(node.init), each = node.type === 'ForOf' ? this.value(node.test) : ['…'];
@@ -162,7 +170,8 @@ class Printer {
       case 'Break': case 'Continue': {
         if (node.kind === 'Implicit') return;
         const word = node.type === 'Break' ? 'break' : 'continue';
-        return this.line(depth, ...node.kind === 'Labeled' ? [at(`${word} `), { label: node.target, row: node.row, text: `L${node.target}` }, ';'] : [at(`${word};`)]);
+        return this.line(depth, ...node.kind === 'Labeled' ? [at(`${word} `),
+          { label: node.target, row: node.row, text: `L${node.target}` }, ';'] : [at(`${word};`)]);
       }
       default: throw new Error(`${node.type} is no statement`);
     }

@@ -28,9 +28,11 @@ export class Editor {
     if (key === this.#key && this.copy.textContent.length === text.length + 1) return;
     this.#key = key;
     if (text.length > MOST_MARKED) ranges = [];
-    const cuts = [...new Set([0, text.length, ...ranges.flatMap(({ from, to }) => [from, to])])].filter(at => at <= text.length).sort((a, b) => a - b);
+    const cuts = [...new Set([0, text.length, ...ranges.flatMap(({ from, to }) => [from, to])])].filter(at => at <= text.length).sort((a,
+      b) => a - b);
     const pieces = cuts.slice(0, -1).map((from, k) => {
-      const to = cuts[k + 1], names = ranges.filter(range => range.from <= from && to <= range.to).map(({ name }) => name), piece = text.slice(from, to);
+      const to = cuts[k + 1], names = ranges.filter(range => range.from <= from && to <= range.to).map(({ name }) => name),
+        piece = text.slice(from, to);
       return names.length ? el('span', { class: [...new Set(names)].join(' ') }, piece) : piece;
     });
     const end = ranges.find(({ to }) => to > text.length);
@@ -47,7 +49,8 @@ export class Editor {
     if (!part || document.activeElement === area) return;
     const top = part.offsetTop, left = part.offsetLeft;
     if (top < area.scrollTop || top + part.offsetHeight > area.scrollTop + area.clientHeight) area.scrollTop = top - area.clientHeight / 2;
-    if (left < area.scrollLeft || left > area.scrollLeft + area.clientWidth - 40) area.scrollLeft = Math.max(0, left - area.clientWidth / 2);
+    if (left < area.scrollLeft || left > area.scrollLeft + area.clientWidth - 40) area.scrollLeft = Math.max(0,
+      left - area.clientWidth / 2);
     this.#follow();
   }
 }

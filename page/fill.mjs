@@ -26,16 +26,20 @@ if (table !== undefined) {
   }
 }
 if (named(source)) {
-  try { given.source = new TextDecoder('utf-8', { fatal: true, ignoreBOM: true }).decode(read(source)); } catch { stop(`${source}: this is no UTF-8 text`); }
+  try { given.source = new TextDecoder('utf-8', { fatal: true, ignoreBOM: true }).decode(read(source));
+    } catch { stop(`${source}: this is no UTF-8 text`); }
 }
 if (named(answers)) { // alone, or behind the rows of a tree as `treerun` takes them
-  const [, list] = read(answers).toString('latin1').match(/^(?:op a b c d e\n(?:[\d ]+\n)*)?answer\n((?:\d+\n)*)$/) ?? stop(`${answers}: it has not the line 'answer', then one answer a line`);
+  const [, list] = read(answers).toString('latin1').match(/^(?:op a b c d e\n(?:[\d ]+\n)*)?answer\n((?:\d+\n)*)$/)
+    ?? stop(`${answers}: it has not the line 'answer', then one answer a line`);
   given.answers = list.split('\n').slice(0, -1).map(Number);
   if (given.answers.some(answer => answer > 4294967295)) stop(`${answers}: an answer is over 4,294,967,295`);
 }
 const page = readFileSync(new URL('../target/js/page.html', import.meta.url), 'utf8');
-const filled = page.replace('<script type="application/json" id="given">{}</script>', () => `<script type="application/json" id="given">${data(given)}</script>`);
-process.stdout.on('error', error => { process.exitCode = 2; if (error.code !== 'EPIPE') console.error(`view: standard output: ${error.message}`); });
+const filled = page.replace('<script type="application/json" id="given">{}</script>',
+  () => `<script type="application/json" id="given">${data(given)}</script>`);
+process.stdout.on('error', error => { process.exitCode = 2;
+  if (error.code !== 'EPIPE') console.error(`view: standard output: ${error.message}`); });
 process.stdout.write(filled);
 if (refusal) console.error(`view: ${refusal.message}`);
 process.exitCode = refusal ? 1 : 0;

@@ -4,8 +4,10 @@ import { el, title } from './dom.js';
 
 const HEAD = 24, TEXT = 14, MOST_TEXTS = 4, MARGIN = 300, LETTERS = 27;
 const FLOW = {
-  Goto: ['block'], If: ['consequent', 'alternate'], Branch: ['consequent', 'alternate'], Switch: ['case', 'default'], DoWhile: ['loop'], While: ['test'], For: ['init'],
-  ForOf: ['init'], ForIn: ['init'], Logical: ['test'], Ternary: ['test'], Optional: ['test'], Label: ['block'], Sequence: ['block'], Scope: ['block'],
+  Goto: ['block'], If: ['consequent', 'alternate'], Branch: ['consequent', 'alternate'], Switch: ['case', 'default'], DoWhile: ['loop'],
+    While: ['test'], For: ['init'],
+  ForOf: ['init'], ForIn: ['init'], Logical: ['test'], Ternary: ['test'], Optional: ['test'], Label: ['block'], Sequence: ['block'],
+    Scope: ['block'],
   PrunedScope: ['block'], MaybeThrow: ['continuation'], Try: ['block', 'handler'],
 };
 const NAMES = { consequent: 'yes', alternate: 'no', handler: 'throws', default: 'default' };
@@ -26,12 +28,14 @@ export class Graph {
     const edges = present.flatMap(({ block, number }) => {
       let at = 0;
       return table.targets(number).map(({ role, block: to, test }) => {
-        const place = role === 'case' || role === 'default' ? at++ : null, isLast = role === 'fallthrough' && block.type === 'Switch' && !table.targets(number).some(({ role }) => role === 'default');
+        const place = role === 'case' || role === 'default' ? at++ : null, isLast = role === 'fallthrough' && block.type === 'Switch'
+          && !table.targets(number).some(({ role }) => role === 'default');
         const name = role === 'case' ? caseText(test, place) : isLast ? 'no case' : NAMES[role] ?? '';
         return { from: number, to, role, place, name, isFlow: isLast || (FLOW[block.type] ?? []).includes(role) };
       });
     });
-    const heights = new Map(present.map(({ number }) => [number, HEAD + TEXT * shown(texts.get(number)).length + (texts.get(number).length ? 5 : 0)]));
+    const heights = new Map(present.map(({ number }) => [number, HEAD + TEXT * shown(texts.get(number)).length + (texts.get(number).length
+      ? 5 : 0)]));
     const key = JSON.stringify([[...heights], edges.map(({ from, to }) => [from, to]), table.entry]);
     if (key !== this.key) {
       this.drawn = layout(heights, table.entry, edges);
@@ -63,7 +67,8 @@ export class Graph {
     this.width = this.view.clientWidth;
     this.scale = Math.max(0.2, Math.min(3, scale));
     const { width, height } = this.drawn, [w, h] = [width + 52, height + 8];
-    for (const [name, value] of Object.entries({ viewBox: `-26 -4 ${w.toFixed(0)} ${h.toFixed(0)}`, width: (w * this.scale).toFixed(0), height: (h * this.scale).toFixed(0) })) {
+    for (const [name, value] of Object.entries({ viewBox: `-26 -4 ${w.toFixed(0)} ${h.toFixed(0)}`, width: (w * this.scale).toFixed(0),
+      height: (h * this.scale).toFixed(0) })) {
       this.svg?.setAttribute(name, value);
     }
     this.draw(true);
@@ -78,28 +83,35 @@ export class Graph {
   draw(isNew = false, isWhole = false) {
     if (!this.svg) return;
     const [left, top, right, bottom] = isWhole ? [-Infinity, -Infinity, Infinity, Infinity] : this.seen(), spare = MARGIN / 2;
-    if (!isNew && this.part && left + spare > this.part[0] && top + spare > this.part[1] && right - spare < this.part[2] && bottom - spare < this.part[3]) return;
+    if (!isNew && this.part && left + spare > this.part[0] && top + spare > this.part[1] && right - spare < this.part[2]
+      && bottom - spare < this.part[3]) return;
     this.part = [left, top, right, bottom];
     const touches = (x0, y0, x1, y1) => x1 >= left && x0 <= right && y1 >= top && y0 <= bottom;
-    this.boxes.replaceChildren(...this.drawn.boxes.filter(({ x, y, height }) => touches(x - WIDTH / 2, y, x + WIDTH / 2, y + height)).map(box => this.box(box)));
-    this.paths.replaceChildren(...this.drawn.edges.filter(({ path }) => touches(...path.box)).sort((a, b) => a.isFlow - b.isFlow).map(edge => this.edge(edge)));
+    this.boxes.replaceChildren(...this.drawn.boxes.filter(({ x, y, height }) => touches(x - WIDTH / 2, y, x + WIDTH / 2,
+      y + height)).map(box => this.box(box)));
+    this.paths.replaceChildren(...this.drawn.edges.filter(({ path }) => touches(...path.box)).sort((a, b) =>
+      a.isFlow - b.isFlow).map(edge => this.edge(edge)));
     this.paint();
   }
 
   box({ box, x, y, height }) {
     const row = this.table.blocks[box], left = x - WIDTH / 2, cut = text => text.length > LETTERS ? `${text.slice(0, LETTERS - 1)}…` : text;
     const extra = row.type === 'Goto' && row.variant !== 'Break' ? ` ${row.variant}` : row.type === 'Logical' ? ` ${row.operator}` : '';
+    const instructions = `${row.count} ${row.count === 1 ? 'instruction' : 'instructions'}`;
     return el('g', { 'class': 'block', 'data-b': box },
-      title(`block ${box}: ${row.type}${extra}, ${row.count} ${row.count === 1 ? 'instruction' : 'instructions'}${box === this.table.entry ? ', the entry' : ''}`),
+      title(`block ${box}: ${row.type}${extra}, ${instructions}${box === this.table.entry ? ', the entry' : ''}`),
       el('rect', { x: left.toFixed(1), y: y.toFixed(1), width: WIDTH, height, rx: 5 }),
       el('text', { class: 'n', x: (left + 9).toFixed(1), y: (y + 16).toFixed(1) }, String(box)),
       el('text', { x: (left + 16 + 7 * String(box).length).toFixed(1), y: (y + 16).toFixed(1) }, row.type + extra),
-      this.texts.get(box).map((text, k) => el('text', { class: 'i', x: (left + 9).toFixed(1), y: (y + HEAD + 8 + TEXT * k).toFixed(1) }, cut(text))));
+      this.texts.get(box).map((text, k) => el('text', { class: 'i', x: (left + 9).toFixed(1), y: (y + HEAD + 8 + TEXT * k).toFixed(1) },
+        cut(text))));
   }
   edge(edge) {
-    const { d, tip: [x, y], from: [px, py], name: [nx, ny] } = edge.path, l = Math.hypot(x - px, y - py) || 1, ux = (x - px) / l, uy = (y - py) / l;
+    const { d, tip: [x, y], from: [px, py], name: [nx, ny] } = edge.path, l = Math.hypot(x - px, y - py) || 1, ux = (x - px) / l,
+      uy = (y - py) / l;
     const point = (a, b) => `${(x - 7 * ux + a * uy).toFixed(1)} ${(y - 7 * uy + b * ux).toFixed(1)}`;
-    return el('g', { 'class': `edge${edge.isFlow ? '' : ' names'}`, 'data-edge': edgeKey(edge) }, title(`${edge.from} to ${edge.to}: ${edge.role}`),
+    return el('g', { 'class': `edge${edge.isFlow ? '' : ' names'}`, 'data-edge': edgeKey(edge) },
+      title(`${edge.from} to ${edge.to}: ${edge.role}`),
       el('path', { d }), el('path', { class: 'tip', d: `M${x.toFixed(1)} ${y.toFixed(1)}L${point(-3.2, 3.2)}L${point(3.2, -3.2)}z` }),
       edge.name && edge.isFlow ? el('text', { x: nx.toFixed(1), y: (ny + 3).toFixed(1) }, edge.name) : null);
   }
@@ -107,7 +119,8 @@ export class Graph {
   /** The classes of what is drawn: `classes.block(number)`, `classes.edge(key)`. */
   paint() {
     if (!this.svg) return;
-    for (const g of this.boxes.children) g.setAttribute('class', `block ${+g.dataset.b === this.table.entry ? 'entry ' : ''}${this.classes.block(+g.dataset.b)}`);
+    for (const g of this.boxes.children) g.setAttribute('class',
+      `block ${+g.dataset.b === this.table.entry ? 'entry ' : ''}${this.classes.block(+g.dataset.b)}`);
     for (const g of this.paths.children) g.classList.toggle('taken', this.classes.taken(g.dataset.edge));
   }
   /** Brings a block into view. */
@@ -115,7 +128,8 @@ export class Graph {
     const box = this.drawn?.boxes.find(each => each.box === block), { view, scale } = this;
     if (!box || !this.svg) return;
     const own = this.svg.getBoundingClientRect(), outer = view.getBoundingClientRect();
-    const x = own.left - outer.left + (box.x + 26) * scale, y = own.top - outer.top + (box.y + 4) * scale, [w, h] = [WIDTH * scale / 2, box.height * scale];
+    const x = own.left - outer.left + (box.x + 26) * scale, y = own.top - outer.top + (box.y + 4) * scale,
+      [w, h] = [WIDTH * scale / 2, box.height * scale];
     if (y < 0 || y + h > view.clientHeight) view.scrollTop += y + h / 2 - view.clientHeight / 2;
     if (x - w < 0 || x + w > view.clientWidth) view.scrollLeft += x - view.clientWidth / 2;
     this.draw();

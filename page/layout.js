@@ -22,7 +22,8 @@ export function layout(boxes, entry, edges) {
     width: right - left, height: y.height,
     boxes: order.map(box => ({ box, x: x[at.get(box)] - left, y: y.tops[rank.get(box)], height: boxes.get(box) })),
     edges: edges.flatMap((edge, k) => ways[k]
-      ? [{ ...edge, back: back.has(k), points: ways[k].map(p => [x[p] - left, points[p].box === undefined ? y.middles[points[p].rank] : y.tops[points[p].rank], points[p].height]) }]
+      ? [{ ...edge, back: back.has(k), points: ways[k].map(p => [x[p] - left, points[p].box === undefined ? y.middles[points[p].rank]
+        : y.tops[points[p].rank], points[p].height]) }]
       : []),
   };
 }
@@ -57,7 +58,8 @@ function depthFirst(out, entry, edges) {
 /** Each box below all that lead to it. */
 function ranks(order, out, edges, back) {
   const rank = new Map(order.map(box => [box, 0]));
-  for (const box of order) for (const k of out.get(box)) if (!back.has(k)) rank.set(edges[k].to, Math.max(rank.get(edges[k].to), rank.get(box) + 1));
+  for (const box of order) for (const k of out.get(box)) if (!back.has(k)) rank.set(edges[k].to,
+    Math.max(rank.get(edges[k].to), rank.get(box) + 1));
   return rank;
 }
 
@@ -66,9 +68,11 @@ function thread(order, rank, boxes, edges, out, back) {
   const points = order.map(box => ({ box, rank: rank.get(box), up: [], down: [], width: WIDTH, height: boxes.get(box) }));
   const at = new Map(order.map((box, k) => [box, k])), ways = edges.map(() => null);
   for (const list of out.values()) for (const k of list) {
-    const { from, to } = edges[k], isBack = back.has(k), [top, bottom] = (isBack ? [to, from] : [from, to]).map(box => at.get(box)), way = [top];
+    const { from, to } = edges[k], isBack = back.has(k), [top, bottom] = (isBack ? [to, from] : [from, to]).map(box => at.get(box)),
+      way = [top];
     if (points.length > MOST_POINTS) return { points, ways, at };
-    for (let r = points[top].rank + 1; r < points[bottom].rank; r++) way.push(points.push({ rank: r, up: [], down: [], width: LANE, height: 0 }) - 1);
+    for (let r = points[top].rank + 1; r < points[bottom].rank;
+      r++) way.push(points.push({ rank: r, up: [], down: [], width: LANE, height: 0 }) - 1);
     if (top !== bottom) way.push(bottom);
     for (let s = 0; s + 1 < way.length; s++) {
       points[way[s]].down.push(way[s + 1]);
@@ -154,7 +158,8 @@ function stack(layers, points) {
 export function path({ points, back }) {
   if (points.length === 1) { // from a box to itself
     const [x, y, height] = points[0], side = x + WIDTH / 2, middle = y + height / 2;
-    return { d: `M${side} ${middle - 6}c20 -8 20 20 1 12`, tip: [side, middle + 5], from: [side + 8, middle + 8], name: [side + 18, middle - 8], box: [x, y, side + 24, y + height] };
+    return { d: `M${side} ${middle - 6}c20 -8 20 20 1 12`, tip: [side, middle + 5], from: [side + 8, middle + 8],
+      name: [side + 18, middle - 8], box: [x, y, side + 24, y + height] };
   }
   const last = points.length - 1, s = back ? -1 : 1, side = (k, isUpper) => points[k][1] + (isUpper ? 0 : points[k][2]);
   const list = points.map(([x, y]) => [x, y]), limit = n => Math.max(-WIDTH / 3, Math.min(WIDTH / 3, n));
@@ -168,6 +173,7 @@ export function path({ points, back }) {
   const xs = list.map(([x]) => x), ys = list.map(([, y]) => y), [x0, y0] = list[0], [x1, y1] = list[1];
   return {
     d, tip: [list[last][0], list[last][1] + s * 6], from: [list[last][0], list[last][1]],
-    name: [x0 + (x1 - x0) * 0.1, y0 + s * Math.min(15, Math.abs(y1 - y0) / 2)], box: [Math.min(...xs), Math.min(...ys) - 8, Math.max(...xs), Math.max(...ys) + 8],
+    name: [x0 + (x1 - x0) * 0.1, y0 + s * Math.min(15, Math.abs(y1 - y0) / 2)],
+      box: [Math.min(...xs), Math.min(...ys) - 8, Math.max(...xs), Math.max(...ys) + 8],
   };
 }

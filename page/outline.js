@@ -1,5 +1,5 @@
-// The tree as an outline: a line for each row, a statement before its parts, these in source order; an arrow leads from each jump to the end of its
-// target (break) or to its head (continue), with a bridge over each loop that it leaves.
+// The tree as an outline: a line for each row, a statement before its parts, these in source order; an arrow leads from each jump to the
+// end of its target (break) or to its head (continue), with a bridge over each loop that it leaves.
 import { isLoop, visitorKeys } from '../target/js/package/tree.js';
 import { el } from './dom.js';
 import { LINE } from './lines.js';
@@ -35,7 +35,8 @@ export function ways(lines) {
     const loops = around.filter(up => isLoop(up.node)), target = around.find(up => up.node.label === node.target) ?? loops[node.loopsLeft];
     if (!target) continue; // the target is not shown
     const isBack = node.type === 'Continue';
-    arrows.push({ node, at, depth, isBack, crossed: loops.slice(0, node.loopsLeft).map(loop => loop.depth), target, from: isBack ? target.at : at, to: isBack ? at : target.end });
+    arrows.push({ node, at, depth, isBack, crossed: loops.slice(0, node.loopsLeft).map(loop => loop.depth), target,
+      from: isBack ? target.at : at, to: isBack ? at : target.end });
   }
   return { bars, arrows };
 }
@@ -45,11 +46,14 @@ const bar = depth => depth * LEVEL + 0.3, k = n => n.toFixed(2);
 export function svg({ bars, arrows }, from, to, width, classOf) {
   const meets = part => part.from < to && part.to >= from, height = (to - from) * LINE;
   const shape = el('svg', { class: 'ways', viewBox: `0 ${k(from * LINE)} ${k(width)} ${k(height)}`, 'aria-hidden': 'true' },
-    bars.filter(meets).map(({ from, to, depth }) => el('path', { class: 'bar-of', d: `M${k(bar(depth))} ${k((from + 1) * LINE)}V${k(to * LINE - 0.2)}h.15` })),
+    bars.filter(meets).map(({ from, to, depth }) => el('path',
+      { class: 'bar-of', d: `M${k(bar(depth))} ${k((from + 1) * LINE)}V${k(to * LINE - 0.2)}h.15` })),
     arrows.filter(meets).map(({ node, at, depth, isBack, crossed, target }) => {
-      const x = target.depth * LEVEL + (isBack ? 1.1 : 0.7), y = (at + 0.5) * LINE, [turn, tip] = isBack ? [-0.2, (target.at + 1) * LINE + 0.04] : [0.2, target.end * LINE - 0.04];
+      const x = target.depth * LEVEL + (isBack ? 1.1 : 0.7), y = (at + 0.5) * LINE, [turn, tip] = isBack
+        ? [-0.2, (target.at + 1) * LINE + 0.04] : [0.2, target.end * LINE - 0.04];
       const bridges = crossed.map(depth => `H${k(bar(depth) + 0.26)}a.26 .26 0 0 0 -.52 0`).join('');
-      return el('g', { 'class': `${isBack ? 'continue' : 'break'}${node.kind === 'Implicit' ? ' implicit' : ''} ${classOf(node.row)}`, 'data-way': node.row },
+      return el('g', { 'class': `${isBack ? 'continue' : 'break'}${node.kind === 'Implicit' ? ' implicit' : ''} ${classOf(node.row)}`,
+        'data-way': node.row },
         el('path', { d: `M${k(depth * LEVEL - 0.12)} ${k(y)}${bridges}H${k(x + 0.2)}q-.2 0 -.2 ${turn}V${k(tip)}` }),
         el('path', { class: 'tip', d: `M${k(x - 0.2)} ${k(tip - 1.3 * turn)}L${k(x)} ${k(tip)}l.2 ${k(-1.3 * turn)}` }));
     }));
@@ -61,12 +65,17 @@ export const indent = depth => `${depth * LEVEL}em`;
 /** A row in words: parts that are texts, and `{label, text}` for a label. */
 export function words(node) {
   const place = n => `place ${n}`, id = `id ${node.id}`, count = (n, noun) => `${n} ${noun}${n === 1 ? '' : 's'}`;
-  const jump = () => [['to ', { label: node.target, text: String(node.target) }], node.kind + (node.loopsLeft ? `, over ${count(node.loopsLeft, 'loop')}` : ''), id];
+  const jump = () => [['to ', { label: node.target, text: String(node.target) }],
+    node.kind + (node.loopsLeft ? `, over ${count(node.loopsLeft, 'loop')}` : ''), id];
   const own = {
-    Plain: () => [`instruction ${node.instruction}`], Load: () => [place(node.place)], Undef: () => [], Instr: () => [id, place(node.lvalue)],
-    Seq: () => [`of ${node.instructions.length}`], Logical: () => [node.operator], Cond: () => [], Optional: () => [node.optional ? '?.' : 'after ?.'],
-    Block: () => [`of ${node.body.length}`], If: () => [place(node.test), id], Case: () => [node.test === null ? 'default' : place(node.test)],
-    Switch: () => [place(node.test), count(node.cases.length, 'case'), id], Scope: () => [`scope ${node.scope}`], Pruned: () => [`scope ${node.scope}`],
+    Plain: () => [`instruction ${node.instruction}`], Load: () => [place(node.place)], Undef: () => [],
+      Instr: () => [id, place(node.lvalue)],
+    Seq: () => [`of ${node.instructions.length}`], Logical: () => [node.operator], Cond: () => [],
+      Optional: () => [node.optional ? '?.' : 'after ?.'],
+    Block: () => [`of ${node.body.length}`], If: () => [place(node.test), id],
+      Case: () => [node.test === null ? 'default' : place(node.test)],
+    Switch: () => [place(node.test), count(node.cases.length, 'case'), id], Scope: () => [`scope ${node.scope}`],
+      Pruned: () => [`scope ${node.scope}`],
     Return: () => [place(node.value), id], Throw: () => [place(node.value), id], Break: jump, Continue: jump,
   }[node.type]?.() ?? [id];
   if (typeof node.label === 'number') own.push([{ label: node.label, text: `label ${node.label}` }]);

@@ -1,6 +1,6 @@
-// The run of a tree by the proved runner, with the row of each step and the row that asks. The runner tells instructions and why it stops; so it
-// runs a copy of the tree in which a PLAIN has its row's number and a marked instruction stands before each question, and that run is held to the
-// run of the tree itself. And the run of the blocks, to mark the lines that it takes.
+// The run of a tree by the proved runner, with the row of each step and the row that asks. The runner tells instructions and why it stops;
+// so it runs a copy of the tree in which a PLAIN has its row's number and a marked instruction stands before each question, and that run is
+// held to the run of the tree itself. And the run of the blocks, to mark the lines that it takes.
 import { ROW_WORDS } from '../target/js/package/core.js';
 
 const MARK = 2048, MOST_ROWS = 2048, MOST_BLOCKS_RUN = 20000;
@@ -18,7 +18,8 @@ function markedTree({ root }, tree) {
     if (node.type === 'Plain') words[1] = node.row;
     if (node.type === 'Block') words[1] += node.body.filter(asks).length;
     row(...words);
-    if (key === 'test' && parent && /^(While|DoWhile|For)$/.test(parent.type)) { // the test, then the mark, then any value: SEQ of two INSTRs and a LOAD
+    if (key === 'test' && parent && /^(While|DoWhile|For)$/.test(parent.type)) {
+      // the test, then the mark, then any value: SEQ of two INSTRs and a LOAD
       row(4);
       mark(parent);
       row(2);
@@ -30,8 +31,10 @@ function markedTree({ root }, tree) {
 }
 /** The parts of a node in the order of the rows. */
 const KEYS = {
-  Instr: ['value'], Seq: ['instructions', 'value'], Logical: ['left', 'right'], Cond: ['test', 'consequent', 'alternate'], Optional: ['value'], Block: ['body'],
-  If: ['consequent', 'alternate'], Case: ['body'], DoWhile: ['body', 'test'], While: ['test', 'body'], For: ['init', 'test', 'update', 'body'],
+  Instr: ['value'], Seq: ['instructions', 'value'], Logical: ['left', 'right'], Cond: ['test', 'consequent', 'alternate'],
+    Optional: ['value'], Block: ['body'],
+  If: ['consequent', 'alternate'], Case: ['body'], DoWhile: ['body', 'test'], While: ['test', 'body'],
+    For: ['init', 'test', 'update', 'body'],
   ForOf: ['init', 'test', 'body'], ForIn: ['init', 'body'], Label: ['body'], Try: ['block', 'handler'], Scope: ['body'], Pruned: ['body'],
 };
 
@@ -40,19 +43,21 @@ export function run(reactive, { built, nodes }, answers) {
   const { performed, reason } = reactive.runTree(built.tree, answers), marked = markedTree(nodes, built.tree), rowOf = new Map();
   if (marked.length > MOST_ROWS * ROW_WORDS) {
     nodes.rows.forEach(node => { if (node.type === 'Plain' && !rowOf.has(node.instruction)) rowOf.set(node.instruction, node.row); });
-    return { steps: Array.from(performed, word => ({ row: rowOf.get(word) })), reason, pending: null, isUnknown: reason === 'no answer', used: answers.length };
+    return { steps: Array.from(performed, word => ({ row: rowOf.get(word) })), reason, pending: null, isUnknown: reason === 'no answer',
+      used: answers.length };
   }
   const trace = reactive.runTree(marked, answers);
   let used = 0;
-  const steps = Array.from(trace.performed, word => word < MARK ? { row: word } : { row: word - MARK, asks: true, answer: answers[used++] });
+  const steps = Array.from(trace.performed, word => word < MARK ? { row: word }
+    : { row: word - MARK, asks: true, answer: answers[used++] });
   const plain = steps.filter(step => !step.asks).map(({ row }) => nodes.rows[row].instruction);
   if (plain.join() !== performed.join() || reason !== trace.reason) throw new Error('the marked run is another');
   const pending = reason === 'no answer' ? nodes.rows[steps.at(-1).row] : null;
   return { steps, reason, pending, used: pending ? used - 1 : used };
 }
 
-/** The lines that the blocks' run takes, as `from to role`, until they have performed so many instructions of these and taken so many answers; null
- * where they perform others. */
+/** The lines that the blocks' run takes, as `from to role`, until they have performed so many instructions of these and taken so many
+ * answers; null where they perform others. */
 export function takenBy(table, performed, answers) {
   const taken = [];
   let block = table.entry, done = 0, used = 0;

@@ -163,7 +163,8 @@ function faultPlaces() {
   for (let at = 0; at + 1 < bytes.length; at++) {
     if ((bytes[at] === 0x41 || bytes[at] === 0x42) && bytes[at + 1] >= 1 && bytes[at + 1] < 63) places.push(at + 1);
   }
-  return Array.from({ length: FAULTS }, (_, k) => places[Math.floor((k + 0.5) * places.length / FAULTS)]).filter(at => WebAssembly.validate(faulty(at)));
+  return Array.from({ length: FAULTS }, (_, k) => places[Math.floor((k + 0.5) * places.length / FAULTS)]).filter(at =>
+    WebAssembly.validate(faulty(at)));
 }
 function faulty(at) {
   const bytes = Uint8Array.from(module());
@@ -173,7 +174,8 @@ function faulty(at) {
 function faults() {
   const places = faultPlaces(), words = [fileURLToPath(import.meta.url), ...process.argv.slice(2, 4)];
   // each in a process of its own, since a fault may be a loop without end; that is noticed too
-  const ended = places.map(at => spawnSync(process.execPath, [...words, String(at)], { timeout: 1000 * FAULT_SECONDS, killSignal: 'SIGKILL' }).status);
+  const ended = places.map(at => spawnSync(process.execPath, [...words, String(at)],
+    { timeout: 1000 * FAULT_SECONDS, killSignal: 'SIGKILL' }).status);
   const noticed = ended.filter(status => status !== 0).length;
   console.log(`module: ${places.length} modules with one number changed, ${noticed} noticed by the first ${FAULT_TABLES} tables`);
   if (places.length < FAULTS / 2 || noticed < places.length / 2) fail('too few faults are noticed');

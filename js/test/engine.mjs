@@ -1,7 +1,7 @@
-// node engine.mjs COUNT: random programs of JavaScript, each run by this very engine and, as the table that page/lower.js makes of it, by the
-// tree of the language entry: for the same answers both must do the same things in the same order and stop for the same reason. So must the
-// code that page/code.js prints of that tree. The first entry resolves breaks out of a switch as the Rust does, and must part from the engine
-// there and nowhere else.
+// node engine.mjs COUNT: random programs of JavaScript, each run by this very engine and, as the table that page/lower.js makes of it, by
+// the tree of the language entry: for the same answers both must do the same things in the same order and stop for the same reason. So must
+// the code that page/code.js prints of that tree. The first entry resolves breaks out of a switch as the Rust does, and must part from the
+// engine there and nowhere else.
 import { createRequire } from 'node:module';
 import { code as printed } from '../../page/code.js';
 import { lower } from '../../page/lower.js';

@@ -13,8 +13,10 @@ export class Browser {
   static async start() {
     const browser = new Browser();
     browser.profile = mkdtempSync(join(tmpdir(), 'profile-'));
-    const words = ['--headless=new', '--no-sandbox', '--disable-gpu', '--no-first-run', '--hide-scrollbars', '--disable-dev-shm-usage', `--user-data-dir=${browser.profile}`];
-    browser.process = spawn('chromium', [...words, '--remote-debugging-pipe', 'about:blank'], { stdio: ['ignore', 'ignore', 'ignore', 'pipe', 'pipe'] });
+    const words = ['--headless=new', '--no-sandbox', '--disable-gpu', '--no-first-run', '--hide-scrollbars', '--disable-dev-shm-usage',
+      `--user-data-dir=${browser.profile}`];
+    browser.process = spawn('chromium', [...words, '--remote-debugging-pipe', 'about:blank'],
+      { stdio: ['ignore', 'ignore', 'ignore', 'pipe', 'pipe'] });
     browser.process.on('exit', () => { for (const { reject } of browser.#waiting.values()) reject(new Error('the browser has ended')); });
     let rest = '';
     browser.process.stdio[4].setEncoding('utf8').on('data', data => {
@@ -33,9 +35,11 @@ export class Browser {
       this.#waiting.delete(id);
       return error ? reject(new Error(error.message)) : resolve(result);
     }
-    const isError = method === 'Runtime.exceptionThrown' || method === 'Runtime.consoleAPICalled' && params.type === 'error' || method === 'Log.entryAdded' && params.entry.level === 'error';
+    const isError = method === 'Runtime.exceptionThrown' || method === 'Runtime.consoleAPICalled' && params.type === 'error'
+      || method === 'Log.entryAdded' && params.entry.level === 'error';
     if (isError) this.errors.push(JSON.stringify(params).slice(0, 600));
-    if (method === 'Network.requestWillBeSent' && !/^(file|about|data|blob):/.test(params.request.url)) this.errors.push(`asked for ${params.request.url}`);
+    if (method === 'Network.requestWillBeSent'
+      && !/^(file|about|data|blob):/.test(params.request.url)) this.errors.push(`asked for ${params.request.url}`);
     this.#events.get(method)?.(params);
   }
   call(method, params = {}) {
@@ -67,22 +71,29 @@ export class Browser {
     }
     throw new Error(`never: ${expression}`);
   }
-  size(width, height, scale = 1) { return this.call('Emulation.setDeviceMetricsOverride', { width, height, deviceScaleFactor: scale, mobile: false }); }
-  media(media, features = {}) { return this.call('Emulation.setEmulatedMedia', { media, features: Object.entries(features).map(([name, value]) => ({ name, value })) }); }
+  size(width, height, scale = 1) {
+    return this.call('Emulation.setDeviceMetricsOverride', { width, height, deviceScaleFactor: scale, mobile: false }); }
+  media(media, features = {}) {
+    return this.call('Emulation.setEmulatedMedia', { media,
+      features: Object.entries(features).map(([name, value]) => ({ name, value })) }); }
   async #middle(selector) {
-    return this.evaluate(`(() => { const e = document.querySelector(${JSON.stringify(selector)}); if (!e) throw new Error('no ' + ${JSON.stringify(selector)}); e.scrollIntoView({ block: 'nearest' });
-      const r = e.getBoundingClientRect(); return [r.left + r.width / 2, r.top + r.height / 2]; })()`);
+    const found = `document.querySelector(${JSON.stringify(selector)})`;
+    if (await this.evaluate(`${found} === null`)) throw new Error(`no ${selector}`);
+    await this.evaluate(`${found}.scrollIntoView({ block: 'nearest' })`);
+    return this.evaluate(`(({ left, top, width, height }) => [left + width / 2, top + height / 2])(${found}.getBoundingClientRect())`);
   }
   async click(selector) {
     const [x, y] = await this.#middle(selector);
-    for (const type of ['mousePressed', 'mouseReleased']) await this.call('Input.dispatchMouseEvent', { type, x, y, button: 'left', clickCount: 1 });
+    for (const type of ['mousePressed', 'mouseReleased']) await this.call('Input.dispatchMouseEvent',
+      { type, x, y, button: 'left', clickCount: 1 });
   }
   async point(selector) {
     const [x, y] = await this.#middle(selector);
     await this.call('Input.dispatchMouseEvent', { type: 'mouseMoved', x, y });
   }
   type(text) { return this.call('Input.insertText', { text }); }
-  async key(key, code = 0) { for (const type of ['rawKeyDown', 'keyUp']) await this.call('Input.dispatchKeyEvent', { type, key, code: key, windowsVirtualKeyCode: code }); }
+  async key(key, code = 0) { for (const type of ['rawKeyDown', 'keyUp']) await this.call('Input.dispatchKeyEvent',
+    { type, key, code: key, windowsVirtualKeyCode: code }); }
   async picture(file) { writeFileSync(file, Buffer.from((await this.call('Page.captureScreenshot', { format: 'png' })).data, 'base64')); }
   async print(file) {
     const { data } = await this.call('Page.printToPDF', { printBackground: true, preferCSSPageSize: true });

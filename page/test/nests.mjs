@@ -12,5 +12,7 @@ export function nests() {
     lines[next - 1] = `0 0 4 ${next} 0 0 0 0 ${next - 1} 0 0`;
   }
   lines[blocks - 1] = '0 0 3 0 0 0 0 0 9999 0 0';
-  return `entry blocks instructions cases places identifiers\n0 ${blocks} 0 0 1 1\nfirst count code a b c d e id from to\n${lines.join('\n')}\nid lvalue code p q from to\ntest block\nidentifier\n0\nnamed\n1\n`;
+  const names = ['entry blocks instructions cases places identifiers', 'first count code a b c d e id from to',
+    'id lvalue code p q from to', 'test block'];
+  return [names[0], `0 ${blocks} 0 0 1 1`, names[1], ...lines, names[2], names[3], 'identifier', '0', 'named', '1', ''].join('\n');
 }

@@ -9,8 +9,10 @@ import { fileURLToPath, pathToFileURL } from 'node:url';
 import { Browser } from './browser.mjs';
 import { nests } from './nests.mjs';
 
-const top = fileURLToPath(new URL('../..', import.meta.url)), page = pathToFileURL(join(top, 'target/js/page.html')).href, read = name => readFileSync(join(top, name), 'utf8');
-const folder = process.env.PICTURES ?? mkdtempSync(join(tmpdir(), 'page-')), picture = name => process.env.PICTURES && browser.picture(join(folder, `${name}.png`));
+const top = fileURLToPath(new URL('../..', import.meta.url)), page = pathToFileURL(join(top, 'target/js/page.html')).href,
+  read = name => readFileSync(join(top, name), 'utf8');
+const folder = process.env.PICTURES ?? mkdtempSync(join(tmpdir(), 'page-')), picture = name => process.env.PICTURES
+  && browser.picture(join(folder, `${name}.png`));
 let browser;
 before(async () => { browser = await Browser.start(); });
 after(async () => {
@@ -28,16 +30,25 @@ const check = (name, run) => test(name, async () => {
   assert.deepEqual(browser.errors, []);
 });
 
-const js = expression => browser.evaluate(expression), text = selector => js(`document.querySelector(${JSON.stringify(selector)})?.innerText ?? null`);
-const list = selector => js(`[...document.querySelectorAll(${JSON.stringify(selector)})].map(e => e.dataset.r ?? e.dataset.b ?? e.textContent).join(' ')`);
+const js = expression => browser.evaluate(expression),
+  text = selector => js(`document.querySelector(${JSON.stringify(selector)})?.innerText ?? null`);
+const list = selector =>
+  js(`[...document.querySelectorAll(${JSON.stringify(selector)})].map(e => e.dataset.r ?? e.dataset.b ?? e.textContent).join(' ')`);
 const example = (name, more = '') => browser.open(`${page}#example=${encodeURIComponent(name)}${more}`);
 /** The text of an editor is replaced, as by a paste. */
-const paste = (id, value) => js(`(() => { const a = document.querySelector('#${id} textarea'); a.value = ${JSON.stringify(value)}; a.dispatchEvent(new Event('input')); })()`);
+const paste = (id, value) => {
+  const set = `a.value = ${JSON.stringify(value)}; a.dispatchEvent(new Event('input'));`;
+  return js(`(() => { const a = document.querySelector('#${id} textarea'); ${set} })()`);
+};
+/** The lines of the code, indented. */
+const indented = "' '.repeat(parseInt(e.style.paddingLeft) || 0) + e.textContent";
+const codeLines = `[...document.querySelectorAll('#code .w')].map(e => ${indented}).join('\\n')`;
 /** A file of the command that fills the page. */
 const view = (...files) => {
   const file = join(folder, `view-${files.length}-${files[0].replace(/\W/g, '-')}.html`);
   let status = 0;
-  try { writeFileSync(file, execFileSync(process.execPath, [join(top, 'page/fill.mjs'), ...files], { cwd: top, stdio: ['ignore', 'pipe', 'ignore'] })); } catch (error) {
+  try { writeFileSync(file, execFileSync(process.execPath, [join(top, 'page/fill.mjs'), ...files],
+    { cwd: top, stdio: ['ignore', 'pipe', 'ignore'] })); } catch (error) {
     writeFileSync(file, error.stdout);
     ({ status } = error);
   }
@@ -48,7 +59,8 @@ const SWITCH = 'Rows, columns, a switch', SEARCH = 'Kerning search, a table', VA
 check('it opens with an example, its tree and its question', async () => {
   await browser.open(page);
   assert.equal(await js('document.title'), SWITCH);
-  assert.match(await text('#told'), /^Accepted\. 15 blocks and 13 instructions became 46 rows with 4 labels\. Proved, with loops and switches: this tree runs as the blocks do\./);
+  assert.match(await text('#told'),
+    /^Accepted\. 15 blocks and 13 instructions became 46 rows with 4 labels\. Proved, with loops and switches: this tree runs as/);
   assert.equal(await js('document.querySelectorAll("#tree li").length'), 46);
   assert.equal(await js('document.querySelectorAll(".drawing .block").length'), 15);
   assert.match(await text('#asks'), /^FOR of row 41 asks\s+row < rowCount\s+yes\s*no$/);
@@ -58,14 +70,16 @@ check('it opens with an example, its tree and its question', async () => {
 check('the code is what would be printed', async () => {
   await example(SWITCH);
   await browser.click('#tab-code');
-  const lines = await js('[...document.querySelectorAll("#code .w")].map(e => " ".repeat(parseInt(e.style.paddingLeft) || 0) + e.textContent).join("\\n")');
-  assert.equal(lines, read('page/examples/rows.js').trimEnd().replace('rows: for', 'L5: for').replace('switch', 'L12: switch').replace('break;', 'break L12;').replace('continue rows', 'continue L5').replace('break rows', 'break L5'));
+  const lines = await js(codeLines);
+  assert.equal(lines, read('page/examples/rows.js').trimEnd().replace('rows: for', 'L5: for').replace('switch',
+    'L12: switch').replace('break;', 'break L12;').replace('continue rows', 'continue L5').replace('break rows', 'break L5'));
   await picture('code');
 });
 
 check('a run by buttons and keys', async () => {
   await example(SWITCH);
-  for (const [choice, asks] of [[1, /^WHILE of row 38 asks/], [1, /^SWITCH of row 33 asks\s+glyphClass\(row, column\)\s+SPACE\s*END\s*default$/], [2, /^IF of row 23 asks/], [1, /^It returns\.$/]]) {
+  for (const [choice, asks] of [[1, /^WHILE of row 38 asks/],
+    [1, /^SWITCH of row 33 asks\s+glyphClass\(row, column\)\s+SPACE\s*END\s*default$/], [2, /^IF of row 23 asks/], [1, /^It returns\.$/]]) {
     await browser.click(`[data-answer="${choice}"]`);
     assert.match(await text('#asks'), asks);
   }
@@ -94,7 +108,8 @@ check('keys of a source: refused by the parser, then accepted again', async () =
   await browser.click('#source textarea');
   await js('document.querySelector("#source textarea").setSelectionRange(99999, 99999)');
   await browser.type('if (');
-  assert.match(await text('#told'), /^Source, line 20, column 5: Unexpected token\. The table is that of the last source that could be read\.$/);
+  assert.match(await text('#told'),
+    /^Source, line 20, column 5: Unexpected token\. The table is that of the last source that could be read\.$/);
   assert.ok(await js('document.querySelector("#graph .view").classList.contains("stale")'));
   assert.ok(await js('document.querySelectorAll("#source .bad").length'));
   await picture('typing');
@@ -118,7 +133,8 @@ check('a refusal has its sentence, its advice and its place', async () => {
   const table = read('examples/search.txt');
   await paste('table', table.replace('4 1 4 5 0 ', '4 1 4 4 0 '));
   await paste('table', table.replace('4 1 4 5 0 ', '4 1 4 2 0 '));
-  assert.match(await text('#told'), /^Refused with 20 at block 2: No open statement ends where a break goes\. .*Let the Break name the fallthrough of a statement around it\.$/);
+  assert.match(await text('#told'),
+    /^Refused with 20 at block 2: No open statement ends where a break goes\. .*Let the Break name the fallthrough of/);
   assert.equal(await list('.block.refused'), '2');
   assert.ok(await js('document.querySelector("#tree").classList.contains("stale")'));
   assert.equal(await js('document.querySelector("#table .bad").textContent'), '2 2 5 3 3 4 4 0 7 66 126');
@@ -138,7 +154,8 @@ check('a label is looked up, a row and a block select each other', async () => {
   await example(SEARCH);
   await browser.point('#tree li[data-r="4"] b');
   assert.equal(await list('.block.hot'), '2');
-  assert.equal(await js('[...document.querySelectorAll("#source pre .hot")].map(e => e.textContent).join("|")'), 'const pair = next(pairs);');
+  assert.equal(await js('[...document.querySelectorAll("#source pre .hot")].map(e => e.textContent).join("|")'),
+    'const pair = next(pairs);');
   await browser.click('.drawing [data-b="3"]');
   assert.equal(await list('#tree li.on, #tree li.hot'), '8 7 9');
   await browser.click('#tree li[data-r="14"] .label');
@@ -157,7 +174,8 @@ check('a label is looked up, a row and a block select each other', async () => {
   await browser.key('Enter', 13);
   assert.equal(await js('document.querySelectorAll("#tree li").length'), 13);
   await browser.key('Escape', 27);
-  await js('(() => { const a = document.querySelector("#source textarea"); a.setSelectionRange(72, 72); a.dispatchEvent(new Event("click", { bubbles: true })); })()');
+  await js('document.querySelector("#source textarea").setSelectionRange(72, 72)');
+  await js('document.querySelector("#source textarea").dispatchEvent(new Event("click", { bubbles: true }))');
   assert.equal(await list('#tree li.on'), '6 5');
 });
 
@@ -165,7 +183,8 @@ check('an arrow crosses as many loops as its row says', async () => {
   for (const name of [SWITCH, SEARCH, 'component.txt, a table', 'switch.txt, a table']) {
     await example(name);
     const said = [...(await text('#tree')).matchAll(/over (\d+) loop/g)].reduce((sum, [, n]) => sum + Number(n), 0);
-    assert.equal(await js('[...document.querySelectorAll(".ways [data-way] path:first-child")].reduce((sum, p) => sum + p.getAttribute("d").split("a.26").length - 1, 0)'), said);
+    const paths = await js('[...document.querySelectorAll(".ways [data-way] path:first-child")].map(path => path.getAttribute("d"))');
+    assert.equal(paths.reduce((sum, d) => sum + d.split('a.26').length - 1, 0), said);
   }
 });
 
@@ -186,7 +205,9 @@ check('both rules, the law, walking order', async () => {
 check('a text of the old form is brought into today’s', async () => {
   await browser.open(page);
   assert.equal(await js('document.querySelector("#old").hidden'), true);
-  await paste('table', 'entry blocks instructions cases places identifiers\n0 1 0 0 1 1\nfirst count code a b c d e id span\n0 0 3 0 0 0 0 0 7 0\nid lvalue code p q span\ntest block\nidentifier\n0\nnamed\n1\n');
+  const lines = ['entry blocks instructions cases places identifiers', '0 1 0 0 1 1', 'first count code a b c d e id span',
+    '0 0 3 0 0 0 0 0 7 0'];
+  await paste('table', [...lines, 'id lvalue code p q span', 'test block', 'identifier', '0', 'named', '1', ''].join('\n'));
   assert.match(await text('#told'), /^Refused with 50/);
   await browser.click('#old');
   assert.match(await text('#told'), /^Accepted\. 1 block and 0 instructions became 2 rows/);
@@ -203,7 +224,9 @@ check('values: a tree with them is not run, and can be made without them', async
   assert.match(await text('#asks'), /^This tree is not run\. Row \d+ is \w+, which the runner leaves out\./);
   await paste('source', 'const x = a && b ? c : d?.e ?? f;\nif (x) g();');
   await browser.click('#tab-code');
-  assert.equal(await js('[...document.querySelectorAll("#code .w")].map(e => e.textContent).join("\\n")'), 'const x = a && b ? c : d?.e ?? f;\nif (x) {\ng();\n}\nreturn i11;'.replace(/i11/, await js('document.querySelector("#code li:last-child .w").textContent.slice(7, -1)')));
+  assert.equal(await js('[...document.querySelectorAll("#code .w")].map(e => e.textContent).join("\\n")'),
+    'const x = a && b ? c : d?.e ?? f;\nif (x) {\ng();\n}\nreturn i11;'.replace(/i11/,
+      await js('document.querySelector("#code li:last-child .w").textContent.slice(7, -1)')));
   await browser.click('#whole');
   assert.match(await text('#asks'), /^IF of row \d+ asks\s+x/);
 });
@@ -217,7 +240,8 @@ check('all of it is in the address', async () => {
   await browser.click('[data-step="on"]');
   await browser.click('#link');
   await browser.until('/^#s=/.test(location.hash) && document.querySelector("#link").textContent !== "Copy link"');
-  const [address, table, said, answers] = [await js('location.href'), await js('document.querySelector("#table textarea").value'), await text('#said'), await list('#answers button')];
+  const [address, table, said, answers] = [await js('location.href'), await js('document.querySelector("#table textarea").value'),
+    await text('#said'), await list('#answers button')];
   await browser.open(address);
   assert.equal(await js('document.querySelector("#table textarea").value'), table);
   assert.equal(await text('#said'), said);
@@ -253,14 +277,16 @@ check('the files of ./run view', async () => {
 });
 
 check('a hostile source, table and address do nothing', async () => {
-  const taken = `document.title !== 'markup.txt' && document.title !== 'hostile' || document.querySelectorAll('img, h1:not(header h1), iframe, object, base, form, link').length || document.scripts.length !== 3`;
+  const elements = 'img, h1:not(header h1), iframe, object, base, form, link';
+  const taken = `document.title !== 'markup.txt' || document.querySelectorAll('${elements}').length > 0 || document.scripts.length !== 3`;
   const { url } = view('viewer/cases/markup.txt', 'viewer/cases/markup.js', 'viewer/cases/markup.answers');
   await browser.open(url);
   assert.equal(await js(taken), false);
   assert.match(await text('#tree'), /let found = "<\/script>/);
   await browser.click('#tab-code');
   assert.match(await text('#code'), /<\/script><script>/);
-  const hostile = '"</script><script>document.title=1</script><img src=x onerror=document.title=2>";\nwhile (`${"<h1>"}</textarea>`) { "<!--"; }\n\u202e\u0000';
+  const hostile = ['"</script><script>document.title=1</script><img src=x onerror=document.title=2>";',
+    'while (`${"<h1>"}</textarea>`) { "<!--"; }', '\u202e\u0000'].join('\n');
   await paste('source', hostile);
   await js('document.querySelector("#lowers").click()');
   assert.equal(await js(taken), false);
@@ -269,9 +295,11 @@ check('a hostile source, table and address do nothing', async () => {
   await paste('table', '<img src=x onerror="document.title=3">\n</script>');
   assert.equal(await js(taken), false);
   const policy = await js('document.querySelector("meta[http-equiv]").content');
-  for (const part of ["default-src 'none'", "base-uri 'none'", "form-action 'none'", "require-trusted-types-for 'script'"]) assert.ok(policy.includes(part));
+  for (const part of ["default-src 'none'", "base-uri 'none'", "form-action 'none'", "require-trusted-types-for 'script'"])
+    assert.ok(policy.includes(part));
   assert.ok(!policy.includes('unsafe-inline') && !policy.includes("'unsafe-eval'"));
-  assert.equal(await js('(() => { try { document.body.innerHTML = "<b>"; return "markup"; } catch (error) { return error.name; } })()'), 'TypeError');
+  assert.equal(await js('(() => { try { document.body.innerHTML = "<b>"; return "markup"; } catch (error) { return error.name; } })()'),
+    'TypeError');
   browser.errors = browser.errors.filter(error => !/TrustedHTML/.test(error)); // the line above
 });
 
@@ -279,11 +307,18 @@ check('a thousand blocks', async () => {
   await browser.open(page);
   await paste('table', nests());
   assert.match(await text('#told'), /^Accepted\. 991 blocks and 0 instructions became 1,322 rows/);
-  const times = [];
-  for (let k = 0; k < 5; k++) {
-    times.push(await js(`(() => { const a = document.querySelector('#table textarea'), begun = performance.now(); a.value = a.value.replace(/99\\d\\d/, '99${10 + k}'); a.dispatchEvent(new Event('input')); document.body.offsetHeight; return performance.now() - begun; })()`));
+  // in time of the page's own thread, since other programs may have the processors
+  const spent = async () => (await browser.call('Performance.getMetrics')).metrics.find(({ name }) => name === 'TaskDuration').value,
+    KEYS = 5;
+  await browser.call('Performance.enable', { timeDomain: 'threadTicks' });
+  const begun = await spent();
+  for (let k = 0; k < KEYS; k++) {
+    const change = `a.value = a.value.replace(/99\\d\\d/, '99${10 + k}'); a.dispatchEvent(new Event('input'));`;
+    await js(`(() => { const a = document.querySelector('#table textarea'); ${change} document.body.offsetHeight; })()`);
   }
-  console.log(`# a key at 991 blocks: least ${Math.min(...times).toFixed(0)} ms`);
+  const seconds = (await spent() - begun) / KEYS;
+  console.log(`# a key at 991 blocks: ${(1000 * seconds).toFixed(0)} ms of its thread`);
+  assert.ok(seconds < 0.3, String(seconds));
   assert.ok(await js('document.querySelectorAll("*").length') < 3000, 'what is seen is drawn, and no more');
   await picture('nests');
   await js('document.querySelector("#tree").scrollTop = 1e6');
@@ -295,7 +330,6 @@ check('a thousand blocks', async () => {
   await browser.click('#tree li[data-r="119"] .label');
   assert.match(await text('#only'), /120 rows$/);
   assert.equal(await js('document.querySelector(\'.ways [data-way="30"] path\').getAttribute("d").split("a.26").length - 1'), 29);
-  assert.ok(Math.min(...times) < 1000);
 });
 
 check('narrow, dark, and with large letters', async () => {
@@ -311,7 +345,9 @@ check('narrow, dark, and with large letters', async () => {
   assert.equal(await js('getComputedStyle(document.body).backgroundColor'), 'rgb(20, 23, 26)');
   await picture('dark');
   await js('document.documentElement.style.fontSize = "200%"');
-  const aligned = '(() => { const a = document.querySelector(\'.ways [data-way="9"] path\').getBoundingClientRect(), r = document.querySelector(\'#tree li[data-r="9"]\').getBoundingClientRect(); return Math.abs(a.top - r.top - r.height / 2) < 5; })()';
+  const rect = selector => `document.querySelector('${selector}').getBoundingClientRect()`;
+  const [arrow, row] = [rect('.ways [data-way="9"] path'), rect('#tree li[data-r="9"]')];
+  const aligned = `Math.abs(${arrow}.top - ${row}.top - ${row}.height / 2) < 5`;
   assert.ok(await js(aligned));
 });
 
@@ -328,19 +364,22 @@ check('every example in every way, and many keys', async () => {
   const names = await js('[...document.querySelectorAll("#example option")].map(e => e.textContent).join("|")');
   for (const name of names.split('|')) {
     await example(name);
-    for (const way of ['#tab-code', '#tab-tree', '[name=rule][value=build] + span', '#tab-code', '[name=rule][value=buildLanguage] + span', '#order']) await browser.click(way);
+    for (const way of ['#tab-code', '#tab-tree', '[name=rule][value=build] + span', '#tab-code', '[name=rule][value=buildLanguage] + span',
+      '#order']) await browser.click(way);
     assert.doesNotMatch(await text('#told'), /has failed/);
   }
   const failed = await js(`(async () => {
     let state = 99;
     const below = limit => { state ^= state << 13; state ^= state >>> 17; state ^= state << 5; return (state >>> 0) % limit; };
-    const put = (id, change) => { const a = document.querySelector('#' + id + ' textarea'); a.value = change(a.value); a.dispatchEvent(new Event('input')); };
+    const put = (id, change) => { const a = document.querySelector('#' + id + ' textarea'); a.value = change(a.value);
+      a.dispatchEvent(new Event('input')); };
     const cut = text => { const at = below(text.length + 1); return [text.slice(0, at), text.slice(at + below(3))]; };
     const said = () => document.querySelector('#told').textContent;
     for (let k = 0; k < 250; k++) {
       if (k % 50 === 0) { const e = document.querySelector('#example'); e.selectedIndex = k / 50; e.dispatchEvent(new Event('change')); }
       if (k % 2) put('table', text => { const [a, b] = cut(text); return a + '0123456789 \\n'[below(12)] + b; });
-      else put('source', text => { const [a, b] = cut(text); return a + ['{', '}', '(', ')', ';', ' x ', 'break;', '&&', 'if (a) ', '"', '?.'][below(11)] + b; });
+      else put('source', text => { const [a, b] = cut(text);
+        return a + ['{', '}', '(', ')', ';', ' x ', 'break;', '&&', 'if (a) ', '"', '?.'][below(11)] + b; });
       const buttons = [...document.querySelectorAll('[data-answer], [data-step], .label, [data-tab], [data-forget]')];
       buttons[below(buttons.length)]?.click();
       if (/has failed/.test(said())) return said() + ' at ' + k;
