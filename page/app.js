@@ -467,7 +467,7 @@ document.addEventListener('click', event => {
   else if (id === 'whole') {
     state.values = one('#values').checked = false;
     refresh();
-  } else if (id === 'order' || id === 'old') changeTable(id === 'old' ? () => reactive.oldToNew(table.text)
+  } else if (id === 'old' || id === 'order' && state.made.words) changeTable(id === 'old' ? () => reactive.oldToNew(table.text)
     : () => reactive.writeTable(reactive.rearrange(state.made.words).words));
   else if (id === 'link') copyLink();
   else if (dataset.b !== undefined) select({ blocks: [+dataset.b] });
@@ -489,7 +489,6 @@ function setLowers(lowers) {
   state.lowers = one('#lowers').checked = lowers;
 }
 function changeTable(change) {
-  if (!state.made.words && !one('#old').checkVisibility?.()) return;
   try {
     const text = change();
     setLowers(false);
