@@ -139,7 +139,12 @@ function tell() {
   say(el('b', { class: 'good' }, 'Accepted. '),
     `${count(table.blocks.length, 'block')} and ${count(table.instructions.length, 'instruction')} became `,
     `${count(built.rows, 'row')} with ${count(built.lines, 'label')}. `,
-    more(`${LAWS[isCovered ? law : 'none']} ${difference}`));
+    more(`${LAWS[isCovered ? law : 'none']} ${difference}${outside(table)}`));
+}
+/** How many spans of the table are not in the source, where there is one. */
+function outside({ blocks, instructions }) {
+  const out = source.text === '' ? 0 : [...blocks, ...instructions].filter(({ range }) => range && !state.offsets.range(range, 'codePoint', 'utf16')).length;
+  return out ? ` ${count(out, 'span')} of the table ${out === 1 ? 'is' : 'are'} not in this source.` : '';
 }
 /** Where a refusal is, as a person finds it. */
 function placeInWords({ refusal, text, table }) {

@@ -282,6 +282,7 @@ check('a hostile source, table and address do nothing', async () => {
   const { url } = view('viewer/cases/markup.txt', 'viewer/cases/markup.js', 'viewer/cases/markup.answers');
   await browser.open(url);
   assert.equal(await js(taken), false);
+  assert.match(await text('#told'), /1 span of the table is not in this source\.$/);
   assert.match(await text('#tree'), /let found = "<\/script>/);
   await browser.click('#tab-code');
   assert.match(await text('#code'), /<\/script><script>/);
