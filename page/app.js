@@ -26,10 +26,11 @@ const source = new Editor(one('#source .edit'), 'source'), table = new Editor(on
 
 // ---- What the functions make of the text
 
-function make(text) {
+/** `words` where the text was written from them: a table of many blocks is longer than a file may be. */
+function make(text, words) {
   const made = { text };
   try {
-    made.words = reactive.readTable(text);
+    made.words = words ?? reactive.readTable(text);
     reactive.checkTable(made.words);
     made.table = Table.of(made.words);
     made.law = reactive.law(made.words);
@@ -58,17 +59,20 @@ function otherRule({ words, built }) {
   }
 }
 
-/** The table of the source, in walking order, where the box is ticked. */
+/** The words of the source's table, in walking order, where the box is ticked; null where the table's text holds. */
 function lowerSource() {
   state.wrong = null;
-  if (!state.lowers) return;
+  if (!state.lowers) return null;
   try {
-    table.text = reactive.writeTable(reactive.rearrange(lower(source.text, { parse, values: state.values })).words);
+    const { words } = reactive.rearrange(lower(source.text, { parse, values: state.values }));
+    table.text = reactive.writeTable(words);
+    return state.lowered = words;
   } catch (error) {
-    if (error instanceof Refusal) state.wrong = { message: `The table is too large: ${error.sentence}`, pos: 0 };
+    if (error instanceof Refusal) state.wrong = { message: `Its table is too large. ${error.sentence.replace(/[.]$/, '')}`, pos: 0 };
     else if (typeof error.pos === 'number') state.wrong = { message: error.message.replace(/ \(\d+:\d+\)$/, ''), pos: error.pos };
-    else if (error instanceof RangeError) state.wrong = { message: 'The source is nested too deep.', pos: 0 };
+    else if (error instanceof RangeError) state.wrong = { message: 'The source is nested too deep', pos: 0 };
     else throw error;
+    return state.lowered;
   }
 }
 
@@ -80,9 +84,9 @@ function textOf(range) {
 
 function refresh() {
   const begun = performance.now();
-  lowerSource();
+  const lowered = lowerSource();
   state.offsets = new Offsets(source.text);
-  const made = state.made = make(table.text), took = performance.now() - begun;
+  const made = state.made = make(table.text, lowered), took = performance.now() - begun;
   if (made.table) {
     graph.set(made.table, block => textsOfBlock(made.table, block), (test, place) => caseText(made.table, test, place));
     state.graphed = made;
@@ -143,7 +147,8 @@ function tell() {
 }
 /** How many spans of the table are not in the source, where there is one. */
 function outside({ blocks, instructions }) {
-  const out = source.text === '' ? 0 : [...blocks, ...instructions].filter(({ range }) => range && !state.offsets.range(range, 'codePoint', 'utf16')).length;
+  const out = source.text === '' ? 0 : [...blocks, ...instructions].filter(({ range }) => range && !state.offsets.range(range, 'codePoint',
+    'utf16')).length;
   return out ? ` ${count(out, 'span')} of the table ${out === 1 ? 'is' : 'are'} not in this source.` : '';
 }
 /** Where a refusal is, as a person finds it. */
@@ -424,7 +429,7 @@ function open(what) {
     values: what.values !== false, lowers: what.lowers ?? !rows },
     { answers: Array.isArray(answers) ? answers.filter(each => Number.isInteger(each) && each >= 0 && each < 2 ** 32).slice(0, 65536) : [],
       step: Number(what.step) || 0, name: String(name) },
-    { selected: null, only: null, hot: null, shown: null, graphed: null });
+    { selected: null, only: null, hot: null, shown: null, graphed: null, lowered: null });
   graph.key = null;
   one('#graph .view').replaceChildren();
   source.text = String(text);

@@ -16,8 +16,17 @@ export class Graph {
   scale = 1;
   constructor(view, classes) {
     Object.assign(this, { view, classes });
-    view.addEventListener('scroll', () => this.draw());
-    new ResizeObserver(() => { if (this.isFit && view.clientWidth !== this.width) this.fit(); else this.draw(); }).observe(view);
+    // Kept, since to ask for them lays out the whole page: how far it is scrolled, and how much is seen.
+    Object.assign(this, { left: 0, top: 0, width: view.clientWidth, height: view.clientHeight });
+    view.addEventListener('scroll', () => {
+      Object.assign(this, { left: view.scrollLeft, top: view.scrollTop });
+      this.draw();
+    });
+    new ResizeObserver(() => {
+      const isOther = view.clientWidth !== this.width;
+      Object.assign(this, { width: view.clientWidth, height: view.clientHeight });
+      if (this.isFit && isOther) this.fit(); else this.draw();
+    }).observe(view);
   }
 
   /** `textsOf(block)` gives the texts of its instructions, `caseText(place)` that of a case. */
@@ -61,10 +70,9 @@ export class Graph {
   fit() {
     if (!this.drawn) return;
     this.isFit = true;
-    this.zoom(Math.max(0.55, Math.min(1, (this.view.clientWidth - 28) / (this.drawn.width + 52) || 1)));
+    this.zoom(Math.max(0.55, Math.min(1, (this.width - 28) / (this.drawn.width + 52) || 1)));
   }
   zoom(scale) {
-    this.width = this.view.clientWidth;
     this.scale = Math.max(0.2, Math.min(3, scale));
     const { width, height } = this.drawn, [w, h] = [width + 52, height + 8];
     for (const [name, value] of Object.entries({ viewBox: `-26 -4 ${w.toFixed(0)} ${h.toFixed(0)}`, width: (w * this.scale).toFixed(0),
@@ -74,11 +82,11 @@ export class Graph {
     this.draw(true);
   }
 
-  /** The part that is seen, in the drawing's own lengths. */
+  /** The part that is seen, in the drawing's own lengths. The drawing stands in the middle, under a margin. */
   seen() {
-    const { view, svg, scale } = this, box = svg.getBoundingClientRect(), outer = view.getBoundingClientRect();
-    const left = (outer.left - box.left) / scale - 26, top = (outer.top - box.top) / scale - 4;
-    return [left - MARGIN, top - MARGIN, left + view.clientWidth / scale + MARGIN, top + view.clientHeight / scale + MARGIN];
+    const { scale } = this, left = (this.left - Math.max(0, (this.width - (this.drawn.width + 52) * scale) / 2)) / scale - 26,
+      top = (this.top - 14) / scale - 4;
+    return [left - MARGIN, top - MARGIN, left + this.width / scale + MARGIN, top + this.height / scale + MARGIN];
   }
   draw(isNew = false, isWhole = false) {
     if (!this.svg) return;
@@ -132,6 +140,7 @@ export class Graph {
       [w, h] = [WIDTH * scale / 2, box.height * scale];
     if (y < 0 || y + h > view.clientHeight) view.scrollTop += y + h / 2 - view.clientHeight / 2;
     if (x - w < 0 || x + w > view.clientWidth) view.scrollLeft += x - view.clientWidth / 2;
+    Object.assign(this, { left: view.scrollLeft, top: view.scrollTop });
     this.draw();
   }
 }

@@ -11,12 +11,15 @@ export class Lines {
     this.list = el('ol', { role: 'presentation' });
     this.sheet = el('div', { class: 'sheet', role: 'presentation' }, this.list);
     view.append(this.sheet);
-    view.addEventListener('scroll', () => this.draw());
-    new ResizeObserver(() => { this.letter = 0; this.draw(); }).observe(view);
+    // Kept, since to ask for them lays out the whole page: how far it is scrolled, how much of it is seen, and the height of a line.
+    Object.assign(this, { top: 0, seen: 800, height: 13 * LINE });
+    view.addEventListener('scroll', () => { this.top = view.scrollTop; this.draw(); });
+    new ResizeObserver(() => {
+      this.seen = view.clientHeight || 800;
+      this.height = (parseFloat(getComputedStyle(this.sheet).fontSize) || 13) * LINE;
+      this.draw();
+    }).observe(view);
   }
-
-  /** A line's, in pixels; asked for once, since each time the whole page is laid out. */
-  get height() { return (this.letter ||= parseFloat(getComputedStyle(this.sheet).fontSize) || 13) * LINE; }
 
   set(count) {
     this.count = count;
@@ -26,7 +29,7 @@ export class Lines {
 
   /** What is seen; all of it for the printer, and where there are few. */
   draw(isNew = false, isWhole = false) {
-    const { view, count, height } = this, top = view.scrollTop, seen = view.clientHeight || 800;
+    const { count, height, top, seen } = this;
     let from = Math.max(0, Math.floor(top / height) - MARGIN), to = Math.min(count, Math.ceil((top + seen) / height) + MARGIN);
     if (isWhole || count <= FEW) [from, to] = [0, count];
     if (!isNew && from >= this.from && to <= this.to && !(from === to)) {
@@ -48,6 +51,7 @@ export class Lines {
     const { view, height } = this, top = k * height, bottom = view.scrollTop + view.clientHeight;
     if (top >= view.scrollTop + height && top + 2 * height <= bottom) return;
     view.scrollTop = Math.max(0, top - view.clientHeight / 2);
+    this.top = view.scrollTop;
     this.draw();
   }
 }
