@@ -347,7 +347,8 @@ function runAgain(toEnd) {
     el('button', { type: 'button', 'data-forget': k, 'class': ran?.steps && k < ran.used ? 'given' : '',
       title: 'Take back this answer and those after it' }, String(answer)));
   one('#answers').replaceChildren(...ran?.steps && answers.length ? ['answers ', ...answers] : []);
-  asks.replaceChildren(...ran?.refusal ? notRun(ran.refusal) : ran?.steps ? questionOf(ran) : []);
+  asks.replaceChildren(...ran?.refusal ? notRun(ran.refusal) : ran?.steps ? questionOf(ran)
+    : [el('span', { class: 'note' }, 'There is no tree to run.')]);
   step(state.step);
 }
 function running(made) {

