@@ -79,17 +79,18 @@ function bytes8(value, name) {
 
 /** Throws where an array that is written lies over another one. */
 function apart(parts) {
-  parts.forEach((part, k) => {
-    if (!part.lend) return;
-    const from = offsetOf.call(part.lend), to = from + bytesOf.call(part.lend);
-    parts.forEach((other, n) => {
+  for (const part of parts) {
+    if (!part.lend) continue;
+    const buffer = bufferOf.call(part.lend), from = offsetOf.call(part.lend), to = from + bytesOf.call(part.lend);
+    for (const other of parts) {
       const array = other.give ?? other.lend;
-      if (!array || n === k || bufferOf.call(array) !== bufferOf.call(part.lend)) return;
+      if (!array || other === part || bufferOf.call(array) !== buffer) continue;
       const start = offsetOf.call(array), end = start + bytesOf.call(array);
-      if (Math.max(from, start) < Math.min(to, end))
+      if (Math.max(from, start) < Math.min(to, end)) {
         throw new TypeError(`${part.name} and ${other.name} overlap: what is lent is no part of another array of the call`);
-    });
-  });
+      }
+    }
+  }
 }
 
 /** The proved functions. Nothing is kept between calls; a call is synchronous. */
@@ -111,41 +112,37 @@ export class Reactive {
     return this.#instance = { exports, memory: exports.memory, base: Number(exports.__heap_base.value) + 15 & ~15 };
   }
 
-  /** Calls a function of the module: its code, then the numbers of the cells. */
+  /** Calls a function of the module: its code, then the numbers of the cells. A part is an array that is read (`give`) or written
+   * (`lend`), a number (`word`), or a place for one of so many bytes (`cell`). */
   #call(name, parts) {
     apart(parts);
-    const { exports, memory, base } = this.#ready();
+    const { exports, memory, base } = this.#ready(), places = [], words = [];
     let end = base;
-    const places = parts.map(part => {
-      const place = end;
-      const array = part.give ?? part.lend;
-      end += (array ? bytesOf.call(array) : part.cell ?? 0) + 7;
+    for (const { give, lend, cell, word } of parts) {
+      const array = give ?? lend;
+      places.push(end);
+      if (array || cell) words.push(BigInt(end));
+      if (array) words.push(BigInt(lengthOf.call(array)));
+      if (word !== undefined) words.push(word | 0);
+      end += (array ? bytesOf.call(array) : cell ?? 0) + 7;
       end -= end % 8;
-      return place;
-    });
-    const missing = Math.ceil((end - memory.buffer.byteLength) / PAGE);
-    if (missing > 0) {
-      try { memory.grow(missing); } catch (cause) {
+    }
+    if (end > memory.buffer.byteLength) {
+      try { memory.grow(Math.ceil((end - memory.buffer.byteLength) / PAGE)); } catch (cause) {
         const bytes = (end - base).toLocaleString('en');
         throw new RangeError(`${name}: a call with ${bytes} bytes of arrays does not fit into the module's memory`, { cause });
       }
     }
-    const buffer = memory.buffer;
-    const copy = (array, place) => new (sortOf.call(array) === 'Uint32Array' ? Uint32Array : Uint8Array)(buffer, place,
-      lengthOf.call(array));
-    const words = parts.flatMap((part, k) => {
-      const array = part.give ?? part.lend;
-      if (part.give) copy(array, places[k]).set(array);
-      return array ? [BigInt(places[k]), BigInt(lengthOf.call(array))] : part.cell ? [BigInt(places[k])] : [part.word | 0];
-    });
+    const { buffer } = memory, copy = (array, place) => new (sortOf.call(array) === 'Uint32Array' ? Uint32Array : Uint8Array)(buffer,
+      place, lengthOf.call(array));
+    for (let k = 0; k < parts.length; k++) if (parts[k].give) copy(parts[k].give, places[k]).set(parts[k].give);
     try {
-      const code = exports[EXPORTS[name]](...words) >>> 0, numbers = new DataView(buffer);
-      const answer = [code];
-      parts.forEach((part, k) => {
-        if (part.lend) typedArrays.set.call(part.lend, copy(part.lend, places[k]));
-        else if (part.cell) answer.push(part.cell === 4 ? numbers.getUint32(places[k], true)
-          : Number(numbers.getBigUint64(places[k], true)));
-      });
+      const answer = [exports[EXPORTS[name]](...words) >>> 0], numbers = new DataView(buffer);
+      for (let k = 0; k < parts.length; k++) {
+        const { lend, cell } = parts[k];
+        if (lend) typedArrays.set.call(lend, copy(lend, places[k]));
+        else if (cell) answer.push(cell === 4 ? numbers.getUint32(places[k], true) : Number(numbers.getBigUint64(places[k], true)));
+      }
       if (buffer.byteLength > KEPT) this.#instance = null;
       return answer;
     } catch (cause) {
