@@ -132,7 +132,7 @@ const BUILD_GOALS: [f64; 7] = [4.0, 4.0, 3.0, 1.2, 3.0, 2.0, 2.0];
 const ARCHIVE: &str = "the proved archive";
 
 /// Those whose preview is shown.
-const PREVIEWS: [&str; 3] = [ARCHIVE, "plain Rust, as it is", "own walk for the preview"];
+const PREVIEWS: [&str; 2] = [ARCHIVE, "plain Rust, as it is"];
 
 fn ratio(time: Duration, to: Duration) -> f64 {
     time.as_secs_f64() / to.as_secs_f64()

@@ -47,7 +47,7 @@ const codeLines = `[...document.querySelectorAll('#code .w')].map(e => ${indente
 const view = (...files) => {
   const file = join(folder, `view-${files.length}-${files[0].replace(/\W/g, '-')}.html`);
   let status = 0;
-  try { writeFileSync(file, execFileSync(process.execPath, [join(top, 'page/fill.mjs'), ...files],
+  try { writeFileSync(file, execFileSync(process.execPath, [join(top, 'page/fill.mjs'), ...files.flatMap(name => [name, name])],
     { cwd: top, stdio: ['ignore', 'pipe', 'ignore'] })); } catch (error) {
     writeFileSync(file, error.stdout);
     ({ status } = error);

@@ -1,24 +1,19 @@
-//! Refuses to build unless the two files of oxc_react_compiler 0.143.0 are as published.
+//! Refuses to build unless the three files of oxc_react_compiler 0.143.0 are as published: `originals.sha256` has the SHA-256 of each, as
+//! `sha256sum -c originals.sha256` reads it.
 
 use std::fs;
 
-const ORIGINALS: [(&str, &str); 2] = [
-    (
-        "src/react_compiler_reactive_scopes/build_reactive_function.rs",
-        "3e45eab30aba43eeec51bb44a39fe06b5cc0060b01b8b4d493dbc009f12ae693",
-    ),
-    (
-        "src/react_compiler_hir/reactive.rs",
-        "1a35442adb66a54f21ea6345afbe3112df4a3dd4118fff7dd0912e3993ddea7e",
-    ),
-];
+const ORIGINALS: &str = include_str!("originals.sha256");
 
 fn main() {
-    for (path, expected) in ORIGINALS {
+    for line in ORIGINALS.lines() {
+        let (expected, path) = line.split_once("  ").expect("a sum, two spaces, a path");
         println!("cargo::rerun-if-changed={path}");
         let found = sha256(&fs::read(path).expect(path));
         assert_eq!(found, expected, "{path} is not the published file");
     }
+    assert_eq!(ORIGINALS.lines().count(), 3, "originals.sha256");
+    println!("cargo::rerun-if-changed=originals.sha256");
     println!("cargo::rerun-if-changed=build.rs");
 }
 

@@ -4,7 +4,12 @@ use crate::source::Source;
 use reactive_build::Refusal;
 use reactive_build::code;
 use reactive_build::tree::Row;
-use std::fs;
+use std::fs::File;
+use std::io::Read;
+use std::path::Path;
+
+/// The longest file that is read, in bytes.
+pub const MOST_BYTES: u64 = 32 << 20;
 
 /// What a file is, by its first line.
 #[derive(Clone, Copy, Debug, PartialEq, Eq)]
@@ -102,14 +107,18 @@ fn numbers(line: &[u8]) -> Option<Vec<u32>> {
     line.strip_suffix(b"\n").unwrap_or(line).split(|byte| *byte == b' ').map(number).collect()
 }
 
-/// A file's bytes, or why they can't be had.
-pub fn bytes(path: &str) -> Result<Vec<u8>, String> {
-    fs::read(path).map_err(|error| format!("{path}: {error}"))
+/// A file's bytes, or why they can't be had. Of a file without end, as a device may be, it reads one byte more than `MOST_BYTES`.
+pub fn bytes(path: &Path) -> Result<Vec<u8>, String> {
+    let name = path.display();
+    let mut read = Vec::new();
+    let done = File::open(path).and_then(|file| file.take(MOST_BYTES + 1).read_to_end(&mut read));
+    done.map_err(|error| format!("{name}: {error}"))?;
+    if read.len() as u64 > MOST_BYTES { Err(format!("{name}: longer than {} MB", MOST_BYTES >> 20)) } else { Ok(read) }
 }
 
 /// A source: UTF-8.
-pub fn source(path: &str) -> Result<Source, String> {
-    let text = String::from_utf8(bytes(path)?).map_err(|_| format!("{path}: this is no UTF-8 text"))?;
+pub fn source(path: &Path) -> Result<Source, String> {
+    let text = String::from_utf8(bytes(path)?).map_err(|_| format!("{}: this is no UTF-8 text", path.display()))?;
     Ok(Source::new(&text))
 }
 

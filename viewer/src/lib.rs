@@ -6,6 +6,7 @@ pub mod input;
 pub mod links;
 pub mod names;
 pub mod outline;
+pub mod program;
 pub mod proved;
 pub mod refusal;
 pub mod source;

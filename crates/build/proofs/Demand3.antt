@@ -1,6 +1,6 @@
 -- Demand 3 for both entries: what the buffer holds are the rows of one tree, and that tree's run agrees with the block run.
 use Prim.Native.Nat.{ℕ}
-use mathlib.Core.Path.{◌≡◌, sym, ap, ◌∙◌, subst}
+use mathlib.Core.Path.{◌≡◌, refl, sym, ap, ◌∙◌, subst}
 use mathlib.Core.List.{List}
 use lib.ListN.{length}
 use Rattle.table.specs.Table.{table_of}
@@ -10,8 +10,9 @@ use Rattle.definition.specs.Build as definition
 use Rattle.definition.specs.Plain.{paper_01, with_switch, Plain}
 use Rattle.definition.specs.Reading.{OneTree}
 use Rattle.definition.specs.RunLaw.{RunLaw, SwitchLaw}
-use Rattle.definition.proofs.Law.{one_tree, run_law, switch_law}
-use Rattle.std.specs.Prelude.{Result}
+use Rattle.definition.proofs.TreeInBuffer.{one_tree}
+use Rattle.definition.proofs.Law.{run_law, switch_law}
+use Rattle.std.specs.Prelude.{Result, Ok, Err, OnOk}
 use Rattle.walk.specs.declared.answer.Walked.{Walked}
 use Rattle.build.specs.declared.answer.BuildError.{BuildError}
 use Rattle.build.specs.Entry.{numbers, outcome}
@@ -36,3 +37,8 @@ module _ (words buffer index buffer' index' : List ℕ) (r : Result Walked Build
   language_law plain =
       subst (λ (o : definition.Outcome). SwitchLaw words o) (sym ensured)
       (switch_law words (length buffer) (length index) (accepts language words buffer index buffer' index' r ensured accepted) plain)
+
+-- what is said of an accepted answer, on an Ok
+pub on_ok : {P : Type 0} (r : Result Walked BuildError) → ((numbers r).code ≡ 0 → P) → OnOk r P
+on_ok (Ok walked) h = h refl
+on_ok (Err error) h = tt

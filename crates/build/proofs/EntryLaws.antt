@@ -19,7 +19,7 @@ use Rattle.definition.proofs.Outcomes.{acceptance, accepted_fits}
 use Rattle.values.proofs.RowLaws.{words_held}
 use Rattle.values.proofs.StackLaws.{length_pushed}
 use Rattle.walk.proofs.AnswerLaws.{code_some as walk_some}
-use Rattle.walk.specs.Driver.{report_after, words_report, Accepted}
+use Rattle.walk.specs.Report.{report_after, words_report, Accepted}
 use Rattle.walk.specs.declared.answer.Walked.{Walked}
 use Rattle.walk.specs.declared.answer.WalkError.{WalkError}
 use Rattle.walk.specs.Answer as walk

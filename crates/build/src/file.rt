@@ -1,7 +1,7 @@
 // The programs treebuild and treebuild_language as a function: a file's bytes in, the bytes that are printed of it out.
 ghost use Rattle.std.specs.Prelude.{◌≡◌, ◌≤◌, length, Ok};
 ghost use Rattle.text.specs.Prints.{printing, WrittenText};
-ghost use Rattle.control.specs.AroundAbstraction.{rule_of};
+ghost use Rattle.control.specs.Rule.{rule_of};
 ghost use Rattle.build.specs.Prints.{tree_text, built_text};
 
 use crate::build;

@@ -4,17 +4,21 @@
 pub mod answer;
 pub mod file;
 
-ghost use Rattle.std.specs.Prelude.{◌≡◌, length};
+ghost use Rattle.std.specs.Prelude.{◌≡◌, length, OnOk};
+ghost use Rattle.table.specs.Table.{table_of};
 ghost use Rattle.definition.specs.Around.{rust, language};
 ghost use Rattle.definition.specs.Build.{built};
-ghost use Rattle.control.specs.AroundAbstraction.{rule_of};
+ghost use Rattle.definition.specs.Plain.{Plain, with_switch};
+ghost use Rattle.definition.specs.PlainLoops.{without_switch};
+ghost use Rattle.definition.specs.RunLaw.{RunLaw, SwitchLaw};
+ghost use Rattle.control.specs.Rule.{rule_of};
 ghost use Rattle.build.specs.Entry.{outcome, outcome_cleared};
 
 use crate::answer::BuildError;
 use control::rule::Rule;
 use values::rows::clear;
 use walk::answer::{Walked, tell};
-use walk::walk;
+use walk::entry::walk;
 
 // The build, before what is left of the buffers is cleared. The code is 40 if the rows do not fit, else 41 if the lines do not.
 fn try_build(
@@ -64,23 +68,29 @@ pub fn build(
     }
 }
 
+/// Builds the tree of a table of blocks as the Rust does: the rows of the tree and the lines of its index, each then zeros, or an error
+/// and zeros alone. It takes any words and buffers of any lengths. On a plain table the tree runs as the blocks do.
 pub fn build_reactive_function(
     words: &[u32],
     tree: &mut [u32],
     index: &mut [u32],
 ) -> Result<Walked, BuildError>
-    ensures { outcome result tree.new index.new ≡ built rust words.now (length tree.old) (length index.old) }
+    ensures definition { outcome result tree.new index.new ≡ built rust words.now (length tree.old) (length index.old) }
+    ensures runs { OnOk result (Plain without_switch (table_of words.now) → RunLaw words.now (outcome result tree.new index.new)) }
 {
     build(Rule::Rust, words, tree, index)
 }
 
-// M-102, the language entry: a break leaves the nearest loop or switch, and a jump's label is around it, or the code is 29.
+/// The same by the language's rule: a break without a label leaves the nearest loop or switch, and a jump's label is around it, or the
+/// code is 29. Its tree runs as the blocks do on plain tables with Switch too.
 pub fn build_language(
     words: &[u32],
     tree: &mut [u32],
     index: &mut [u32],
 ) -> Result<Walked, BuildError>
-    ensures { outcome result tree.new index.new ≡ built language words.now (length tree.old) (length index.old) }
+    ensures definition { outcome result tree.new index.new ≡ built language words.now (length tree.old) (length index.old) }
+    ensures runs { OnOk result (Plain without_switch (table_of words.now) → RunLaw words.now (outcome result tree.new index.new)) }
+    ensures runs_with_switches { OnOk result (Plain with_switch (table_of words.now) → SwitchLaw words.now (outcome result tree.new index.new)) }
 {
     build(Rule::Language, words, tree, index)
 }

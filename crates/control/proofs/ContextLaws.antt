@@ -18,7 +18,6 @@ use Rattle.definition.specs.Context as definition
 use Rattle.definition.specs.Context.{Flags, has, add, remove, no_flags, start, is_scheduled}
 use Rattle.definition.specs.Context.{is_blocked, block_asked, blocked_code, pushed, popped, schedule, scheduled_by, owns, unscheduled_by}
 use Rattle.definition.specs.Context.{unschedule, unschedule_top}
-use Rattle.machine.specs.Machine as machine
 use Rattle.control.specs.declared.ControlFlowTarget.{ControlFlowTarget}
 use Rattle.control.specs.declared.ControlFlowTarget.TheVariants.{If, Switch, Case, Loop}
 use Rattle.control.specs.declared.Entry.{Entry}
@@ -161,16 +160,12 @@ module _ (target : ControlFlowTarget) (cx : Context) (named : Named target) (roo
 -- the same where the arms of `schedule` meet
 pub entered : {target t : ControlFlowTarget} {cx : Context} {flags : Flags} {refusal : std.Option Blocked} {owner : Bool} → t ≡ target → flags ≡ scheduled_by (target_of target) cx.scheduled
     → refusal ≡ then_some (is_blocked (target_of target) cx.scheduled) (reason target) → owner ≡ owns (target_of target) cx.scheduled
-    → Scheduled target cx (with_entry target cx) → Scheduled target cx (record {
-      emitted = cx.emitted;
-      catch_handlers = cx.catch_handlers;
-      scope_fallthroughs = cx.scope_fallthroughs;
+    → Scheduled target cx (with_entry target cx) → Scheduled target cx (record cx {
       len = cx.len + 1;
       scheduled = flags;
       pushed = record { id = cx.next_schedule_id; target = t; owns_loop = owner };
       refused = refusal;
       next_schedule_id = cx.next_schedule_id + 1;
-      stack = cx.stack;
     })
 entered t f r o h = rw (t, f, r, o) h
 
@@ -180,11 +175,6 @@ unschedule_top_lem : (cx : definition.Context) (top : definition.Entry) (below :
     → unschedule top.id cx ≡ ok (popped below (unscheduled_by top.target top.owns_loop cx.scheduled) cx)
 unfolding unschedule unschedule_top
 unschedule_top_lem cx top below e = ap (λ (stack : List definition.Entry). unschedule_top stack top.id cx) e ∙ rw (unschedule_top, eq-eqb top.id top.id refl)
-
-unscheduled_top_lem : (cx : definition.Context) (top : definition.Entry) (below : List definition.Entry) → cx.stack ≡ top ∷ below
-    → machine.unscheduled cx ≡ popped below (unscheduled_by top.target top.owns_loop cx.scheduled) cx
-unfolding machine.unscheduled machine.unscheduled_top
-unscheduled_top_lem cx top below e = ap (λ (stack : List definition.Entry). machine.unscheduled_top stack cx) e
 
 module _ (cx : Context) (last : Entry) (top : Last cx last) where
   on_top : (visits : ℕ) → (context_of visits cx).stack ≡ entry_of last ∷ stack_of cx.stack (cx.len - 1)
@@ -196,17 +186,11 @@ module _ (cx : Context) (last : Entry) (top : Last cx last) where
   unfolding context_of popped
   off visits = refl
 
-  -- the machine takes the last entry off whatever its id
-  pub pops : (visits : ℕ) → machine.unscheduled (context_of visits cx) ≡ context_of visits (without_last last cx)
-  pops visits = unscheduled_top_lem (context_of visits cx) (entry_of last) (stack_of cx.stack (cx.len - 1)) (on_top visits) ∙ off visits
-
   pub unscheduled : Unscheduled last cx (without_last last cx)
   unscheduled = record {
     state = refl;
     context =
-        λ visits. unschedule_top_lem (context_of visits cx) (entry_of last) (stack_of cx.stack (cx.len - 1)) (on_top visits) ∙ ap ok
-        (sym (unscheduled_top_lem (context_of visits cx) (entry_of last) (stack_of cx.stack (cx.len - 1)) (on_top visits)) ∙ pops visits);
-    pops = λ visits. sym (pops visits);
+        λ visits. unschedule_top_lem (context_of visits cx) (entry_of last) (stack_of cx.stack (cx.len - 1)) (on_top visits) ∙ ap ok (off visits);
     len = refl;
     id = refl;
     bounded = λ bounded. record { most = omega (arith, bounded.most); named = λ k below. bounded.named k (omega arith) };
@@ -214,15 +198,5 @@ module _ (cx : Context) (last : Entry) (top : Last cx last) where
 
 -- the same where the arms of `unschedule` meet
 pub left : {last : Entry} {cx : Context} {flags : Flags} → flags ≡ unscheduled_by (target_of last.target) last.owns_loop cx.scheduled
-    → Unscheduled last cx (without_last last cx) → Unscheduled last cx (record {
-      emitted = cx.emitted;
-      catch_handlers = cx.catch_handlers;
-      scope_fallthroughs = cx.scope_fallthroughs;
-      len = cx.len - 1;
-      scheduled = flags;
-      pushed = cx.pushed;
-      refused = cx.refused;
-      next_schedule_id = cx.next_schedule_id;
-      stack = cx.stack;
-    })
+    → Unscheduled last cx (without_last last cx) → Unscheduled last cx (record cx { len = cx.len - 1; scheduled = flags })
 left f h = rw f h

@@ -1,3 +1,2 @@
 pub mod ContextLaws
 pub mod SearchLaws
-pub mod SurveyLaws

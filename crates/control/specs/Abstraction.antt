@@ -48,15 +48,7 @@ context_of visits cx = record {
 
 -- The same for a Context that `schedule` hands back: the stack's last entry is `pushed`, which is not yet in the array.
 unfoldable pub entered_of : (visits : ℕ) → Context → definition.Context
-entered_of visits cx = record {
-  next_id = cx.next_schedule_id;
-  emitted = cx.emitted;
-  scope_fallthroughs = cx.scope_fallthroughs;
-  scheduled = cx.scheduled;
-  catch_handlers = cx.catch_handlers;
-  stack = entry_of cx.pushed ∷ stack_of cx.stack (cx.len - 1);
-  visits = visits;
-}
+entered_of visits cx = record (context_of visits cx) { stack = entry_of cx.pushed ∷ stack_of cx.stack (cx.len - 1) }
 
 -- the number of a refusal of `schedule`
 abbrev pub blocked_number : Blocked → ℕ
@@ -73,17 +65,7 @@ result_of visits cx = result_by cx.refused visits cx
 
 -- the Context once its caller has stored the new entry at its place in the array
 unfoldable pub stored : Context → Context
-stored cx = record {
-  emitted = cx.emitted;
-  catch_handlers = cx.catch_handlers;
-  scope_fallthroughs = cx.scope_fallthroughs;
-  len = cx.len;
-  scheduled = cx.scheduled;
-  pushed = cx.pushed;
-  refused = cx.refused;
-  next_schedule_id = cx.next_schedule_id;
-  stack = set cx.stack (cx.len - 1) cx.pushed;
-}
+stored cx = record cx { stack = set cx.stack (cx.len - 1) cx.pushed }
 
 abbrev pub kind_of : ReactiveTerminalTargetKind → Kind
 kind_of Implicit = implicit

@@ -3,7 +3,6 @@ use Rattle.std.specs.Prelude.{ℕ, ◌+◌, ◌-◌, ◌≤◌, ◌<◌, ◌≡�
 use Rattle.std.specs.Bool.{then_some}
 use Rattle.definition.specs.Result.{ok}
 use Rattle.definition.specs.Context as definition
-use Rattle.machine.specs.Machine as machine
 use Rattle.definition.specs.Context.{target_block, is_loop, is_blocked, scheduled_by, owns, unscheduled_by, break_kind, continue_kind, start, schedule, unschedule}
 use Rattle.control.specs.declared.ControlFlowTarget.{ControlFlowTarget}
 use Rattle.control.specs.declared.ControlFlowTarget.TheVariants.{If, Switch, Case, Loop}
@@ -42,38 +41,26 @@ reason (Switch block) = Block
 reason (Case block) = Block
 reason (Loop block continue_block loop_block) = ContinueBlock
 
--- ---- the Contexts that the methods hand back, field by field
+-- ---- the Contexts that the methods hand back
 
 -- a target under the next id, and its blocks in the scheduled set
 abbrev pub with_entry : ControlFlowTarget → Context → Context
-with_entry target cx = record {
-  emitted = cx.emitted;
-  catch_handlers = cx.catch_handlers;
-  scope_fallthroughs = cx.scope_fallthroughs;
+with_entry target cx = record cx {
   len = cx.len + 1;
   scheduled = scheduled_by (target_of target) cx.scheduled;
   pushed = record { id = cx.next_schedule_id; target = target; owns_loop = owns (target_of target) cx.scheduled };
   refused = then_some (is_blocked (target_of target) cx.scheduled) (reason target);
   next_schedule_id = cx.next_schedule_id + 1;
-  stack = cx.stack;
 }
 
 -- one entry less, and its blocks out of the set; the array of entries is as it was
 abbrev pub without_last : Entry → Context → Context
-without_last last cx = record {
-  emitted = cx.emitted;
-  catch_handlers = cx.catch_handlers;
-  scope_fallthroughs = cx.scope_fallthroughs;
+without_last last cx = record cx {
   len = cx.len - 1;
   scheduled = unscheduled_by (target_of last.target) last.owns_loop cx.scheduled;
-  pushed = cx.pushed;
-  refused = cx.refused;
-  next_schedule_id = cx.next_schedule_id;
-  stack = cx.stack;
 }
 
--- ---- the promises. `context` is the equation with the definition, refusals included. `pops` is the equation with the machine, which refuses nothing. `state`
--- says what every field is
+-- ---- the promises. `context` is the equation with the definition, refusals included. `state` says what every field is
 
 pub record Created (r : Context) : Type 0 where
   pub context : context_of 0 r ≡ start
@@ -92,7 +79,6 @@ pub record Scheduled (target : ControlFlowTarget) (self r : Context) : Type 0 wh
 pub record Unscheduled (last : Entry) (self r : Context) : Type 0 where
   pub state : r ≡ without_last last self
   pub context : (visits : ℕ) → unschedule last.id (context_of visits self) ≡ ok (context_of visits r)
-  pub pops : (visits : ℕ) → context_of visits r ≡ machine.unscheduled (context_of visits self)
   pub len : r.len ≡ self.len - 1
   pub id : r.next_schedule_id ≡ self.next_schedule_id
   pub bounded : Bounded self.stack self.len → Bounded r.stack r.len

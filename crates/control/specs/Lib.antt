@@ -1,4 +1,3 @@
 pub mod Abstraction
 pub mod Contract
-pub mod AroundAbstraction
-pub mod Pass
+pub mod Rule

@@ -1,22 +1,23 @@
-// The Rust's ControlFlowTarget and Context: which blocks are emitted, scheduled, catch handlers or scope fallthroughs, and the stack of the
-// statements that a jump can leave. Each step takes the Context and hands the next one back.
+// The Rust's ControlFlowTarget and Context: which blocks are emitted, scheduled, catch handlers or scope fallthroughs,
+// and the stack of the statements that a jump can leave. Each step takes the Context and hands the next one back.
 //
-// A step never indexes an array of the Context that it is handed: a store into it or a read from it would copy the whole. So it copies the
-// scheduled set into a local and back, and of the stack's array it leaves two things to its caller, one line each: `schedule` gives the entry
-// that went on in `pushed`, to be stored at `len - 1`, and `unschedule` is handed the entry that its caller reads there. For the same reason each
-// step writes `len`, and the scalars stand between the arrays. (docs/PERFORMANCE.md has the times.)
+// A step copies the scheduled set into a local and back, and leaves the stack's array to its caller: `schedule` gives
+// the entry that went on in `pushed`, to be stored at `len - 1`, and `unschedule` is handed the entry that its caller
+// reads there: a store into an array of a Context that goes by value, or a read from it, copies the whole Context, and
+// so does a step that leaves `len` as it was. docs/PERFORMANCE.md has the times.
 #![tactic(auto)]
 
-pub mod around;
+/// Which entry is asked for.
 pub mod rule;
 
 ghost use Rattle.std.specs.Prelude.{◌≡◌, ◌+◌, ◌≤◌, ◌<◌, ◌||◌};
-ghost use Rattle.definition.specs.Context.{add, has, target_block, is_loop, loops_of, continues_at, block_asked, break_kind, continue_kind};
+ghost use Rattle.definition.specs.Context.{has, target_block, is_loop, loops_of, continues_at, block_asked, break_kind};
+ghost use Rattle.definition.specs.Context.{continue_kind};
 ghost use Rattle.definition.specs.Tree.{kind_number};
-ghost use Rattle.control.specs.Abstraction.{target_of, kind_of, blocked_number, found_block, resolution_of};
+ghost use Rattle.control.specs.Abstraction.{target_of, kind_of, found_block, resolution_of};
 ghost use Rattle.control.specs.Contract.{Named, Room, Last, Created, Scheduled, Unscheduled, break_to, continue_to};
 
-// The Rust's BlockId, as the sets and the stack have it.
+/// A block's number as the sets and the stack have it.
 pub fn block_id(block: u32) -> u16
     requires { block ≤ 65535 }
     ensures { result ≡ block }
@@ -24,7 +25,7 @@ pub fn block_id(block: u32) -> u16
     block as u16
 }
 
-// What an entry of the control stack stands for. A loop's `block` is its fallthrough.
+/// What an entry of the control stack stands for. A loop's `block` is its fallthrough.
 #[derive(Clone, Copy, PartialEq, Eq, Drop)]
 pub enum ControlFlowTarget {
     If {
@@ -43,8 +44,8 @@ pub enum ControlFlowTarget {
     },
 }
 
-// `owns_loop`: the target is a loop, and its loop block was free before.
-// (A flag beside the target: field by field the definition's Entry. The caller names the target, and `schedule` finds out the flag.)
+/// An entry of the control stack: a target under its id. `owns_loop` says that the target is a loop whose loop block
+/// was not scheduled before: `schedule` finds it out.
 #[derive(Clone, Copy, Drop)]
 pub struct Entry {
     pub id: u16,
@@ -52,6 +53,8 @@ pub struct Entry {
     pub owns_loop: bool,
 }
 
+/// A jump's kind, with its number in the row: 0 takes effect without a jump, 1 names a label, 2 acts on the innermost
+/// loop or switch.
 #[derive(Clone, Copy, PartialEq, Eq, Drop)]
 pub enum ReactiveTerminalTargetKind {
     Implicit = 0,
@@ -59,7 +62,7 @@ pub enum ReactiveTerminalTargetKind {
     Unlabeled = 2,
 }
 
-// What a jump resolves to: the entry that was found, the jump's kind, and how many loops lie above that entry.
+/// What a jump resolves to: the entry that was found, the jump's kind, and how many loops lie above that entry.
 #[derive(Clone, Copy, Drop)]
 pub struct Resolution {
     pub entry: Entry,
@@ -67,17 +70,18 @@ pub struct Resolution {
     pub loops: u32,
 }
 
-// Why `schedule` refuses a target: a loop's continue block is scheduled (15), or another target's block is (90, which never occurs).
+/// Why `schedule` refuses a target: a loop's continue block is scheduled (15), or another target's block is (90, which
+/// never occurs).
 #[derive(Clone, Copy, PartialEq, Eq, Drop)]
 pub enum Blocked {
-    ContinueBlock = 15,
-    Block = 90,
+    ContinueBlock,
+    Block,
 }
 
-// `pushed` is the entry that went on last. `refused` says why `schedule` refused it, if it did. The walk ends with such a Context. The first `len`
-// entries of the stack count: fixed memory, and paper 01's array.
-// `pushed` is any entry before the first: nobody reads it there, and an option would be unwrapped at the one store.
-#[derive(Drop)]
+/// The state of the walk: a flag for each of the 1,024 blocks in each of four sets, and the stack, of which the first
+/// `len` entries count. `pushed` is the entry that went on last (before the first: any entry), and `refused` says why
+/// `schedule` refused it, if it did.
+#[derive(Clone, Copy, Drop)]
 pub struct Context {
     pub emitted: [bool; 1024],
     pub catch_handlers: [bool; 1024],
@@ -90,16 +94,8 @@ pub struct Context {
     pub stack: [Entry; 1152],
 }
 
-impl Blocked {
-    // Paper 01's number of the refusal.
-    pub fn code(self) -> u32
-        ensures { result ≡ blocked_number self }
-    {
-        self as u32
-    }
-}
-
 impl ControlFlowTarget {
+    /// The block that the target is scheduled for: a loop's fallthrough.
     pub fn block(self) -> u16
         ensures { result ≡ target_block (target_of self) }
     {
@@ -111,13 +107,14 @@ impl ControlFlowTarget {
         }
     }
 
+    /// Whether this is a loop.
     pub fn is_loop(self) -> bool
         ensures { result ≡ is_loop (target_of self) }
     {
         matches!(self, ControlFlowTarget::Loop { .. })
     }
 
-    // Whether this is a loop with that continue block.
+    /// Whether this is a loop with that continue block.
     pub fn continues_at(self, wanted: u16) -> bool
         ensures { result ≡ continues_at (target_of self) wanted }
     {
@@ -127,7 +124,7 @@ impl ControlFlowTarget {
         }
     }
 
-    // The block of the refusal where the target cannot be scheduled.
+    /// The block that `schedule` tests, which a refusal names: a loop's continue block.
     pub fn block_asked(self) -> u16
         ensures { result ≡ block_asked (target_of self) }
     {
@@ -139,7 +136,7 @@ impl ControlFlowTarget {
 }
 
 impl ReactiveTerminalTargetKind {
-    // The kind's number in a row.
+    /// The kind's number in a row.
     pub fn number(self) -> u32
         ensures { result ≡ kind_number (kind_of self) }
     {
@@ -149,16 +146,7 @@ impl ReactiveTerminalTargetKind {
 
 // ---- sets of blocks
 
-// Puts a block into a set: emitted, catch handlers or scope fallthroughs.
-#[tactic(auto, unfolding(definition::specs::Context::add))]
-pub fn insert(set: &mut [bool; 1024], block: u16)
-    requires { block < 1024 }
-    ensures { set.new ≡ add set.old block }
-{
-    set[block as usize] = true;
-}
-
-// A catch handler counts as scheduled here, and nowhere else.
+/// Whether a block is in either set: a catch handler counts as scheduled here, and nowhere else.
 #[tactic(auto, unfolding(definition::specs::Context::has))]
 pub fn is_scheduled(scheduled: &[bool; 1024], catch_handlers: &[bool; 1024], block: u16) -> bool
     requires { block < 1024 }
@@ -170,7 +158,7 @@ pub fn is_scheduled(scheduled: &[bool; 1024], catch_handlers: &[bool; 1024], blo
 
 // ---- the search of the stack for a jump's target
 
-// The number of loops above the next entry down.
+/// The number of loops above the next entry down.
 pub fn count_loop(loops: u32, target: ControlFlowTarget) -> u32
     requires { loops < 1152 }
     ensures { (result ≡ loops_of (target_of target) + loops) × (result ≤ loops + 1) }
@@ -210,7 +198,7 @@ fn continue_kind(top: bool, loops: u32) -> ReactiveTerminalTargetKind
 }
 
 impl Resolution {
-    // The block that the jump's row names. For a continue too it is the loop's fallthrough.
+    /// The block that the jump's row names. For a continue too it is the loop's fallthrough.
     pub fn block(self) -> u16
         ensures { result ≡ found_block self }
     {
@@ -218,7 +206,7 @@ impl Resolution {
     }
 }
 
-// A break to the entry that was found below `loops` loops.
+/// A break to the entry that was found below `loops` loops, `top` if it is the stack's last.
 pub fn break_to(found: Entry, top: bool, loops: u32) -> Resolution
     ensures { (result.entry ≡ found) × (resolution_of result ≡ break_to (target_of found.target) top loops) }
 {
@@ -229,7 +217,7 @@ pub fn break_to(found: Entry, top: bool, loops: u32) -> Resolution
     }
 }
 
-// A continue of the loop that was found below `loops` loops.
+/// A continue of the loop that was found below `loops` loops, `top` if it is the stack's last.
 pub fn continue_to(found: Entry, top: bool, loops: u32) -> Resolution
     ensures { (result.entry ≡ found) × (resolution_of result ≡ continue_to (target_of found.target) top loops) }
 {
@@ -241,6 +229,7 @@ pub fn continue_to(found: Entry, top: bool, loops: u32) -> Resolution
 }
 
 impl Context {
+    /// No block in any set, and nothing on the stack.
     pub fn new() -> Context
         ensures { Created result }
     {
@@ -262,8 +251,9 @@ impl Context {
         }
     }
 
-    // The one way to schedule any target; a loop has three blocks. A loop's fallthrough goes in without a test, and its continue block is tested
-    // after that. The new entry is in `pushed`.
+    /// The next Context, with the target under the next id in `pushed`, for its caller to store at `len - 1`. All
+    /// blocks of the target are scheduled. A loop's fallthrough goes in without a test, and its continue block is
+    /// tested after that. Where the test fails, `refused` says so, and the Context is of no more use.
     pub fn schedule(mut self, target: ControlFlowTarget) -> Context
         requires named { Named target }
         requires room { Room self }
@@ -306,8 +296,9 @@ impl Context {
         self
     }
 
-    // Takes off the stack's last entry, which its caller read at `len - 1`, and takes its blocks out of the scheduled set. A loop's fallthrough
-    // and continue block go out whoever put them there; its loop block goes out only if the loop owns it.
+    /// The next Context, without the stack's last entry, which the caller reads at `len - 1`. The entry's blocks are no
+    /// longer scheduled: a loop's fallthrough and continue block whoever put them there, its loop block only if the
+    /// loop owns it.
     pub fn unschedule(mut self, last: Entry) -> Context
         requires { Last self last }
         ensures { Unscheduled last self result }

@@ -1,6 +1,5 @@
-// Which entry is asked for: the public parameter of the build.
-
-// The entry that equals the Rust, and the language entry.
+/// Which entry is asked for. `Rust` builds what the Rust builds. `Language` also labels a break to a loop out of a
+/// switch that is being built in between, and refuses a label that no statement around has.
 #[derive(Clone, Copy, PartialEq, Eq, Drop)]
 pub enum Rule {
     Rust,

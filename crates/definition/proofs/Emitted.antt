@@ -29,7 +29,8 @@ use Rattle.definition.proofs.Steps.{true_false, none_some, some_eq, Any, Good, g
 use Rattle.definition.proofs.Flags.{has_still, has_new, length_add, length_none, below_blocks}
 use Rattle.definition.proofs.Never.{false_of}
 use Rattle.definition.proofs.Lines.{Unlined, UnlinedStep, unlined_none, break_unlined, continue_unlined, instructions_lined}
-use Rattle.definition.proofs.Flags.{marks, marks_below}
+use Rattle.definition.specs.Marks.{marks}
+use Rattle.definition.proofs.Flags.{marks_below}
 
 -- ---- blocks that are entered one after the other
 
@@ -472,7 +473,7 @@ marks_grow (true ∷ e) (false ∷ f) g = absurd (true_false (sym (g.kept 0 refl
 marks_grow (false ∷ e) (true ∷ f) g = omega (arith, marks_grow e f (grows_tail false true e f g))
 marks_grow (false ∷ e) (false ∷ f) g = marks_grow e f (grows_tail false false e f g)
 
-marks_enter : (b : ℕ) (e f : Flags) → Grows e f → has e b ≡ false → has f b ≡ true → marks e < marks f
+pub marks_enter : (b : ℕ) (e f : Flags) → Grows e f → has e b ≡ false → has f b ≡ true → marks e < marks f
 unfolding has
 marks_enter b [] [] g h k = absurd (true_false (sym k))
 marks_enter b [] (y ∷ f) g h k = absurd (omega (arith, g.size))

@@ -41,7 +41,8 @@ use Rattle.definition.specs.PlainTest.{is_plain}
 use Rattle.definition.proofs.PlainTest.{is_plain_lem}
 use Rattle.definition.proofs.Accepted.{Accepted, accepted_of}
 use Rattle.definition.proofs.Steps.{true_false}
-use Rattle.definition.proofs.Law.{more_steps, spoken_of, tree_is_built, run_law, switch_law}
+use Rattle.definition.proofs.TreeInBuffer.{tree_is_built}
+use Rattle.definition.proofs.Law.{more_steps, spoken_of, run_law, switch_law}
 use Rattle.definition.specs.Examples.{block_row, W, loops, picks}
 
 -- ---- plain

@@ -1,4 +1,4 @@
--- The laws of sets of blocks, and that a block that is present is below the count: for proofs/State, proofs/Never and machine/proofs/Invariant.
+-- The laws of sets of blocks, and that a block that is present is below the count: for proofs/State, proofs/Never and proofs/Emitted.
 use mathlib.Core.Path.{◌≡◌, refl, sym, ◌∙◌, subst}
 use Prim.Native.Nat.{ℕ, zero, suc, ◌<◌}
 use native.Mathlib.Nat.{zero-lt-suc}
@@ -11,6 +11,7 @@ use lib.Seq.{get_or-set_same, get_or-set_other}
 use native.Mathlib.Decide.{ℕ_discrete}
 use Rattle.table.specs.Table.{Table, Block, no_block, terminal_at, is_absent}
 use Rattle.definition.specs.Context.{Flags, no_flags, has, add, remove}
+use Rattle.definition.specs.Marks.{marks}
 use Rattle.definition.proofs.Steps.{true_false}
 use Prim.Native.Nat.{◌≤◌}
 use native.Mathlib.Nat.{le_refl}
@@ -82,11 +83,6 @@ present_below (x ∷ bs) (suc b) e = omega (arith, present_below bs b e)
 
 pub below_blocks : (t : Table) (b : ℕ) → is_absent (terminal_at t b) ≡ false → b < length t.blocks
 below_blocks t b e = present_below t.blocks b e
-
-abbrev pub marks : Flags → ℕ
-marks [] = 0
-marks (true ∷ s) = suc (marks s)
-marks (false ∷ s) = marks s
 
 pub marks_below : (s : Flags) → marks s ≤ length s
 marks_below [] = le_refl 0

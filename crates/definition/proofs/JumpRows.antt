@@ -11,7 +11,7 @@ use Rattle.definition.specs.Tree.{block_rows, cases_rows, rows}
 use Rattle.definition.specs.Around.{Rule}
 use Rattle.definition.specs.Build.{built}
 use Rattle.definition.specs.Reading.{WellFormedStatement, WellFormed, WellFormedCases, JumpsWithin}
-use Rattle.definition.proofs.Law.{one_tree}
+use Rattle.definition.proofs.TreeInBuffer.{one_tree}
 
 -- values have no jump
 mutual

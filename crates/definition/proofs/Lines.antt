@@ -1,4 +1,4 @@
--- M-101: the lines of a part, put out behind what is out already, beside the rows of proofs/Rows. For machine/proofs/Simulation.
+-- M-101: the lines of a part, put out behind what is out already, beside the rows of proofs/Rows. For the proofs of crate walk.
 use mathlib.Core.Path.{◌≡◌, refl, sym, ap, ◌∙◌}
 use Prim.Native.Nat.{ℕ, ◌+◌, ◌-◌}
 use native.Mathlib.Omega.{arith}
@@ -15,46 +15,20 @@ use Rattle.definition.specs.Output.{Output, ◌⊕◌, line_out, value_out, upda
 use Rattle.definition.specs.Statement.{break_to_scope, break_resolved, visit_break, continue_resolved, visit_continue, instruction_statements, followed_by}
 use Rattle.definition.specs.Tree.{Kind, implicit, labeled, unlabeled, Value, Statement, INSTR, IF, SWITCH, DOWHILE, WHILE, FOR, FOROF, FORIN, LABEL, TRY}
 use Rattle.definition.specs.Tree.{SCOPE, RETURN, THROW, Statements, done, Cases, no_cases, CASE, Row, row, value_rows, update_rows, statement_rows}
-use Rattle.definition.specs.Tree.{block_rows, instr_row, for_of_row, for_in_row, count_statements, count_cases, or_none, update_present}
+use Rattle.definition.specs.Tree.{block_rows, instr_row, for_of_row, for_in_row, count_cases, or_none, update_present}
 use Rattle.definition.proofs.Steps.{Good, good_unless, good_pick}
-use Rattle.definition.proofs.Rows.{statements_out, cases_out, block_out, block_out_lem, rows_if, rows_else, rows_do_while, rows_while, rows_for, rows_for_of}
+use Rattle.definition.specs.Put.{lines_in, lines_of, list_put, block_put, cases_put, statement_put, step_put, statements_out, cases_out}
+use Rattle.definition.proofs.Rows.{block_out, block_out_lem, rows_if, rows_else, rows_do_while, rows_while, rows_for, rows_for_of}
 use Rattle.definition.proofs.Rows.{rows_for_in, rows_label, rows_try, rows_scope, rows_value, rows_single, rows_case, rows_switch, rows_chain}
 
--- ---- a part put out behind R: its rows, and the lines of what it has
-
-abbrev pub lines_in : ℕ → Statements → List Line
-lines_in first s = map line_of (in_list first s)
-
-abbrev pub lines_of : ℕ → Statement → List Line
-lines_of first s = map line_of (in_parts first s ++ labelled_by (label_of s) first s)
-
-abbrev pub list_put : Output → Statements → Output
-list_put R s = record { rows = R.rows ++ statements_out s; lines = R.lines ++ lines_in (length R.rows) s }
-
--- a nested list and its BLOCK row
-abbrev pub block_put : Output → Statements → Output
-block_put R s = list_put R s ⊕ (block_row (count_statements s) ∷ [])
-
-abbrev pub cases_put : Output → Cases → Output
-cases_put R s = record { rows = R.rows ++ cases_out s; lines = R.lines ++ map line_of (in_cases (length R.rows) s) }
-
-abbrev pub statement_put : Output → Statement → Output
-statement_put R s = record { rows = R.rows ++ statement_out s; lines = R.lines ++ lines_of (length R.rows) s }
-
--- a terminal's statement, if it has one
-abbrev pub step_put : Output → Option Statement → Output
-step_put R none = R ⊕ []
-step_put R (some s) = statement_put R s
+-- ---- rows behind what is out
 
 pub output_eq : {R S : Output} → R.rows ≡ S.rows → R.lines ≡ S.lines → R ≡ S
 output_eq {R} {S} e f = ap (λ (z : List Row). record { rows = z; lines = R.lines }) e ∙ ap (λ (z : List Line). record { rows = S.rows; lines = z }) f
 
--- no rows more, and rows behind rows
+-- no rows more
 pub out_nil : (R : Output) → R ⊕ [] ≡ R
 out_nil R = output_eq (append-nil R.rows) refl
-
-pub out_assoc : (R : Output) (a b : List Row) → (R ⊕ a) ⊕ b ≡ R ⊕ (a ++ b)
-out_assoc R a b = output_eq (append_assoc R.rows a b) refl
 
 -- ---- a statement with no line
 
@@ -157,7 +131,7 @@ moved L s e = ap (λ (z : ℕ). L ++ lines_in z s) e
 joined : (L : List Line) (A B : List Labelled) → (L ++ map line_of A) ++ map line_of B ≡ L ++ map line_of (A ++ B)
 joined L A B = append_assoc L (map line_of A) (map line_of B) ∙ ap (λ (z : List Line). L ++ z) (sym (map-append line_of A B))
 
--- ---- what the machine has put out before it closes a statement
+-- ---- what is out before a statement is closed
 
 pub parts_if : (R : Output) (x id : ℕ) (g : Option ℕ) (c a : Statements) → Parts R (IF x id g c false a) (row 10 x 0 id (or_none g) 0) (block_put R c)
 unfolding in_list

@@ -42,7 +42,8 @@ use Rattle.definition.proofs.LoopTest.{is_plain_loops_lem}
 use Rattle.definition.proofs.Example.{tree_of, Both, stop_alike, returns}
 use Rattle.definition.proofs.Accepted.{Accepted, accepted_of}
 use Rattle.definition.proofs.Steps.{true_false}
-use Rattle.definition.proofs.Law.{spoken_of, tree_is_built, loops_law, loops_and_switches_law}
+use Rattle.definition.proofs.TreeInBuffer.{tree_is_built}
+use Rattle.definition.proofs.Law.{spoken_of, loops_law, loops_and_switches_law}
 use Rattle.definition.specs.LoopExamples.{a_return, an_unreachable, a_break, a_continue, an_if, a_branch, a_switch, a_do_while, a_for, table_with, table}
 use Rattle.definition.specs.LoopExamples.{updates, counts, again, does, once, nested, ends, scoped, switches, falls}
 

@@ -34,7 +34,7 @@ and_split₃ a b c h = (and_left a (b && c) h, and_left b c (and_right a (b && c
 -- ---- the last cases
 
 -- where the last case is not the fallthrough none is left out; where it is, one is
-drop_none : (f : ℕ) (cases : List Case) → last_is_own f cases ≡ false → drop_own f cases ≡ cases
+pub drop_none : (f : ℕ) (cases : List Case) → last_is_own f cases ≡ false → drop_own f cases ≡ cases
 drop_none f [] h = refl
 drop_none f (k ∷ ks) h = ap (λ (z : Bool). cond z (drop_own f ks) (k ∷ ks)) h
 
@@ -46,7 +46,7 @@ drop_shorter f (k ∷ ks) = at (eqb k.block f) (drop_shorter f ks)
     at true h = omega (arith, h)
     at false h = omega arith
 
-drops_none : (f : ℕ) (cases : List Case) → drop_own f cases ≡ cases → last_is_own f cases ≡ false
+pub drops_none : (f : ℕ) (cases : List Case) → drop_own f cases ≡ cases → last_is_own f cases ≡ false
 drops_none f [] h = refl
 drops_none f (k ∷ ks) h = by_cases (eqb k.block f) (λ e. absurd (shorter e)) (λ e. e)
   where
@@ -55,12 +55,12 @@ drops_none f (k ∷ ks) h = by_cases (eqb k.block f) (λ e. absurd (shorter e)) 
         let q : length (drop_own f ks) ≡ suc (length ks) = ap length (sym (ap (λ (z : Bool). cond z (drop_own f ks) (k ∷ ks)) e) ∙ h) in omega (arith, q, drop_shorter f ks)
 
 module _ (t : Table) where
-  reached_all : (ns : List ℕ) → all_reached t ns ≡ true → All (Reached t) ns
+  pub reached_all : (ns : List ℕ) → all_reached t ns ≡ true → All (Reached t) ns
   reached_all [] h = tt
   reached_all (n ∷ ns) h =
       let (q, r) = and_split (not (is_unreachable (terminal_at t n))) (all_reached t ns) h in (not_is (is_unreachable (terminal_at t n)) q, reached_all ns r)
 
-  all_reached_lem : (ns : List ℕ) → All (Reached t) ns → all_reached t ns ≡ true
+  pub all_reached_lem : (ns : List ℕ) → All (Reached t) ns → all_reached t ns ≡ true
   all_reached_lem [] h = refl
   all_reached_lem (n ∷ ns) (h, k) = and_both _ _ (is_not _ h) (all_reached_lem ns k)
 

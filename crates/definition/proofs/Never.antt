@@ -1,5 +1,5 @@
 -- Over any table: the walk hands the stack back as it was and schedules nothing new, so that 90 and 91 never occur; and every refusal is the
--- paper's, so that 92 and 99 do not either. For the reader, proofs/Accepted and machine/proofs/Simulation.
+-- paper's, so that 92 and 99 do not either. For the reader, proofs/Accepted, and walk/proofs/EntriesLaws.
 use mathlib.Core.Path.{◌≡◌, refl, sym, ap, ◌∙◌, subst}
 use Prim.Native.Nat.{ℕ, zero, suc, ◌≤◌}
 use native.Mathlib.Omega.{arith}

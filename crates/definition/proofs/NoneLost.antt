@@ -1,6 +1,6 @@
--- Of a plain table with loops: no block of it leads to an Unreachable one, so that no run that begins at the entry comes to one. For proofs/Law: a scope's list
+-- Of a wide plain table: no block of it leads to an Unreachable one, so that no run that begins at the entry comes to one. For proofs/LawOfValues: a scope's list
 -- never completes normally where the scope's fallthrough is Unreachable.
-use mathlib.Core.Path.{◌≡◌, refl, sym, ap, ◌∙◌, subst}
+use mathlib.Core.Path.{◌≡◌, refl, sym, ◌∙◌, subst}
 use mathlib.Core.Logic.{◌⊎◌, inl, inr}
 use Prim.Native.Nat.{ℕ, zero, suc}
 use native.Mathlib.Omega.{arith}
@@ -15,9 +15,12 @@ use Rattle.definition.specs.BlockRun.{go, halt, by_answer, case_list, at_place, 
 use Rattle.definition.specs.Completion.{contains}
 use Rattle.definition.specs.Statement.{cases_last_first}
 use Rattle.definition.specs.Plain.{Width, blocks_of, All}
-use Rattle.definition.specs.PlainLoops.{PlainLoops, loop_of, drop_own, proper_blocks_of, Reached, entered_by}
+use Rattle.definition.specs.PlainLoops.{drop_own, proper_blocks_of, Reached}
 use Rattle.definition.proofs.PlainEnough.{or_left, or_right, either_or, or_false, from_reverse}
-use Rattle.definition.proofs.Semantics.{NoneLost, in_whole_order}
+use Rattle.definition.proofs.Semantics.{in_whole_order}
+use Rattle.definition.specs.WideLoops.{WideLoops, wide_entered_by}
+use Rattle.definition.specs.WideRun.{wide_move}
+use Rattle.definition.proofs.Arrive.{NoneLost}
 
 go_block : {b b' : ℕ} {a a' : Answers} → go b a ≡ go b' a' → b ≡ b'
 go_block e = cc
@@ -42,7 +45,7 @@ at_place_in [] place answers b left e = absurd (halt_goes e)
 at_place_in (c ∷ cs) zero answers b left e = or_left (eqb c.block b) (contains (blocks_of cs) b) (eq-eqb c.block b (go_block e))
 at_place_in (c ∷ cs) (suc place) answers b left e = or_right (eqb c.block b) (contains (blocks_of cs) b) (at_place_in cs place answers b left e)
 
-module _ {width : Width} (t : Table) (pl : PlainLoops width t) where
+module _ {width : Width} (t : Table) (pl : WideLoops width t) where
   by_answer_lem : (c a : ℕ) → Reached t c → Reached t a → (answers : Answers) (b : ℕ) (left : Answers) → by_answer c a answers ≡ go b left → Reached t b
   unfolding by_answer
   by_answer_lem c a rc ra [] b left e = absurd (halt_goes e)
@@ -72,34 +75,32 @@ module _ {width : Width} (t : Table) (pl : PlainLoops width t) where
       case_in b x i n f k e (or_false (contains (blocks_of (cases_last_first t i n)) k) (from_reverse (cases_last_first t i n) [] k
       (subst (λ (cs : List Case). contains (blocks_of cs) k ≡ true) (sym (in_whole_order t i n)) (at_place_in (case_list t i n) place answers k left h))))
 
-  entered : (b : ℕ) (m : Terminal) → terminal_at t b ≡ m → All (Reached t) (entered_by m)
-  entered b m e = subst (λ (z : Terminal). All (Reached t) (entered_by z)) e (pl.entered b)
+  entered : (b : ℕ) (m : Terminal) → terminal_at t b ≡ m → All (Reached t) (wide_entered_by m)
+  entered b m e = subst (λ (z : Terminal). All (Reached t) (wide_entered_by z)) e (pl.entered b)
 
-  moves_to : (b : ℕ) (m : Terminal) → terminal_at t b ≡ m → (id : ℕ) (answers : Answers) (k : ℕ) (left : Answers) → move t m id answers ≡ go k left → Reached t k
-  unfolding move
+  moves_to : (b : ℕ) (m : Terminal) → terminal_at t b ≡ m → (id : ℕ) (answers : Answers) (k : ℕ) (left : Answers) → wide_move t m id answers ≡ go k left → Reached t k
+  unfolding wide_move move
   moves_to b absent e id answers k left h = absurd (halt_goes h)
   moves_to b unreachable e id answers k left h = absurd (halt_goes h)
   moves_to b (throw v) e id answers k left h = absurd (halt_goes h)
   moves_to b (return v) e id answers k left h = absurd (halt_goes h)
   moves_to b (for_of i x l f) e id answers k left h = absurd (halt_goes h)
   moves_to b (for_in i l f) e id answers k left h = absurd (halt_goes h)
-  moves_to b (logical op x f) e id answers k left h = absurd (halt_goes h)
-  moves_to b (ternary x f) e id answers k left h = absurd (halt_goes h)
-  moves_to b (optional g x f) e id answers k left h = absurd (halt_goes h)
-  moves_to b (sequence x f) e id answers k left h = absurd (halt_goes h)
-  moves_to b (maybe_throw n) e id answers k left h = absurd (halt_goes h)
+  moves_to b (logical op x f) e id answers k left h = subst (λ (z : ℕ). Reached t z) (go_block h) (entered b (logical op x f) e).0
+  moves_to b (ternary x f) e id answers k left h = subst (λ (z : ℕ). Reached t z) (go_block h) (entered b (ternary x f) e).0
+  moves_to b (optional g x f) e id answers k left h = subst (λ (z : ℕ). Reached t z) (go_block h) (entered b (optional g x f) e).0
+  moves_to b (sequence x f) e id answers k left h = subst (λ (z : ℕ). Reached t z) (go_block h) (entered b (sequence x f) e).0
+  moves_to b (maybe_throw n) e id answers k left h = subst (λ (z : ℕ). Reached t z) (go_block h) (entered b (maybe_throw n) e).0
   moves_to b (try x y f n) e id answers k left h = absurd (halt_goes h)
   moves_to b (goto g v) e id answers k left h = let p : All (Reached t) (g ∷ []) = entered b (goto g v) e in subst (λ (z : ℕ). Reached t z) (go_block h) p.0
   moves_to b (if x y a f) e id answers k left h = let p : All (Reached t) (y ∷ a ∷ []) = entered b (if x y a f) e in by_answer_lem y a p.0 p.1.0 answers k left h
   moves_to b (branch x y a) e id answers k left h = let p : All (Reached t) (y ∷ a ∷ []) = entered b (branch x y a) e in by_answer_lem y a p.0 p.1.0 answers k left h
   moves_to b (switch x i n f) e id answers k left h = by_place_lem b x i n f e answers k left h
   moves_to b (do_while l x f) e id answers k left h = subst (λ (z : ℕ). Reached t z) (go_block h) (entered b (do_while l x f) e).0
-  moves_to b (while x l f) e id answers k left h =
-      let (p, q) = pl.tests b x l f x (ap loop_of e) in subst (λ (z : ℕ). Reached t z) (go_block h) (ap is_unreachable q)
-  moves_to b (for i x u l f) e id answers k left h =
-      let (v, q) = pl.inits b i x u l f e in subst (λ (z : ℕ). Reached t z) (go_block h) (ap is_unreachable q)
+  moves_to b (while x l f) e id answers k left h = subst (λ (z : ℕ). Reached t z) (go_block h) (entered b (while x l f) e).0
+  moves_to b (for i x u l f) e id answers k left h = subst (λ (z : ℕ). Reached t z) (go_block h) (entered b (for i x u l f) e).0
   moves_to b (label x f) e id answers k left h = subst (λ (z : ℕ). Reached t z) (go_block h) (entered b (label x f) e).0
   moves_to b (scope p x f n) e id answers k left h = subst (λ (z : ℕ). Reached t z) (go_block h) (entered b (scope p x f n) e).0
 
-  pub none_lost : NoneLost t
-  none_lost b answers k left e = moves_to b (terminal_at t b) refl (block_at t b).id answers k left e
+  pub none_lost : (seen_row : ℕ → Bool) → NoneLost t seen_row
+  none_lost seen_row b answers k left e = moves_to b (terminal_at t b) refl (block_at t b).id answers k left e

@@ -16,9 +16,9 @@ use Rattle.definition.specs.Around.{Enclosing, a_loop, a_switch, another, is_swi
 use Rattle.definition.specs.Completion.{contains, break, continue}
 use Rattle.definition.specs.TreeRun.{jump_completion}
 use Rattle.definition.specs.Tree.{Kind, implicit, labeled, unlabeled, kind_number}
-use Rattle.definition.proofs.Semantics.{Frame, in_label, in_scope, in_loop, in_switch, in_open, in_case, exit, break_out, break_at, continue_out, continue_at, target}
-use Rattle.definition.specs.PlainLoops.{IsProper, proper_blocks_of, loop_codes, Loop, new_loop, loop_of}
-use Rattle.definition.proofs.PlainEnough.{PlainEnough}
+use Rattle.definition.proofs.Frames.{Frame, in_label, in_scope, in_loop, in_switch, in_open, in_case, exit, break_out, break_at, continue_out, continue_at, target}
+use Rattle.definition.specs.PlainLoops.{IsProper, proper_blocks_of, Loop, new_loop, loop_of}
+use Rattle.definition.specs.WideLoops.{WideLoops, wide_codes}
 use Rattle.definition.proofs.Steps.{true_false, none_some, some_eq}
 
 module _ (t : Table) where
@@ -71,10 +71,10 @@ module _ (t : Table) where
   clear_around (fits_case k p) h = clear_around p h
 
   -- a table as paper 01 has it has no switch, and so no frame of one
-  no_switch : (w x k n f : ℕ) → PlainEnough paper_01 t → terminal_at t w ≡ switch x k n f → ⊥
-  no_switch w x k n f pl e = true_false (sym (pl.ends w) ∙ ap (λ (m : Terminal). contains (loop_codes paper_01) (code_of m)) e)
+  no_switch : (w x k n f : ℕ) → WideLoops paper_01 t → terminal_at t w ≡ switch x k n f → ⊥
+  no_switch w x k n f pl e = true_false (sym (pl.ends w) ∙ ap (λ (m : Terminal). contains (wide_codes paper_01) (code_of m)) e)
 
-  pub clear_paper : {scopes : Flags} {F : List Frame} {S : List Entry} → Framed scopes F S → PlainEnough paper_01 t → Clear F
+  pub clear_paper : {scopes : Flags} {F : List Frame} {S : List Entry} → Framed scopes F S → WideLoops paper_01 t → Clear F
   clear_paper no_frame pl = tt
   clear_paper (label_framed i f p) pl = clear_paper p pl
   clear_paper (scope_framed i f s p) pl = clear_paper p pl
@@ -125,7 +125,7 @@ module _ (t : Table) where
   named_at (fits_case k p) g h = named_at p g h
 
   -- without a Switch there is no case
-  no_case_of : (m : Terminal) → contains (loop_codes paper_01) (code_of m) ≡ true → (k : ℕ) → contains (proper_blocks_of t m) k ≡ true → ⊥
+  no_case_of : (m : Terminal) → contains (wide_codes paper_01) (code_of m) ≡ true → (k : ℕ) → contains (proper_blocks_of t m) k ≡ true → ⊥
   no_case_of absent h k e = true_false (sym e)
   no_case_of unreachable h k e = true_false (sym e)
   no_case_of (throw v) h k e = true_false (sym e)
@@ -148,7 +148,7 @@ module _ (t : Table) where
   no_case_of (try x y f n) h k e = true_false (sym e)
   no_case_of (scope p x f n) h k e = true_false (sym e)
 
-  pub no_case : PlainEnough paper_01 t → (k : ℕ) → IsProper t k → ⊥
+  pub no_case : WideLoops paper_01 t → (k : ℕ) → IsProper t k → ⊥
   no_case pl k c = no_case_of (terminal_at t c.of) (pl.ends c.of) k c.among
 
   -- a break to a block that is no scope's fallthrough finds the label
@@ -366,7 +366,7 @@ module _ (t : Table) where
   loop_ft (try x y f n) loop e = absurd (none_some e)
   loop_ft (scope p x f n) loop e = absurd (none_some e)
 
-  module _ {width : Width} (pl : PlainEnough width t) where
+  module _ {width : Width} (pl : WideLoops width t) where
     -- two loops with one fallthrough continue at one block
     same_again : (w z l f x w' z' l' x' : ℕ) → loop_of (terminal_at t w) ≡ some (new_loop z l f x) → loop_of (terminal_at t w') ≡ some (new_loop z' l' f x') → x ≡ x'
     same_again w z l f x w' z' l' x' e e' =

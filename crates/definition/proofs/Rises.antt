@@ -11,7 +11,8 @@ use Rattle.definition.specs.Output.{block_row}
 use Rattle.definition.specs.Tree.{Value, Statement, INSTR, IF, SWITCH, DOWHILE, WHILE, FOR, FOROF, FORIN, LABEL, TRY, SCOPE, RETURN, THROW, BREAK}
 use Rattle.definition.specs.Tree.{CONTINUE, Statements, done, ◌▸◌, Cases, no_cases, CASE, Row, row, value_rows, update_rows, statement_rows, statements_rows}
 use Rattle.definition.specs.Tree.{block_rows, for_of_row, for_in_row, cases_rows, rows, count_statements, count_cases, or_none, update_present}
-use Rattle.definition.proofs.Rows.{value_append, update_append, statement_append, cases_append, statements_out, block_rows_lem, block_split}
+use Rattle.definition.proofs.Rows.{value_append, update_append, statement_append, cases_append, block_rows_lem, block_split}
+use Rattle.definition.specs.Put.{statements_out}
 use Rattle.definition.proofs.Sits.{has_row}
 
 -- their closing rows are from row a on, each after the one before, and below row b

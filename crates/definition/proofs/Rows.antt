@@ -1,4 +1,4 @@
--- The rows of a part, put out behind what is out already: what the machine has out when it closes a statement is that statement's rows. For machine/proofs/Simulation.
+-- The rows of a part, put out behind what is out already: what the walk has out when it closes a statement is that statement's rows. For the proofs of crate walk.
 use mathlib.Core.Path.{◌≡◌, refl, sym, ap, ◌∙◌}
 use Prim.Native.Nat.{ℕ, suc, ◌+◌}
 use native.Mathlib.Nat.{zero-add, suc-add}
@@ -9,6 +9,7 @@ use mathlib.Core.Bool.{Bool, true, false}
 use lib.ListN.{length}
 use Rattle.table.specs.declared.columns.Span.{Span}
 use Rattle.table.specs.Table.{Table, instruction_at}
+use Rattle.definition.specs.Put.{statements_out, cases_out}
 use Rattle.definition.specs.Output.{value_out, update_out, statement_out, instructions_out, block_row, jump_out, added, scope_row}
 use Rattle.definition.specs.Statement.{instruction_statements, followed_by}
 use Rattle.definition.specs.Tree.{Value, PLAIN, LOAD, UNDEF, SEQ, LOGICAL, COND, OPTIONAL, Instructions, no_instructions, instruction, Statement, INSTR, instr_row, for_of_row, for_in_row}
@@ -88,12 +89,6 @@ mutual
 
 -- ---- a part put out behind R, and then the rows k
 
-unfoldable pub statements_out : Statements → List Row
-statements_out s = statements_rows s []
-
-unfoldable pub cases_out : Cases → List Row
-cases_out s = cases_rows s []
-
 -- a nested list and its BLOCK row
 abbrev pub block_out : List Row → Statements → List Row
 block_out R s = (R ++ statements_out s) ++ (block_row (count_statements s) ∷ [])
@@ -122,7 +117,7 @@ block_split b k = block_rows_lem b k ∙ sym (append_assoc (statements_out b) (b
 pub block_out_lem : (R : List Row) (s : Statements) (k : List Row) → block_out R s ++ k ≡ R ++ block_rows s k
 block_out_lem R s k = simp append_assoc (ap (λ (z : List Row). R ++ z) (sym (block_rows_lem s k)))
 
--- ---- what the machine has put out when it closes a statement
+-- ---- what is out when a statement is closed
 
 pub rows_if : (R : List Row) (x id : ℕ) (g : Option ℕ) (c a : Statements) → block_out R c ++ (row 10 x 0 id (or_none g) 0 ∷ []) ≡ R ++ statement_out (IF x id g c false a)
 unfolding statement_out

@@ -12,7 +12,8 @@ use Rattle.definition.specs.Output.{Output, no_output, statement_out, block_row}
 use Rattle.definition.specs.Tree.{Statement, INSTR, IF, SWITCH, DOWHILE, WHILE, FOR, FOROF, FORIN, LABEL, TRY, SCOPE, RETURN, THROW, BREAK, CONTINUE}
 use Rattle.definition.specs.Tree.{Statements, done, ◌▸◌, Cases, no_cases, CASE, Row, row, rows, value_rows, update_rows, statement_rows, statements_rows}
 use Rattle.definition.specs.Tree.{block_rows, instr_row, for_of_row, for_in_row, cases_rows, count_statements, count_cases, or_none, update_present}
-use Rattle.definition.proofs.Rows.{value_append, update_append, statement_append, cases_append, statements_out, block_rows_lem, block_split}
+use Rattle.definition.proofs.Rows.{value_append, update_append, statement_append, cases_append, block_rows_lem, block_split}
+use Rattle.definition.specs.Put.{statements_out}
 use Rattle.definition.proofs.Lines.{Parts, parts_if, parts_else, parts_do_while, parts_while, parts_for, parts_for_of, parts_for_in, parts_label, parts_try, parts_scope, parts_switch}
 
 -- ---- a list of labelled statements, of each of which something holds

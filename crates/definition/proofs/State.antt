@@ -16,10 +16,10 @@ use Rattle.definition.specs.Plain.{Width, fallthrough_of}
 use Rattle.definition.specs.Result.{refused, ok, refuse_if}
 use Rattle.definition.specs.Statement.{enter_block, unless_scheduled}
 use Rattle.definition.specs.Value.{begin_visit}
-use Rattle.definition.proofs.Semantics.{Frame, in_label, in_scope, in_loop, in_switch, in_open, in_case, is_open}
+use Rattle.definition.proofs.Frames.{Frame, in_label, in_scope, in_loop, in_switch, in_open, in_case, is_open}
 use Rattle.definition.proofs.Ranged.{Ranged}
 use Rattle.definition.specs.PlainLoops.{IsProper, new_loop, loop_of}
-use Rattle.definition.proofs.PlainEnough.{PlainEnough}
+use Rattle.definition.specs.WideLoops.{WideLoops}
 use Rattle.definition.proofs.Steps.{true_false, refused_ok, ok_eq, bind_ok, unless_ok}
 use Rattle.definition.proofs.Flags.{has_add, has_remove, has_still, has_new, length_add, length_remove, has_none, length_none, below_blocks}
 use Rattle.definition.proofs.Resolve.{Framed, no_frame, label_framed, scope_framed, loop_framed, switch_framed, open_framed, case_framed}
@@ -110,7 +110,7 @@ module _ (t : Table) where
 
   -- ---- the fallthrough of an entered block is not scheduled
 
-  not_known : {width : Width} (pl : PlainEnough width t) (emitted : Flags) (b f : ℕ) → has emitted b ≡ false → fallthrough_of (terminal_at t b) ≡ some f → Known emitted f → ⊥
+  not_known : {width : Width} (pl : WideLoops width t) (emitted : Flags) (b f : ℕ) → has emitted b ≡ false → fallthrough_of (terminal_at t b) ≡ some f → Known emitted f → ⊥
   not_known pl emitted b f o e (fallthrough_of_lem d h e') = true_false (sym h ∙ ap (has emitted) (pl.one_fallthrough d b f e' e) ∙ o)
   not_known pl emitted b f o e (loop_of_lem w y g k e') = pl.no_loop b f w y f g k e e' refl
   not_known pl emitted b f o e (again_of w y l g e') = pl.no_again b f w y l g f e e' refl
@@ -120,7 +120,7 @@ module _ (t : Table) where
   both_false true y n h = absurd (n refl)
   both_false false y n h = h
 
-  pub fallthrough_free : {width : Width} (pl : PlainEnough width t) {F : List Frame} {c c₁ : Context} (b f : ℕ)
+  pub fallthrough_free : {width : Width} (pl : WideLoops width t) {F : List Frame} {c c₁ : Context} (b f : ℕ)
       → Entered b F c c₁ → fallthrough_of (terminal_at t b) ≡ some f → is_scheduled c₁ f ≡ false
   unfolding is_scheduled
   fallthrough_free pl {F} {c} {c₁} b f p e =

@@ -1,5 +1,5 @@
 -- The value walk over any table, by one induction: its visits never fall and never pass 8,192, each pays for 8,200 rows, and every refusal is
--- the paper's. For proofs/Never, machine/proofs/Simulation and machine/proofs/Invariant.
+-- the paper's. For proofs/Never and proofs/Enough.
 use mathlib.Core.Path.{◌≡◌, refl, ap}
 use Prim.Native.Nat.{ℕ, zero, suc, ◌+◌, ◌*◌, ◌≤◌, ◌<◌}
 use native.Mathlib.Nat.{le_refl, le_trans}
@@ -22,8 +22,7 @@ use Rattle.definition.specs.Tree.{value_rows, instructions_rows, count_instructi
 use Rattle.definition.specs.Value.{visit_value_block, Ways, begin_visit, ValueBlockResult, ValueTerminalResult, TestBlockResult, VisitValueBlock}
 use Rattle.definition.specs.Value.{instructions_of, wrap_with_sequence, final_value, stored_to_named, all_but_last, last, extract_value_block_result}
 use Rattle.definition.specs.Value.{extract_or_refuse, test_block_ended, visit_test_block, single_instruction, visit_value_block_terminal, then_fallthrough}
-use Rattle.definition.specs.Value.{branch_value, maybe_throw_value, visit_value_block_at, appended, sequenced_instructions, innermost_value, loaded_place}
-use Rattle.definition.specs.Value.{same_identifier, unless_same, value_block_result_to_sequence}
+use Rattle.definition.specs.Value.{branch_value, maybe_throw_value, visit_value_block_at}
 use Rattle.definition.proofs.Steps.{of_paper, Fine, fine_bind, fine_unless, fine_map}
 
 -- ---- how many rows a value has
@@ -93,35 +92,6 @@ extract_size t block r rows visits =
     let operation : Operation = (instruction_at t final).operation in
     let named : ℕ = stored_to_named t operation in
     omega (arith, wrapped_size t (all_but_last r rows) (instruction_at t final).id (final_value final operation named), final_value_size final operation named, all_but_last_length r rows)
-
--- ---- flattening
-
-appended_size : (is more : Instructions) → size_of_all (appended is more) ≡ size_of_all is + size_of_all more
-unfolding appended
-appended_size no_instructions more = omega arith
-appended_size (instruction i l s v rest) more = omega (arith, appended_size rest more)
-
-sequenced_size : (v : Value) (more : Instructions) → size_of_all (sequenced_instructions v more) + size_of (innermost_value v) ≤ size_of v + size_of_all more
-sequenced_size (PLAIN r) more = omega arith
-sequenced_size (LOAD p) more = omega arith
-sequenced_size (UNDEF s) more = omega arith
-sequenced_size (SEQ is i v) more = omega (arith, appended_size is (sequenced_instructions v more), sequenced_size v more)
-sequenced_size (LOGICAL o l r) more = omega arith
-sequenced_size (COND x y z) more = omega arith
-sequenced_size (OPTIONAL f v) more = omega arith
-
-unless_same_size : (same : Bool) (is : Instructions) → size_of_all (unless_same same is) ≤ size_of_all is
-unfolding unless_same
-unless_same_size true is = omega arith
-unless_same_size false is = le_refl _
-
-pub sequence_size : (t : Table) (result : ValueBlockResult) (span : Span) → size_of (value_block_result_to_sequence t result span) ≤ 3 + size_of result.value
-unfolding value_block_result_to_sequence
-sequence_size t result span =
-    let innermost : Value = innermost_value result.value in
-    let same : Bool = same_identifier t result.place (loaded_place t innermost) in
-    let final : Instructions = single_instruction result.id result.place span innermost in
-    omega (arith, sequenced_size result.value (unless_same same final), unless_same_size same final)
 
 -- ---- what a step of the walk takes, from so many visits on
 

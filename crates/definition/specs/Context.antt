@@ -87,48 +87,16 @@ is_scheduled cx block = has cx.scheduled block || has cx.catch_handlers block
 -- ---- steps that change one field
 
 unfoldable pub emit : ℕ → Context → Context
-emit block cx = record {
-  next_id = cx.next_id;
-  emitted = add cx.emitted block;
-  scope_fallthroughs = cx.scope_fallthroughs;
-  scheduled = cx.scheduled;
-  catch_handlers = cx.catch_handlers;
-  stack = cx.stack;
-  visits = cx.visits;
-}
+emit block cx = record cx { emitted = add cx.emitted block }
 
 unfoldable pub with_visits : ℕ → Context → Context
-with_visits visits cx = record {
-  next_id = cx.next_id;
-  emitted = cx.emitted;
-  scope_fallthroughs = cx.scope_fallthroughs;
-  scheduled = cx.scheduled;
-  catch_handlers = cx.catch_handlers;
-  stack = cx.stack;
-  visits = visits;
-}
+with_visits visits cx = record cx { visits = visits }
 
 unfoldable pub mark_scope_fallthrough : ℕ → Context → Context
-mark_scope_fallthrough block cx = record {
-  next_id = cx.next_id;
-  emitted = cx.emitted;
-  scope_fallthroughs = add cx.scope_fallthroughs block;
-  scheduled = cx.scheduled;
-  catch_handlers = cx.catch_handlers;
-  stack = cx.stack;
-  visits = cx.visits;
-}
+mark_scope_fallthrough block cx = record cx { scope_fallthroughs = add cx.scope_fallthroughs block }
 
 unfoldable pub schedule_catch_handler : ℕ → Context → Context
-schedule_catch_handler block cx = record {
-  next_id = cx.next_id;
-  emitted = cx.emitted;
-  scope_fallthroughs = cx.scope_fallthroughs;
-  scheduled = cx.scheduled;
-  catch_handlers = add cx.catch_handlers block;
-  stack = cx.stack;
-  visits = cx.visits;
-}
+schedule_catch_handler block cx = record cx { catch_handlers = add cx.catch_handlers block }
 
 -- ---- schedule, unschedule
 
@@ -167,14 +135,10 @@ owns (target_loop block continue_block loop_block) scheduled = not (has (add (ad
 
 -- a target on the stack under the next id, and its blocks in the scheduled set
 unfoldable pub pushed : ControlFlowTarget → Context → Context
-pushed target cx = record {
+pushed target cx = record cx {
   next_id = suc cx.next_id;
-  emitted = cx.emitted;
-  scope_fallthroughs = cx.scope_fallthroughs;
   scheduled = scheduled_by target cx.scheduled;
-  catch_handlers = cx.catch_handlers;
   stack = record { id = cx.next_id; target = target; owns_loop = owns target cx.scheduled } ∷ cx.stack;
-  visits = cx.visits;
 }
 
 -- the one way to schedule: any target, a loop with its three blocks
@@ -193,15 +157,7 @@ unscheduled_by (target_loop block continue_block loop_block) false scheduled = r
 unscheduled_by (target_loop block continue_block loop_block) true scheduled = remove (remove (remove scheduled block) continue_block) loop_block
 
 unfoldable pub popped : List Entry → Flags → Context → Context
-popped stack scheduled cx = record {
-  next_id = cx.next_id;
-  emitted = cx.emitted;
-  scope_fallthroughs = cx.scope_fallthroughs;
-  scheduled = scheduled;
-  catch_handlers = cx.catch_handlers;
-  stack = stack;
-  visits = cx.visits;
-}
+popped stack scheduled cx = record cx { scheduled = scheduled; stack = stack }
 
 unfoldable pub unschedule_top : List Entry → ℕ → Context → Result Context
 unschedule_top [] id cx = refused unschedule_out_of_order 0 cx.visits

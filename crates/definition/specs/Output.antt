@@ -1,4 +1,4 @@
--- What is put out, by the machine and by the laws of rows and lines: a part's rows, behind what is out already.
+-- What is put out, by the walk's code and by the laws of rows and lines: a part's rows, behind what is out already.
 use Rattle.std.specs.Prelude.{ℕ, suc, List, [], ◌∷◌, ◌++◌, Bool, true, false}
 use Rattle.std.proofs.Math.Option.{Option, none, some}
 use Rattle.table.specs.Table.{Table, instruction_at}

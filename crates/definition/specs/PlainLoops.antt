@@ -174,7 +174,7 @@ pub record PlainLoops (width : Width) (t : Table) : Type 0 where
   pub names : (block : ℕ) → All (NotBranch t) (other_names (terminal_at t block))
   pub bodies : (block test body fallthrough again : ℕ) → loop_of (terminal_at t block) ≡ some (new_loop test body fallthrough again) → NotBranch t body × NotBranch t fallthrough
   pub case_not_branch : (case : ℕ) → IsProper t case → NotBranch t case
-  -- "The last instruction of a test"
+  -- "The last instruction of a Branch block"
   pub test_store : (block place consequent alternate : ℕ) → terminal_at t block ≡ branch place consequent alternate
       → ends_in_unnamed t (instruction_rows_at t block) ≡ false
   -- ", an init"

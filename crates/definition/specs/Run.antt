@@ -30,6 +30,12 @@ is_good (no_target id) = false
 is_good end_of_tree = false
 is_good no_such_case = false
 
+-- the three reasons by name: proofs/Reasons has that a reason is good exactly where it is one of them
+pub data IsGood : Reason → Type 0 where
+  a_return : (value id : ℕ) → IsGood (returned value id)
+  a_throw : (value id : ℕ) → IsGood (threw value id)
+  the_answers_are_used_up : IsGood no_answer_left
+
 -- A run: the instruction rows performed, in order, the answers left, and the reason for stopping;
 -- `unfinished` where the block run is given fewer steps than it needs
 pub data Run : Type 0 where

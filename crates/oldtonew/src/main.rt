@@ -2,11 +2,12 @@
 #![tactic(auto)]
 
 use convert::file::print_new;
-use program::{PRINTED_BYTES, TABLE_BYTES, run};
+use program::{CONVERTED_BYTES, TABLE_BYTES, run};
+use std::process::ExitCode;
 use text::lent::zeros;
 
-fn main(rt: HostRuntime) {
+fn main(rt: HostRuntime) -> ExitCode {
     let mut file = zeros::<u8, TABLE_BYTES>();
-    let mut out = zeros::<u8, PRINTED_BYTES>();
-    run(&rt, b"oldtonew", &mut file, &mut out, print_new);
+    let mut out = zeros::<u8, CONVERTED_BYTES>();
+    run(&rt, b"oldtonew", &mut file, &mut out, print_new)
 }

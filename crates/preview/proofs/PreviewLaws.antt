@@ -13,7 +13,7 @@ use Rattle.definition.specs.Preview.{preview_of, preview_after, previewed}
 use Rattle.values.proofs.StackLaws.{length_pushed}
 use Rattle.walk.specs.declared.answer.Walked.{Walked}
 use Rattle.walk.specs.declared.answer.WalkError.{WalkError}
-use Rattle.walk.specs.Driver.{report_after, words_report, Reported}
+use Rattle.walk.specs.Report.{report_after, words_report, Reported}
 use Rattle.preview.specs.Entry.{numbers}
 
 -- a preview goes by the report of its words

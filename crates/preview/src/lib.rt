@@ -7,12 +7,12 @@ pub mod file;
 ghost use Rattle.std.specs.Prelude.{◌≡◌};
 ghost use Rattle.definition.specs.Around.{rust, language};
 ghost use Rattle.definition.specs.Preview.{previewed};
-ghost use Rattle.control.specs.AroundAbstraction.{rule_of};
+ghost use Rattle.control.specs.Rule.{rule_of};
 ghost use Rattle.preview.specs.Entry.{numbers};
 
 use control::rule::Rule;
 use walk::answer::{WalkError, Walked, tell};
-use walk::walk;
+use walk::entry::walk;
 
 fn preview_by(rule: Rule, words: &[u32]) -> Result<Walked, WalkError>
     ensures { numbers result ≡ previewed (rule_of rule) words.now }

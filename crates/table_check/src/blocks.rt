@@ -27,8 +27,8 @@ fn columns(words: Words<'_>, row: u32, limits: [u32; 5]) -> Option<u32>
     first_not_below(|column| words.block_word(row, column), 3, &limits)
 }
 
-// The same, with the limits of the block's code: paper 01, "Codes and columns".
-// Over numbers: nothing has checked the code yet, and an enum would take one more match with an arm for each code.
+// The same, with the limits of the block's code. `block_row` asks for the codes 1 to 21 alone: it has answered before where the code is 0 or 22
+// and more. The arms `0` and `_` have the definition's limits for those.
 fn terminal_columns(words: Words<'_>, row: u32, code: u32) -> Option<u32>
     requires { row < block_count words.words.now }
     ensures { result ≡ first_bad (block_word words.entry.words.now row) 3 (five (terminal_rules words.entry.words.now code (block_word words.entry.words.now row 4))) }

@@ -1,50 +1,51 @@
--- What a call of either entry learns, by the rule: it asks nothing, it gives the definition's outcome, that outcome has the paper's form, and the run law with loops and
--- switches holds of it. For Demands.
-use Rattle.std.specs.Prelude.{Result}
-use mathlib.Core.Path.{◌≡◌, sym, subst}
+-- What the equation of the two entries comes to for a caller: the form of every answer, and what is seen of it.
+use Rattle.std.specs.Prelude.{Result, Ok, Err}
+use Prim.Native.Nat.{ℕ}
+use mathlib.Core.Path.{◌≡◌, refl, sym, subst}
+use mathlib.Core.List.{List}
 use lib.ListN.{length}
-use contract.Lifetimes.{Lfts}
-use Rattle.table.specs.Table.{table_of}
-use Rattle.definition.specs.Around.{Rule, rust, language}
-use Rattle.definition.specs.Plain.{with_switch}
-use Rattle.definition.specs.PlainLoops.{PlainLoops, without_switch}
-use Rattle.definition.specs.RunLaw.{RunLaw, SwitchLaw}
+use Rattle.definition.specs.Around.{Rule}
+use Rattle.definition.specs.Build.{built}
 use Rattle.definition.specs.Build as definition
 use Rattle.walk.specs.declared.answer.Walked.{Walked}
 use Rattle.build.specs.declared.answer.BuildError.{BuildError}
-use Rattle.build.specs.Entry.{numbers}
+use Rattle.build.specs.Entry.{outcome}
+use Rattle.build.proofs.EntryLaws.{code_some}
 use Rattle.definition.proofs.Outcomes.{outcome_code, refused_form, refused_rows, accepted_form}
+use Rattle.definition.proofs.Steps.{true_false}
 use Rattle.definition.proofs.Visits.{visits_most}
-use Rattle.definition.proofs.Law.{loops_law, loops_and_switches_law}
-use Rattle.theorems.specs.Call.{Lent, Asked, Learnt, given, due}
 use Rattle.theorems.specs.Answered.{Answered}
+use Rattle.theorems.specs.Shown.{Shows}
 
-pub asks : (rule : Rule) (κs : Lfts 3) (before : Lent) → Asked rule κs before
-asks rust κs before = tt
-asks language κs before = tt
+module _ (rule : Rule) (words tree index tree' index' : List ℕ) (answer : Result Walked BuildError)
+    (ensured : outcome answer tree' index' ≡ built rule words (length tree) (length index)) where
+  pub answered : Answered (length tree) (length index) (outcome answer tree' index')
+  answered =
+      subst (Answered _ _) (sym ensured) (record {
+        number = outcome_code rule _ _ _;
+        accepted = accepted_form rule _ _ _;
+        refused = refused_form rule _ _ _;
+        no_rows = refused_rows rule _ _ _;
+        visits = visits_most rule _ _ _;
+      })
 
-pub gives : (rule : Rule) (κs : Lfts 3) (before after : Lent) (answer : Result Walked BuildError) → Learnt rule κs before answer after → given answer after ≡ due rule before
-gives rust κs before after answer learnt = learnt
-gives language κs before after answer learnt = learnt
+-- of the outcome that an answer and its buffers make
+seen : (answer : Result Walked BuildError) (tree index : List ℕ) → Shows (outcome answer tree index) answer tree index
+seen (Ok walked) tree index = record {
+  accepted = (λ h. refl, λ h. refl);
+  walked = (refl, refl, refl);
+  error = tt;
+  tree = refl;
+  index = refl;
+}
+seen (Err error) tree index = record {
+  accepted = (λ h. absurd (true_false (sym h)), λ h. absurd (code_some error h));
+  walked = tt;
+  error = (refl, refl, refl, refl);
+  tree = refl;
+  index = refl;
+}
 
-pub answers : (rule : Rule) (κs : Lfts 3) (before after : Lent) (answer : Result Walked BuildError) → Learnt rule κs before answer after
-    → Answered (length before.1.0.now) (length before.1.1.0.now) (given answer after)
-answers rule κs before after answer learnt =
-    subst (Answered _ _) (sym (gives rule κs before after answer learnt)) (record {
-      number = outcome_code rule _ _ _;
-      accepted = accepted_form rule _ _ _;
-      refused = refused_form rule _ _ _;
-      no_rows = refused_rows rule _ _ _;
-      visits = visits_most rule _ _ _;
-    })
-
--- beyond the papers
-pub loops_agree : (rule : Rule) (κs : Lfts 3) (before after : Lent) (answer : Result Walked BuildError) → Learnt rule κs before answer after → (numbers answer).code ≡ 0
-    → PlainLoops without_switch (table_of before.0.now) → RunLaw before.0.now (given answer after)
-loops_agree rule κs before after answer learnt h plain =
-    subst (λ (o : definition.Outcome). o.code ≡ 0 → RunLaw before.0.now o) (sym (gives rule κs before after answer learnt)) (λ accepts. loops_law rule _ _ _ accepts plain) h
-
-pub switches_agree : (κs : Lfts 3) (before after : Lent) (answer : Result Walked BuildError) → Learnt language κs before answer after → (numbers answer).code ≡ 0
-    → PlainLoops with_switch (table_of before.0.now) → SwitchLaw before.0.now (given answer after)
-switches_agree κs before after answer learnt h plain =
-    subst (λ (o : definition.Outcome). o.code ≡ 0 → SwitchLaw before.0.now o) (sym (gives language κs before after answer learnt)) (λ accepts. loops_and_switches_law _ _ _ accepts plain) h
+pub shown : (due : definition.Outcome) (answer : Result Walked BuildError) (tree index : List ℕ) → outcome answer tree index ≡ due
+    → Shows due answer tree index
+shown due answer tree index ensured = subst (λ (o : definition.Outcome). Shows o answer tree index) ensured (seen answer tree index)

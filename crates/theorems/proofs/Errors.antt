@@ -13,8 +13,7 @@ use Rattle.convert.specs.WriteAnswer as writing
 use Rattle.convert.specs.ConvertAnswer as converting
 use Rattle.order.specs.Entry as ordering
 use Rattle.values.specs.Refusal as value_walk
-use Rattle.statements.specs.Refusal as statement_walk
-use Rattle.control.specs.Abstraction as control
+use Rattle.walk.specs.Refusal as statement_walk
 use Rattle.walk.specs.Answer as walking
 use Rattle.build.specs.Entry as building
 use Rattle.walk.specs.declared.answer.WalkError.{WalkError}
@@ -27,8 +26,7 @@ use Rattle.convert.specs.declared.writing.WriteError.{WriteError}
 use Rattle.convert.specs.declared.ConvertError.{ConvertError}
 use Rattle.order.specs.declared.OrderError.{OrderError}
 use Rattle.values.specs.declared.refusal.Refusal.{Refusal as ValueRefusal}
-use Rattle.statements.specs.declared.refusal.Refusal.{Refusal as StatementRefusal}
-use Rattle.control.specs.declared.Blocked.{Blocked}
+use Rattle.walk.specs.declared.refusal.Refusal.{Refusal as StatementRefusal}
 use Rattle.tree_check.proofs.TreeErrorCoded.code.Statement as tree_error_code_stated
 use Rattle.tree_check.proofs.TreeErrorCoded.code.Met as tree_error_code_proved
 use Rattle.tree_check.proofs.TreeErrorCoded.code.Reads as tree_error_code
@@ -74,15 +72,12 @@ use Rattle.values.proofs.refusal.Refusal.code.Reads as value_refusal_code
 use Rattle.values.proofs.refusal.Refusal.place.Statement as value_refusal_place_stated
 use Rattle.values.proofs.refusal.Refusal.place.Met as value_refusal_place_proved
 use Rattle.values.proofs.refusal.Refusal.place.Reads as value_refusal_place
-use Rattle.statements.proofs.refusal.Refusal.code.Statement as statement_refusal_code_stated
-use Rattle.statements.proofs.refusal.Refusal.code.Met as statement_refusal_code_proved
-use Rattle.statements.proofs.refusal.Refusal.code.Reads as statement_refusal_code
-use Rattle.statements.proofs.refusal.Refusal.place.Statement as statement_refusal_place_stated
-use Rattle.statements.proofs.refusal.Refusal.place.Met as statement_refusal_place_proved
-use Rattle.statements.proofs.refusal.Refusal.place.Reads as statement_refusal_place
-use Rattle.control.proofs.Blocked.code.Statement as blocked_code_stated
-use Rattle.control.proofs.Blocked.code.Met as blocked_code_proved
-use Rattle.control.proofs.Blocked.code.Reads as blocked_code
+use Rattle.walk.proofs.refusal.Refusal.code.Statement as statement_refusal_code_stated
+use Rattle.walk.proofs.refusal.Refusal.code.Met as statement_refusal_code_proved
+use Rattle.walk.proofs.refusal.Refusal.code.Reads as statement_refusal_code
+use Rattle.walk.proofs.refusal.Refusal.place.Statement as statement_refusal_place_stated
+use Rattle.walk.proofs.refusal.Refusal.place.Met as statement_refusal_place_proved
+use Rattle.walk.proofs.refusal.Refusal.place.Reads as statement_refusal_place
 use Rattle.walk.proofs.answer.WalkErrorNumbered.code.Statement as walk_error_code_stated
 use Rattle.walk.proofs.answer.WalkErrorNumbered.code.Met as walk_error_code_proved
 use Rattle.walk.proofs.answer.WalkErrorNumbered.code.Reads as walk_error_code
@@ -247,18 +242,6 @@ statement_refusal_code_gives_the_definition κs before after code learnt = learn
 pub statement_refusal_place_gives_the_definition : (κs : Lfts 0) (before after : StatementRefusal × Unit {0}) (place : ℕ) → statement_refusal_place.Learnt κs before place after
     → place ≡ statement_walk.refusal_place before.0
 statement_refusal_place_gives_the_definition κs before after place learnt = learnt
-
--- ---- a target that is not scheduled, whose place is the block asked
-
-pub blocked_code_meets_its_contract : {M : Type 1} → blocked_code_stated.statement M
-blocked_code_meets_its_contract = blocked_code_proved.met
-
-pub blocked_code_asks_nothing : (κs : Lfts 0) (before : Blocked × Unit {0}) → blocked_code.Asked κs before
-blocked_code_asks_nothing κs before = tt
-
-pub blocked_code_gives_the_definition : (κs : Lfts 0) (before after : Blocked × Unit {0}) (code : ℕ) → blocked_code.Learnt κs before code after
-    → code ≡ control.blocked_number before.0
-blocked_code_gives_the_definition κs before after code learnt = learnt
 
 -- ---- words or a table that the walk refuses: rows and visits too
 

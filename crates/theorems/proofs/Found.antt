@@ -20,7 +20,7 @@ use Rattle.definition.proofs.Accepted.{Accepted, accepted_of, words_length}
 use Rattle.definition.proofs.Outcomes.{index_length, buffer_length}
 use Rattle.definition.proofs.Checked.{ranged}
 use Rattle.definition.proofs.Emitted.{Without, Different, tree_different, tree_few}
-use Rattle.definition.proofs.Law.{read_tree}
+use Rattle.definition.proofs.TreeInBuffer.{read_tree}
 use Rattle.lookup.specs.Lookup.{lines_read, line_word, part_of, found, part_found}
 use Rattle.lookup.proofs.Searches.{First, as_told, as_held}
 use Rattle.lookup.proofs.Answers.{by_first, part_in}

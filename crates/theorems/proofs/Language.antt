@@ -95,7 +95,8 @@ module _ (words : List ℕ) (lent lent_index : ℕ) where
 
 -- ---- M-107, and "A jump that comes out Labeled must name the label of a statement around it, and a continue the label of the very loop it resolved to."
 
-pub labels_there : (rule : Rule) (words : List ℕ) (lent lent_index : ℕ) → (built rule words lent lent_index).code ≡ 0 → LabelsThere rule words lent lent_index
+pub labels_there : (rule : Rule) (words : List ℕ) (lent lent_index : ℕ) → (built rule words lent lent_index).code ≡ 0
+    → LabelsThere rule (built rule words lent lent_index)
 labels_there rule words lent lent_index h =
     let a : Accepted rule words lent lent_index = accepted_of rule words lent lent_index h in
     record { root = a.root.statements; held = rows_of_buffer rule words lent lent_index a; named = tree_named rule (table_of words) a.root a.builds }

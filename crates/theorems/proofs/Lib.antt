@@ -1,13 +1,14 @@
 pub mod Calls
-pub mod Demands
 pub mod Errors
 pub mod Language
+pub mod Messages
 pub mod Loops
 pub mod Parting
 pub mod Previews
 pub mod Programs
 pub mod Reader
 pub mod Requests
+pub mod Runner
 pub mod RunReasons
 pub mod TablePlain
 pub mod Theorems

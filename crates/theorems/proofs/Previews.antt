@@ -123,7 +123,3 @@ module _ (rule : Rule) (words tree index tree' index' : List ℕ) (preview : Res
       ensured
       ∙ preview_41 rule words (length tree) (length index) (fewer_rows (λ n. n ≤ length tree / 6) h) (fewer_lines (λ n. length index / 3 < n) k)
       ∙ ap (λ (p : Preview). refusal 41 0 0 p.visits (length tree) (length index)) (sym told)
-
--- "that 40 and 41 don't occur here is proved": no code of a preview is above 31
-pub a_preview_is_never_40_or_41 : (rule : Rule) (words : List ℕ) → (previewed rule words).code ≤ 31
-a_preview_is_never_40_or_41 = preview_code

@@ -30,7 +30,7 @@ use Rattle.text.proofs.write.write.Met as write_proved
 use Rattle.text.proofs.write.write.Reads as write_entry
 use Rattle.definition.specs.Around.{Rule}
 use Rattle.control.specs.declared.rule.Rule as code
-use Rattle.control.specs.AroundAbstraction.{rule_of}
+use Rattle.control.specs.Rule.{rule_of}
 use Rattle.tree_runs.specs.Ran.{Outcome}
 use Rattle.convert.specs.Convert.{old_to_new, new_to_old}
 use Rattle.convert.proofs.CodeLaws.{new_fits, old_fits}

@@ -258,15 +258,6 @@ new_to_old_is_of_the_file file lent = converted_so (layout New) old_of_new file 
 pub a_conversion_has_one_answer : (f : Layout) (of : List ℕ → ℕ → Placing) (file : List ℕ) (lent : ℕ) (a b : Placing) → Converted f of file lent a → Converted f of file lent b → a ≡ b
 a_conversion_has_one_answer = converted_one
 
--- "Given room, old to new to old gives again any old text that is not refused where the new one is at most 32,768 bytes": code 0 says that it is not refused and has room
-pub old_to_new_to_old : (file : List ℕ) (lent lent' : ℕ) → (old_to_new file lent).code ≡ 0 → (old_to_new file lent).length ≤ 32768 → length file ≤ lent'
-    → new_to_old (text_of_answer (old_to_new file lent)) lent' ≡ wholly lent' file
-old_to_new_to_old = old_again
-
--- "and new to old to new gives the new text where it was possible"
-pub new_to_old_to_new : (file : List ℕ) (lent lent' : ℕ) → (new_to_old file lent).code ≡ 0 → length file ≤ lent' → old_to_new (text_of_answer (new_to_old file lent)) lent' ≡ wholly lent' file
-new_to_old_to_new = new_again
-
 -- a file that is not refused has code 0 wherever its text has room
 pub old_to_new_has_room : (file words : List ℕ) (lent : ℕ) → Accepted (layout Old) file words → old_checked words ≡ accepted → length (table_text (widened words)) ≤ lent
     → old_to_new file lent ≡ wholly lent (table_text (widened words))
@@ -395,52 +386,3 @@ a_tree_stops_for_a_reason_of_the_paper = tree_stops
 pub only_such_a_row_gives_64 : (root : Statements) (answers : Answers) (lent : ℕ) → (ran root answers lent).code ≡ 64
     → (i : ℕ) × (first_not_run (rows root) 0 ≡ some i) × (ran root answers lent ≡ refusal 64 i lent)
 only_such_a_row_gives_64 = only_before_running
-
--- ---- M-113: the runner on the trees of plain tables with switches. The law itself stands in Theorems
-
-module _ (words : List ℕ) (lent lent_index : ℕ) (h : (built language words lent lent_index).code ≡ 0) (plain : Plain with_switch (table_of words)) where
-  -- the rows of the tree, in the lent buffer
-  abbrev tree : List ℕ
-  tree = take ((built language words lent lent_index).rows * 6) (built language words lent lent_index).buffer
-
-  -- the law: the block run and the tree's run agree over every list spoken of
-  abbrev law : SwitchLaw words (built language words lent lent_index)
-  law = the_law words lent lent_index h plain
-
-  -- "The runner of M-103 is proved to do what this law's tree run does, on trees of such tables that M-100's check accepts, for the lists spoken of, where none of
-  -- 63, 64 and 65 is given": it gives the rows that both runs perform, then zeros, and their reason
-  pub the_runner_does_what_the_runs_do : (answers : Answers) (spoken : Spoken (table_of words) answers) (room at : ℕ) → Answer tree 0 at → ((run_of tree answers room).code ≡ 65 → ⊥)
-      → run_of tree answers room ≡ ended (law.agree answers spoken).performed room (law.agree answers spoken).reason
-  the_runner_does_what_the_runs_do answers spoken room at check f =
-      let e = runner_gives words lent lent_index h plain answers room at (run_of tree answers room) check (is_given tree answers room refl) in
-      e ∙ runner_does words lent lent_index h plain answers spoken room (λ q. f (ap (λ (z : Outcome). z.code) e ∙ q))
-
-  -- 63 and 64 never come there
-  pub the_runner_refuses_only_a_short_buffer : (answers : Answers) → Spoken (table_of words) answers → (room at : ℕ) → Answer tree 0 at
-      → ((run_of tree answers room).code ≡ 0) ⊎ ((run_of tree answers room).code ≡ 65)
-  the_runner_refuses_only_a_short_buffer answers spoken room at check =
-      subst (λ (z : Outcome). (z.code ≡ 0) ⊎ (z.code ≡ 65)) (sym (runner_gives words lent lent_index h plain answers room at (run_of tree answers room) check (is_given tree answers room refl)))
-      (never_63_64 words lent lent_index h plain answers spoken room)
-
--- ---- beyond the papers: the same of plain tables with DoWhile, For and Switch (definition/specs/PlainLoops)
-
-module _ (words : List ℕ) (lent lent_index : ℕ) (h : (built language words lent lent_index).code ≡ 0) (plain : PlainLoops with_switch (table_of words)) where
-  abbrev tree_with_loops : List ℕ
-  tree_with_loops = take ((built language words lent lent_index).rows * 6) (built language words lent lent_index).buffer
-
-  abbrev law_with_loops : SwitchLaw words (built language words lent lent_index)
-  law_with_loops = loops.the_law words lent lent_index h plain
-
-  pub the_runner_does_what_the_runs_with_loops_do : (answers : Answers) (spoken : Spoken (table_of words) answers) (room at : ℕ) → Answer tree_with_loops 0 at
-      → ((run_of tree_with_loops answers room).code ≡ 65 → ⊥)
-      → run_of tree_with_loops answers room ≡ ended (law_with_loops.agree answers spoken).performed room (law_with_loops.agree answers spoken).reason
-  the_runner_does_what_the_runs_with_loops_do answers spoken room at check f =
-      let e = loops.runner_gives words lent lent_index h plain answers room at (run_of tree_with_loops answers room) check (is_given tree_with_loops answers room refl) in
-      e ∙ loops.runner_does words lent lent_index h plain answers spoken room (λ q. f (ap (λ (z : Outcome). z.code) e ∙ q))
-
-  pub with_loops_the_runner_refuses_only_a_short_buffer : (answers : Answers) → Spoken (table_of words) answers → (room at : ℕ) → Answer tree_with_loops 0 at
-      → ((run_of tree_with_loops answers room).code ≡ 0) ⊎ ((run_of tree_with_loops answers room).code ≡ 65)
-  with_loops_the_runner_refuses_only_a_short_buffer answers spoken room at check =
-      subst (λ (z : Outcome). (z.code ≡ 0) ⊎ (z.code ≡ 65))
-      (sym (loops.runner_gives words lent lent_index h plain answers room at (run_of tree_with_loops answers room) check (is_given tree_with_loops answers room refl)))
-      (loops.never_63_64 words lent lent_index h plain answers spoken room)

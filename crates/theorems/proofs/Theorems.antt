@@ -1,6 +1,6 @@
--- The final theorems: statements only, each by the lemma that proves it. What must be believed to read them are the definitions that they name
--- (docs/DEFINITION.md gives an order to read them in), and the kit. One section for each demand; a request adds its own.
-use Prim.Native.Nat.{ℕ, suc, ◌+◌, ◌*◌, ◌≤◌}
+-- Theorems beside the claims (specs/Claims): statements only, each by the lemma that proves it. First that each entry meets its contract,
+-- asks nothing and tells its caller what the definition gives; then what the laws rest on.
+use Prim.Native.Nat.{ℕ, suc, ◌+◌, ◌*◌, ◌≤◌, ◌<◌}
 use mathlib.Core.Path.{◌≡◌, refl, sym, subst}
 use mathlib.Core.List.{List, [], map}
 use mathlib.Core.Logic.{◌⊎◌}
@@ -9,13 +9,12 @@ use lib.ListN.{length, take}
 use lib.Dec.{T, eqb}
 use contract.Lifetimes.{Lfts}
 use denote.Ref.{Bor, MutBor}
-use Rattle.std.specs.Prelude.{Result, Ok, Err, IfOk, is_ok}
-use Rattle.table.specs.Check.{accepted, checked}
-use Rattle.table.specs.Table.{Table, table_of}
+use Rattle.std.specs.Prelude.{Result, Ok, Err, IfOk, OnOk, is_ok}
+use Rattle.table.specs.Check.{checked, accepted}
+use Rattle.table.specs.Table.{Table, Block, Terminal, table_of}
 use Rattle.table.specs.Answer as table
 use Rattle.table.specs.declared.Refusal.{Refusal}
 use Rattle.table.specs.declared.checked.Table.{Table as CheckedTable}
-use Rattle.table.proofs.PromiseLaws.{promised}
 use Rattle.table.proofs.Refusal.code.Statement as code_stated
 use Rattle.table.proofs.Refusal.code.Met as code_proved
 use Rattle.table.proofs.Refusal.code.Reads as code_method
@@ -30,14 +29,14 @@ use Rattle.table_check.proofs.table_check.Met as check_export_proved
 use Rattle.table_check.proofs.table_check.Reads as check_export
 use Rattle.definition.specs.Around.{Rule, rust, language, Around, is_switch_inside, kind_by}
 use Rattle.definition.specs.Relabeled.{relabeled}
-use Rattle.definition.specs.Result.{already_scheduled, unschedule_out_of_order, maybe_throw_in_value_terminal}
+use Rattle.definition.specs.Result.{ok, already_scheduled, unschedule_out_of_order, maybe_throw_in_value_terminal}
 use Rattle.definition.specs.Tree.{Value, unlabeled, WHILE, BREAK, Statements, done, ◌▸◌, rows}
 use Rattle.definition.specs.Context.{ControlFlowTarget, target_if, target_switch, target_case, target_loop, target_block, continues_at, Context, Resolution, get_break_target, get_continue_target}
-use Rattle.definition.specs.Value.{most_visits, visit_value_block}
-use Rattle.definition.specs.Statement.{visit_block, traverse_block}
+use Rattle.definition.specs.Value.{most_visits, VisitValueBlock, visit_value_block}
+use Rattle.definition.specs.Statement.{BlockResult, TerminalResult, TraverseInside, visit_terminal, visit_block, traverse_block, build_tree}
+use Rattle.definition.specs.Watched.{at_most_entries, at_most_deep, watch, watched}
 use Rattle.definition.specs.Build.{rejected, report, refusal, built}
 use Rattle.definition.specs.Build as definition
-use Rattle.machine.specs.Machine.{State, begin, Gives, run}
 use Rattle.definition.specs.Run.{Answers, Reason, stopped}
 use Rattle.definition.specs.BlockRun.{block_run}
 use Rattle.definition.specs.Plain.{Width, paper_01, with_switch, Plain}
@@ -50,14 +49,14 @@ use Rattle.definition.specs.RunLaw.{RunLaw, SwitchLaw, LawOfSwitches}
 use Rattle.definition.proofs.Outcomes.{outcome_code, refused_form, refused_rows, accepted_form}
 use Rattle.definition.proofs.Visits.{visits_most}
 use Rattle.definition.proofs.Never.{target_known, never_already_scheduled, never_unschedule_out_of_order, never_maybe_throw_in_value_terminal}
-use Rattle.machine.proofs.Simulation.{machine_builds}
-use Rattle.machine.specs.Reached.{Reached, context_of, frames_of}
-use Rattle.machine.proofs.Invariant.{Small, sound_small, reached_going, stack_bound, machine_turns}
 use Rattle.definition.proofs.Enough.{blocks_enough}
+use Rattle.definition.proofs.Bounds.{stack_most, depth_most, one_entry_an_arm}
+use Rattle.definition.proofs.Checked.{ranged}
 use Rattle.definition.specs.PlainLoops.{PlainLoops}
 use Rattle.definition.specs.LoopLaw.{LawOfLoops, LawOfLoopsAndSwitches}
 use Rattle.definition.proofs.PlainEnough.{plain_enough}
-use Rattle.definition.proofs.Law.{switch_law, loops_law as law_of_loops, loops_and_switches_law, more_steps, one_tree}
+use Rattle.definition.proofs.TreeInBuffer.{one_tree}
+use Rattle.definition.proofs.Law.{switch_law, loops_law as law_of_loops, loops_and_switches_law, more_steps}
 use Rattle.definition.specs.Crossed.{Found}
 use Rattle.definition.proofs.Crossed.{break_found, continue_found}
 use Rattle.definition.proofs.JumpRows.{built_within}
@@ -85,12 +84,16 @@ use Rattle.tree_check.proofs.tree_check.Reads as tree_export
 use Rattle.text.specs.Ascii.{ascii}
 use Rattle.text.specs.Decimal.{digits_of}
 use Rattle.text.proofs.DecimalLaws.{steps}
+use Rattle.control.specs.Abstraction.{context_of}
+use Rattle.control.specs.declared.Context.{Context as CodeContext}
+use Rattle.control.specs.declared.ControlFlowTarget.{ControlFlowTarget as CodeTarget}
+use Rattle.control.proofs.ContextLaws.{stack_length}
+use Rattle.control.proofs.Context.schedule.Reads as schedule
 use Rattle.walk.specs.declared.answer.Walked.{Walked}
 use Rattle.build.specs.declared.answer.BuildError.{BuildError}
 use Rattle.build.specs.Entry.{numbers, outcome}
 use Rattle.build.proofs.EntryLaws.{code_some as build_refuses}
 use Rattle.std.proofs.lemmas.Bool.{ne_eqb}
-use Rattle.walk.proofs.CheckedLaws.{checked_table}
 use Rattle.build.proofs.Demand3.{entry_tree, entry_law, language_law}
 use Rattle.build.proofs.build_reactive_function.Statement as entry_stated
 use Rattle.build.proofs.build_reactive_function.Met as entry_proved
@@ -138,14 +141,25 @@ build_asks_nothing κs before = tt
 -- what a caller learns from that contract: code, at, rows, visits, lines and every lent word of both buffers, refused or not
 pub build_gives_the_definition : (κs : Lfts 3) (before after : Lent) (answer : Result Walked BuildError) → entry.Learnt κs before answer after
     → outcome answer after.1.0.now after.1.1.0.now ≡ built rust before.0.now (length before.1.0.now) (length before.1.1.0.now)
-build_gives_the_definition κs before after answer learnt = learnt
+build_gives_the_definition κs before after answer learnt = learnt.0
+
+pub build_gives_the_run_law : (κs : Lfts 3) (before after : Lent) (answer : Result Walked BuildError) → entry.Learnt κs before answer after
+    → OnOk answer (Plain paper_01 (table_of before.0.now) → RunLaw before.0.now (outcome answer after.1.0.now after.1.1.0.now))
+build_gives_the_run_law κs before after answer learnt = learnt.1
 
 pub the_language_entry_asks_nothing : (κs : Lfts 3) (before : Lent) → language_entry.Asked κs before
 the_language_entry_asks_nothing κs before = tt
 
 pub the_language_entry_gives_the_definition : (κs : Lfts 3) (before after : Lent) (answer : Result Walked BuildError) → language_entry.Learnt κs before answer after
     → outcome answer after.1.0.now after.1.1.0.now ≡ built language before.0.now (length before.1.0.now) (length before.1.1.0.now)
-the_language_entry_gives_the_definition κs before after answer learnt = learnt
+the_language_entry_gives_the_definition κs before after answer learnt = learnt.0
+
+-- without Switch, and with it
+pub the_language_entry_gives_the_run_laws : (κs : Lfts 3) (before after : Lent) (answer : Result Walked BuildError)
+    → language_entry.Learnt κs before answer after
+    → OnOk answer (Plain paper_01 (table_of before.0.now) → RunLaw before.0.now (outcome answer after.1.0.now after.1.1.0.now))
+    × OnOk answer (Plain with_switch (table_of before.0.now) → SwitchLaw before.0.now (outcome answer after.1.0.now after.1.1.0.now))
+the_language_entry_gives_the_run_laws κs before after answer learnt = (learnt.1.0, learnt.1.1)
 
 -- a build's answer is Ok where it is accepted
 pub ok_is_built : (answer : Result Walked BuildError) → is_ok answer ≡ eqb (numbers answer).code 0
@@ -235,57 +249,7 @@ pub table_check_gives_the_definition : (κs : Lfts 2) (before after : WordsAndPl
     → (code ≡ table.code_of (checked before.0.now)) × (after.1.0.now ≡ table.place_of (checked before.0.now))
 table_check_gives_the_definition κs before after code learnt = learnt
 
--- ---- what every answer shows (demand 1)
-
--- a call of either entry: `ensured` is what it learns, as `build_gives_the_definition` and `the_language_entry_gives_the_definition` have it
-module _ (rule : Rule) (words buffer index buffer' index' : List ℕ) (answer : Result Walked BuildError)
-    (ensured : outcome answer buffer' index' ≡ built rule words (length buffer) (length index)) where
-  -- what holds of the definition's outcome holds of the call's
-  carried : (P : definition.Outcome → Type 0) → P (built rule words (length buffer) (length index)) → P (outcome answer buffer' index')
-  carried P h = subst P (sym ensured) h
-
-  -- "Refused: all zeros." M-101: "A refused build leaves zeros in both buffers", and no lines are told
-  pub a_refused_call_leaves_zeros : ((numbers answer).code ≡ 0 → ⊥)
-      → outcome answer buffer' index' ≡ refusal (numbers answer).code (numbers answer).at (numbers answer).rows (numbers answer).visits (length buffer) (length index)
-  a_refused_call_leaves_zeros =
-      carried (λ o. (o.code ≡ 0 → ⊥) → o ≡ refusal o.code o.at o.rows o.visits (length buffer) (length index)) (refused_form rule words (length buffer) (length index))
-
-  -- "Rows is 0 except at 40"
-  pub a_refused_call_has_no_rows : ((numbers answer).code ≡ 0 → ⊥) → ((numbers answer).code ≡ 40 → ⊥) → (numbers answer).rows ≡ 0
-  a_refused_call_has_no_rows = carried (λ o. (o.code ≡ 0 → ⊥) → (o.code ≡ 40 → ⊥) → o.rows ≡ 0) (refused_rows rule words (length buffer) (length index))
-
-  -- "Accepted: at 0, the buffer holds the rows, then zeros.": the rows of a tree, and the index its lines, then zeros
-  pub an_accepted_call_leaves_rows_then_zeros : (numbers answer).code ≡ 0
-      → (root : Statements) × (length (rows root) * 6 ≤ length buffer) × (outcome answer buffer' index' ≡ acceptance (length buffer) (length index) (rows root) (lines root) (numbers answer).visits)
-  an_accepted_call_leaves_rows_then_zeros =
-      carried (λ o. o.code ≡ 0 → (root : Statements) × (length (rows root) * 6 ≤ length buffer) × (o ≡ acceptance (length buffer) (length index) (rows root) (lines root) o.visits))
-      (accepted_form rule words (length buffer) (length index))
-
-  -- 0; 1 to 4 or 10 to 31, which are the paper's for words and graphs; 40; or 41
-  pub a_call_has_a_code_of_the_paper : T (is_number (numbers answer).code)
-  a_call_has_a_code_of_the_paper = carried (λ o. T (is_number o.code)) (outcome_code rule words (length buffer) (length index))
-
-  -- "Depth at most 128, visits at most 8,192."
-  pub a_call_makes_at_most_8192_visits : (numbers answer).visits ≤ 8192
-  a_call_makes_at_most_8192_visits = carried (λ o. o.visits ≤ 8192) (visits_most rule words (length buffer) (length index))
-
-  -- ---- the runs agree (demand 3)
-
-  -- the rows of any accepted table are read as one tree
-  pub accepted_rows_are_one_tree : (numbers answer).code ≡ 0 → OneTree (outcome answer buffer' index')
-  accepted_rows_are_one_tree h = entry_tree rule words buffer index buffer' index' answer ensured h
-
-  -- on a plain table that is accepted the block run and that tree's run agree, over every finite list of answers
-  pub the_runs_of_a_plain_table_agree : (numbers answer).code ≡ 0 → Plain paper_01 (table_of words) → RunLaw words (outcome answer buffer' index')
-  the_runs_of_a_plain_table_agree h plain = entry_law rule words buffer index buffer' index' answer ensured h plain
-
-  -- beyond the papers: the same with DoWhile and For, and with ends that are not reached (definition/specs/PlainLoops)
-  pub the_runs_of_a_plain_table_with_loops_agree : (numbers answer).code ≡ 0 → PlainLoops paper_01 (table_of words) → RunLaw words (outcome answer buffer' index')
-  the_runs_of_a_plain_table_with_loops_agree = carried (λ o. o.code ≡ 0 → PlainLoops paper_01 (table_of words) → RunLaw words o) (law_of_loops rule words (length buffer) (length index))
-
--- beyond the papers: the same from less than the paper's plainness, which allows DoWhile and For
-pub the_runs_with_loops_agree : LawOfLoops
-the_runs_with_loops_agree = law_of_loops
+-- ---- the run laws: the claims `the_tree_runs_as_the_blocks`, `with_switches` and `with_loops_and_switches`
 
 -- paper 01's plain tables, and M-113's, are among those
 pub a_plain_table_is_plain_with_loops : (width : Width) (t : Table) → Plain width t → PlainLoops width t
@@ -302,27 +266,6 @@ the_runs_of_two_loops_agree = loops_law
 pub the_runs_of_a_for_agree : (rule : Rule) → RunLaw counts (built rule counts 600 300)
 the_runs_of_a_for_agree = counts_law
 
--- M-113: the same of plain tables with switches, in the language entry, over every list whose answers name existing cases. The runner on them: Requests
-pub the_runs_with_switches_agree : LawOfSwitches
-the_runs_with_switches_agree = switch_law
-
--- the same of what build_language gave and left in the lent buffer
-pub the_runs_with_switches_agree_for_a_caller : (words buffer index buffer' index' : List ℕ) (answer : Result Walked BuildError)
-    → outcome answer buffer' index' ≡ built language words (length buffer) (length index)
-    → (numbers answer).code ≡ 0 → Plain with_switch (table_of words) → SwitchLaw words (outcome answer buffer' index')
-the_runs_with_switches_agree_for_a_caller = language_law
-
--- beyond the papers: the same of plain tables with DoWhile, For and Switch, whose last cases may be its own fallthrough, and one case may go on into the next
-pub the_runs_with_loops_and_switches_agree : LawOfLoopsAndSwitches
-the_runs_with_loops_and_switches_agree = loops_and_switches_law
-
-pub the_runs_with_loops_and_switches_agree_for_a_caller : (words buffer index buffer' index' : List ℕ) (answer : Result Walked BuildError)
-    → outcome answer buffer' index' ≡ built language words (length buffer) (length index)
-    → (numbers answer).code ≡ 0 → PlainLoops with_switch (table_of words) → SwitchLaw words (outcome answer buffer' index')
-the_runs_with_loops_and_switches_agree_for_a_caller words buffer index buffer' index' answer ensured =
-    carried language words buffer index buffer' index' answer ensured (λ o. o.code ≡ 0 → PlainLoops with_switch (table_of words) → SwitchLaw words o)
-    (loops_and_switches_law words (length buffer) (length index))
-
 -- it is not empty: a loop with a switch of three cases, one of which leaves the loop; and it is not so for the first entry
 pub the_runs_of_a_switch_agree : SwitchLaw picks (built language picks 900 300)
 the_runs_of_a_switch_agree = picks_law
@@ -330,33 +273,13 @@ the_runs_of_a_switch_agree = picks_law
 pub the_first_entry_has_no_such_law : SwitchLaw picks (built rust picks 900 300) → ⊥
 the_first_entry_has_no_such_law = not_for_rust
 
--- ---- "Four Rust messages never occur and are proved so": over any table, by either rule
+-- ---- the bound of the control stack, in the code (specs/Claims has those of the definition)
 
-pub no_break_block_is_already_scheduled : (rule : Rule) (t : Table) (at visits : ℕ) → report rule t ≡ rejected already_scheduled at visits → ⊥
-no_break_block_is_already_scheduled = never_already_scheduled
-
-pub no_unschedule_is_out_of_order : (rule : Rule) (t : Table) (at visits : ℕ) → report rule t ≡ rejected unschedule_out_of_order at visits → ⊥
-no_unschedule_is_out_of_order = never_unschedule_out_of_order
-
-pub no_value_terminal_is_a_maybe_throw : (rule : Rule) (t : Table) (at visits : ℕ) → report rule t ≡ rejected maybe_throw_in_value_terminal at visits → ⊥
-no_value_terminal_is_a_maybe_throw = never_maybe_throw_in_value_terminal
-
-pub no_target_type_is_unknown : (target : ControlFlowTarget)
-    → ((block : ℕ) × (target ≡ target_if block)) ⊎ (((block : ℕ) × (target ≡ target_switch block)) ⊎ (((block : ℕ) × (target ≡ target_case block))
-    ⊎ ((block continue_block loop_block : ℕ) × (target ≡ target_loop block continue_block loop_block))))
-no_target_type_is_unknown = target_known
-
--- ---- bounds, in every state that the build of checked words comes to
-
--- "The stack holds at most 1,152 entries, also proved."
-pub the_stack_holds_at_most_1152_entries : (rule : Rule) (words : List ℕ) → checked words ≡ accepted → (s : State) → Reached rule (table_of words) s
-    → length (context_of s).stack ≤ 1152
-the_stack_holds_at_most_1152_entries rule words passed s reached = stack_bound rule (table_of words) (checked_table words (promised words passed)) s reached
-
-pub the_depth_is_at_most_128 : (rule : Rule) (words : List ℕ) → checked words ≡ accepted → (s : State) → Reached rule (table_of words) s → length (frames_of s) ≤ 128
-the_depth_is_at_most_128 rule words passed s reached =
-    let checks = checked_table words (promised words passed) in
-    let small : Small s = sound_small (table_of words) s (reached_going rule (table_of words) checks s reached).sound in small.frames
+-- the code's `schedule` alone puts an entry onto the code's stack, and asks of its caller, who had to prove it, that one more fits
+pub the_code_schedules_where_an_entry_fits : (κs : Lfts 0) (before : CodeContext × (CodeTarget × Unit {0})) → schedule.Asked κs before
+    → length (context_of 0 before.0).stack < 1152
+unfolding context_of
+the_code_schedules_where_an_entry_fits κs before asked = rw (stack_length before.0.stack before.0.len) asked.1.len
 
 -- ---- M-107: how many loops a jump leaves
 
@@ -369,11 +292,6 @@ a_break_gives_the_loops_above_its_entry = break_found
 pub a_continue_gives_the_loops_above_its_loop : (cx : Context) (block : ℕ) (found : Resolution) → get_continue_target cx block ≡ some found
     → Found (λ target. continues_at target block) cx.stack found
 a_continue_gives_the_loops_above_its_loop = continue_found
-
--- the same of the tree whose rows the buffer holds: d counts the loops between a jump and the statement that it was resolved on, with none between that bears its
--- label; and in the first entry a jump whose target is a loop is Labeled exactly when d is above 0 (definition/specs/Named, `Lands`, `LandedKind`, `VeryLoop`)
-pub the_jumps_of_a_tree_count_their_loops : (rule : Rule) (words : List ℕ) (lent lent_index : ℕ) → (built rule words lent lent_index).code ≡ 0 → LabelsThere rule words lent lent_index
-the_jumps_of_a_tree_count_their_loops = labels_there
 
 pub no_row_has_more_than_128_loops : (rule : Rule) (words : List ℕ) (lent lent_index : ℕ) → (built rule words lent lent_index).code ≡ 0
     → (root : Statements) → TreeOf (built rule words lent lent_index) root → JumpsWithin (rows root)
@@ -423,20 +341,7 @@ any_words_have_an_answer = words_answered
 pub they_have_no_other : (words : List ℕ) {code at : ℕ} → Answer words code at → (code ≡ code_of (tree_verdict words)) × (at ≡ at_of (tree_verdict words))
 they_have_no_other = words_answer_is
 
-pub a_list_has_one_reading : (list : List Row) (root root' : Statements) → ReadAs list root → ReadAs list root' → root ≡ root'
-a_list_has_one_reading = one_reading
-
--- "every list that the build makes within that size is accepted", for both entries
-pub what_the_build_makes_is_accepted : (rule : Rule) (words : List ℕ) (lent lent_index : ℕ) → (built rule words lent lent_index).code ≡ 0 → (built rule words lent lent_index).rows ≤ 2048
-    → Answer (take ((built rule words lent lent_index).rows * 6) (built rule words lent lent_index).buffer) 0 0
-what_the_build_makes_is_accepted = built_answered
-
 -- ---- M-102: the language entry
-
--- "index included, which differs only as follows": for the same words and lent buffers it refuses alike, gives 29, or accepts after the same visits the first entry's tree
--- relabeled: a BREAK is Labeled in place of Unlabeled exactly where "a switch is being built between" (definition/specs/Relabeled); with the same lines
-pub the_entries_differ_only_so : (words : List ℕ) (lent lent_index : ℕ) → Parted lent lent_index (built rust words lent lent_index) (built language words lent lent_index)
-the_entries_differ_only_so = entries_part
 
 -- where the first entry refuses (40 and 41 included), the language entry refuses alike, or gives 29 with no more visits
 pub where_the_first_entry_refuses : (words : List ℕ) (lent lent_index : ℕ) → ((built rust words lent lent_index).code ≡ 0 → ⊥)
@@ -456,29 +361,7 @@ pub a_bare_break_in_a_loop_stays : (id target jump : ℕ) (test : Value)
 unfolding relabeled is_switch_inside kind_by
 a_bare_break_in_a_loop_stays id target jump test = refl
 
--- "29 in the new entry"
-pub the_first_entry_never_gives_29 : (words : List ℕ) (lent lent_index : ℕ) → (built rust words lent lent_index).code ≡ 29 → ⊥
-the_first_entry_never_gives_29 = first_never_29
-
--- in an accepted tree of the language entry each Labeled jump stands in a statement with its label, a continue in its own loop with it, and the nearest loop
--- or SWITCH around an Unlabeled break is a loop (definition/specs/Named)
-pub the_labels_are_there : (words : List ℕ) (lent lent_index : ℕ) → (built language words lent lent_index).code ≡ 0 → LabelsThere language words lent lent_index
-the_labels_are_there = labels_there language
-
 -- ---- M-101: find a statement by its label
-
--- "No two lines of one accepted tree bear the same label, and this is proved."
-pub no_two_lines_have_the_same_label : (rule : Rule) (words : List ℕ) (lent lent_index : ℕ) → (built rule words lent lent_index).code ≡ 0 → OneLineEach (built rule words lent lent_index)
-no_two_lines_have_the_same_label = one_line_each
-
--- "in the order of closing rows"
-pub the_lines_stand_in_the_order_of_closing_rows : (rule : Rule) (words : List ℕ) (lent lent_index : ℕ) → (built rule words lent lent_index).code ≡ 0 → InOrder (built rule words lent lent_index)
-the_lines_stand_in_the_order_of_closing_rows = lines_in_order
-
--- "A lookup gives back the statement's own rows": each labelled statement of the tree that the buffer holds is found by its label, with just its rows
-pub the_lookup_finds_each_labelled_statement : (rule : Rule) (words : List ℕ) (lent lent_index : ℕ) → (built rule words lent lent_index).code ≡ 0
-    → (root : Statements) → TreeOf (built rule words lent lent_index) root → FindsLabelled (built rule words lent lent_index) root
-the_lookup_finds_each_labelled_statement = finds_labelled
 
 -- 3,069 words of index are enough for any table; and so are as many lines as rows, which treebuild lends: there 41 is not printed
 pub a_table_has_at_most_1023_lines : (rule : Rule) (words : List ℕ) (lent lent_index : ℕ) → 3069 ≤ lent_index → (built rule words lent lent_index).code ≡ 41 → ⊥
@@ -489,10 +372,6 @@ treebuild_never_gives_41 = file_never_41
 
 -- ---- samples
 
--- the ★ samples, as one table, by either rule
-pub the_star_samples : (rule : Rule) → map (built_for rule) samples ≡ map (λ (sample : Sample). sample.outcome) samples
-the_star_samples = the_samples
-
 -- the sample file prints the sample's output
 pub the_sample_file_prints_its_output :
     Prints rust
@@ -501,22 +380,12 @@ pub the_sample_file_prints_its_output :
     (ascii "code at rows visits\n0 0 2 1\nop a b c d e\n22 0 7 0 0 0\n9 1 0 0 0 0\n")
 the_sample_file_prints_its_output = sample_prints
 
--- ---- the machine, which the code follows turn by turn, gives what the definition gives
-
-pub the_machine_gives_the_definition : (rule : Rule) (t : Table) → Gives rule t (begin t) (report rule t)
-the_machine_gives_the_definition = machine_builds
-
 -- ---- no count that a definition recurses on is ever too small. (The depth, 128, is the paper's own bound, and gives 30.)
 
 -- 8,193 blocks at one depth: more change nothing
 pub more_blocks_change_nothing : (t : Table) (around : Around) (depth_left more block : ℕ) (cx : Context)
     → visit_block t (visit_value_block t depth_left) (traverse_block t depth_left) around (more + suc most_visits) block cx ≡ traverse_block t (suc depth_left) around block cx
 more_blocks_change_nothing = blocks_enough
-
--- 16,818,177 turns of the machine, for words that are checked
-pub more_turns_change_nothing : (rule : Rule) (words : List ℕ) → checked words ≡ accepted → (turns : ℕ) → 16818177 ≤ turns
-    → run rule (table_of words) turns (begin (table_of words)) ≡ report rule (table_of words)
-more_turns_change_nothing rule words passed = machine_turns rule (table_of words) (checked_table words (promised words passed))
 
 -- a block run that has stopped
 pub more_steps_change_nothing : (t : Table) (more steps block : ℕ) (answers : Answers) (performed : List ℕ) (left : Answers) (reason : Reason)

@@ -1,4 +1,5 @@
--- M-111: the final theorems, statements only, each by the lemma that proves it.
+-- The walking order: theorems beside the claims `any_renumbering_builds_the_same` and `the_walking_order_can_be_undone`, statements only,
+-- each by the lemma that proves it.
 use Prim.Native.Nat.{ℕ}
 use mathlib.Core.Path.{◌≡◌}
 use mathlib.Core.List.{List}
@@ -88,35 +89,3 @@ blocks_restore_asks_nothing κs before = tt
 pub blocks_restore_gives_the_definition : (κs : Lfts 4) (before after : RestoredWithAnswer) (code : ℕ) → export_restore.Learnt κs before code after
     → record { code = code; at = after.1.1.1.0.now; table = after.1.1.0.now } ≡ restoration before.0.now before.1.0.now (length before.1.1.0.now)
 blocks_restore_gives_the_definition κs before after code learnt = learnt
-
--- ---- the rearrangement
-
-module _ (words : List ℕ) (ok : checked words ≡ accepted) where
-  pub the_list_is_a_permutation : is_permutation (block_count words) (walking_order (table_of words)) ≡ true
-  the_list_is_a_permutation = walking_order_lem words (promised words ok)
-
-  pub the_rearranged_table_is_accepted : checked (rearranged words) ≡ accepted
-  the_rearranged_table_is_accepted = rearranged_checked words ok
-
-  pub the_entry_becomes_0 : entry_word (rearranged words) ≡ 0
-  the_entry_becomes_0 = rearranged_entry words ok
-
-  -- "The inverse takes both .. and so restores the first table exactly."
-  pub the_inverse_restores_the_first_table : restoration (rearrangement words (length words) (block_count words)).table (rearrangement words (length words) (block_count words)).list (length words)
-      ≡ record { code = 0; at = 0; table = words }
-  the_inverse_restores_the_first_table = round_trip words ok
-
-  -- "in either entry, with buffers of the same lengths, building the rearranged table gives the same rows, code and visits
-  -- with every block number renamed, and `at` renamed where it is a block"; and the same lines
-  pub the_rearranged_table_builds_the_same : (rule : Rule) (lent lent_index : ℕ)
-      → built rule (rearranged words) lent lent_index ≡ renamed_outcome (new_number (walking_order (table_of words))) (built rule words lent lent_index)
-  the_rearranged_table_builds_the_same = rearranged_built words ok
-
-  -- and so does any renumbering of the blocks
-  pub any_renumbering_builds_the_same : (new old : ℕ → ℕ) (rule : Rule) (lent lent_index : ℕ) → Renaming (block_count words) new old
-      → built rule (renamed new old words) lent lent_index ≡ renamed_outcome new (built rule words lent lent_index)
-  any_renumbering_builds_the_same new old rule lent lent_index g = built_renamed new old rule words lent lent_index g ok
-
-  -- where the walk names every block, all renumberings of a table have one rearrangement
-  pub all_renumberings_have_one_rearrangement : (new old : ℕ → ℕ) → Renaming (block_count words) new old → AllNamed (table_of words) → rearranged (renamed new old words) ≡ rearranged words
-  all_renumberings_have_one_rearrangement new old g all = one_rearrangement new old words ok g all

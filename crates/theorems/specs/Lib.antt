@@ -1,6 +1,12 @@
 pub mod Answered
-pub mod Call
-pub mod LabelsThere
-pub mod Parted
-pub mod Stops
+pub mod Bounds
+pub mod Claims
 pub mod Indexed
+pub mod LabelsThere
+pub mod Messages
+pub mod Parted
+pub mod Rearranged
+pub mod Runner
+pub mod Shown
+pub mod Stops
+pub mod Values

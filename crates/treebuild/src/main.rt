@@ -3,17 +3,18 @@
 
 use build::file::build_file;
 use control::rule::Rule;
-use program::{PRINTED_BYTES, TABLE_BYTES, run};
+use program::{TABLE_BYTES, TREE_BYTES, run};
+use std::process::ExitCode;
 use text::lent::zeros;
 
-fn main(rt: HostRuntime) {
+fn main(rt: HostRuntime) -> ExitCode {
     let mut file = zeros::<u8, TABLE_BYTES>();
-    let mut out = zeros::<u8, PRINTED_BYTES>();
+    let mut out = zeros::<u8, TREE_BYTES>();
     run(
         &rt,
         b"treebuild",
         &mut file,
         &mut out,
         |file, out| build_file(Rule::Rust, file, out),
-    );
+    )
 }

@@ -2,11 +2,12 @@
 #![tactic(auto)]
 
 use order::file::order_file;
-use program::{PRINTED_BYTES, TABLE_BYTES, run};
+use program::{ORDERED_BYTES, TABLE_BYTES, run};
+use std::process::ExitCode;
 use text::lent::zeros;
 
-fn main(rt: HostRuntime) {
+fn main(rt: HostRuntime) -> ExitCode {
     let mut file = zeros::<u8, TABLE_BYTES>();
-    let mut out = zeros::<u8, PRINTED_BYTES>();
-    run(&rt, b"treeorder", &mut file, &mut out, order_file);
+    let mut out = zeros::<u8, ORDERED_BYTES>();
+    run(&rt, b"treeorder", &mut file, &mut out, order_file)
 }

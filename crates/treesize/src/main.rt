@@ -2,11 +2,12 @@
 #![tactic(auto)]
 
 use preview::file::size_file;
-use program::{PRINTED_BYTES, TABLE_BYTES, run};
+use program::{SIZE_BYTES, TABLE_BYTES, run};
+use std::process::ExitCode;
 use text::lent::zeros;
 
-fn main(rt: HostRuntime) {
+fn main(rt: HostRuntime) -> ExitCode {
     let mut file = zeros::<u8, TABLE_BYTES>();
-    let mut out = zeros::<u8, PRINTED_BYTES>();
-    run(&rt, b"treesize", &mut file, &mut out, size_file);
+    let mut out = zeros::<u8, SIZE_BYTES>();
+    run(&rt, b"treesize", &mut file, &mut out, size_file)
 }

@@ -1,5 +1,10 @@
+pub mod StateLaws
+pub mod OutLaws
+pub mod JumpLaws
+pub mod AroundLaws
+pub mod MetLaws
+pub mod CasesLaws
+pub mod EntryLaws
 pub mod AnswerLaws
-pub mod LinedLaws
-pub mod ApplyLaws
-pub mod CheckedLaws
-pub mod DriverLaws
+pub mod ListLaws
+pub mod EntriesLaws

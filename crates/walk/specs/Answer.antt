@@ -1,35 +1,31 @@
--- What the walk's own answer means, by paper 01's numbers.
+-- The numbers of the walk's own answer.
 use Rattle.std.specs.Prelude.{ℕ, Result, Ok, Err}
 use Rattle.table.specs.Answer.{refusal_code, refusal_place}
-use Rattle.control.specs.Abstraction.{blocked_number}
-use Rattle.statements.specs.Refusal as turn
+use Rattle.walk.specs.Refusal as walk
 use Rattle.definition.specs.Preview.{Preview}
 use Rattle.walk.specs.declared.answer.Walked.{Walked}
 use Rattle.walk.specs.declared.answer.WalkError.{WalkError}
-use Rattle.walk.specs.declared.answer.WalkError.TheVariants.{Table, Turn, Schedule}
+use Rattle.walk.specs.declared.answer.WalkError.TheVariants.{Table, Walk}
 
 abbrev pub code_of : WalkError → ℕ
 code_of (Table refusal) = refusal_code refusal
-code_of (Turn refused) = turn.refusal_code refused.refusal
-code_of (Schedule reason _ _) = blocked_number reason
+code_of (Walk refused) = walk.refusal_code refused.refusal
 
 abbrev pub place_of : WalkError → ℕ
 place_of (Table refusal) = refusal_place refusal
-place_of (Turn refused) = turn.refusal_place refused.refusal
-place_of (Schedule _ block _) = block
+place_of (Walk refused) = walk.refusal_place refused.refusal
 
--- "Rows is 0 except at 40"
+-- the walk counts rows beyond the buffer: its callers refuse them
 abbrev pub rows_of : WalkError → ℕ
 rows_of _ = 0
 
 -- of words that are no table 0: no visit is begun
 abbrev pub visits_of : WalkError → ℕ
 visits_of (Table _) = 0
-visits_of (Turn refused) = refused.visits
-visits_of (Schedule _ _ visits) = visits
+visits_of (Walk refused) = refused.visits
 
 module _ {E : Type 0} (code_of place_of rows_of visits_of : E → ℕ) where
-  -- an answer's five numbers, by those of its errors: "code (0 accepted), at, rows, visits", and the number of lines
+  -- an answer's five numbers, by those of its errors: the code (0 accepted), the place, and the numbers of rows, visits and lines
   abbrev pub numbers : Result Walked E → Preview
   numbers (Ok walked) = record { code = 0; at = 0; rows = walked.rows; visits = walked.visits; lines = walked.lines }
   numbers (Err error) = record { code = code_of error; at = place_of error; rows = rows_of error; visits = visits_of error; lines = 0 }

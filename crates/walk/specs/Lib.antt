@@ -1,3 +1,8 @@
+pub mod Around
+pub mod Refusal
 pub mod Answer
-pub mod Driver
-pub mod Lined
+pub mod State
+pub mod Out
+pub mod Jump
+pub mod Met
+pub mod Report

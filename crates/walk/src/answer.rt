@@ -1,13 +1,12 @@
-// What the walk answers: the numbers that paper 01 gives for an accepted table and for a refused one, "Result and refusals".
+// What the walk answers, and the five numbers that its callers tell.
 ghost use Rattle.std.specs.Prelude.{◌≡◌, ℕ};
 ghost use Rattle.walk.specs.Answer.{code_of, place_of, rows_of, visits_of, numbers};
-ghost use Rattle.walk.specs.declared.answer.WalkError.TheVariants.{Table, Turn};
+ghost use Rattle.walk.specs.declared.answer.WalkError.TheVariants.{Table, Walk};
 
-use control::Blocked;
-use statements::refusal::Refused;
+use crate::refusal::Refused;
 use table::Refusal;
 
-// What the walk of an accepted table put out and began: the rows of its tree, the visits, and the lines of its index (M-101).
+/// What the walk of an accepted table put out and began: the rows of its tree, the visits, and the lines of its index.
 #[derive(Clone, Copy, Debug, PartialEq, Eq)]
 pub struct Walked {
     pub rows: u32,
@@ -15,19 +14,13 @@ pub struct Walked {
     pub lines: u32,
 }
 
-// Why the walk gives no tree. `code_of`, `place_of` and `visits_of` in specs/Answer.antt have paper 01's numbers.
+/// Why the walk gives no tree. docs/FORMAT.md has the numbers of all refusals.
 #[derive(Clone, Copy, PartialEq, Eq)]
 pub enum WalkError {
-    // The words are no table.
+    /// The words are no table.
     Table(Refusal),
-    // A turn refuses.
-    Turn(Refused),
-    // `schedule` refuses, at the block that it tested.
-    Schedule {
-        reason: Blocked,
-        block: u32,
-        visits: u32,
-    },
+    /// The statement walk refuses.
+    Walk(Refused),
 }
 
 impl From<Refusal> for WalkError {
@@ -39,14 +32,15 @@ impl From<Refusal> for WalkError {
 }
 
 impl From<Refused> for WalkError {
-    ghost from_gives = { λ refused error. error ≡ Turn refused };
+    ghost from_gives = { λ refused error. error ≡ Walk refused };
 
     fn from(refused: Refused) -> WalkError {
-        WalkError::Turn(refused)
+        WalkError::Walk(refused)
     }
 }
 
-// An error with paper 01's four numbers. "Rows is 0 except at 40, where it is the number needed. Visits counts those begun."
+/// An error with its four numbers. `rows` is 0 unless the rows are more than the buffer has room for: then it is the
+/// number needed. `visits` counts the visits begun.
 pub trait Numbered {
     ghost code_of: { Self → ℕ };
 
@@ -81,16 +75,14 @@ impl Numbered for WalkError {
     fn code(self) -> u32 {
         match self {
             WalkError::Table(refusal) => refusal.code(),
-            WalkError::Turn(refused) => refused.refusal.code(),
-            WalkError::Schedule { reason, .. } => reason.code(),
+            WalkError::Walk(refused) => refused.refusal.code(),
         }
     }
 
     fn place(self) -> u32 {
         match self {
             WalkError::Table(refusal) => refusal.place(),
-            WalkError::Turn(refused) => refused.refusal.place(),
-            WalkError::Schedule { block, .. } => block,
+            WalkError::Walk(refused) => refused.refusal.place(),
         }
     }
 
@@ -101,13 +93,13 @@ impl Numbered for WalkError {
     fn visits(self) -> u32 {
         match self {
             WalkError::Table(_) => 0,
-            WalkError::Turn(refused) => refused.visits,
-            WalkError::Schedule { visits, .. } => visits,
+            WalkError::Walk(refused) => refused.visits,
         }
     }
 }
 
-// Tells an answer to callers in C: the code (0 accepted), and the other four numbers by reference.
+/// Tells an answer to callers in C: gives the code (0 accepted), and writes the other four numbers. Rows and lines are
+/// 0 for a refusal but for the rows of a buffer that is too small.
 pub fn tell<E: Numbered + Copy>(
     answer: Result<Walked, E>,
     at: &mut u32,
@@ -115,7 +107,8 @@ pub fn tell<E: Numbered + Copy>(
     visits: &mut u32,
     lines: &mut u32,
 ) -> u32
-    ensures { record { code = result; at = at.new; rows = rows.new; visits = visits.new; lines = lines.new } ≡ numbers E.code_of E.place_of E.rows_of E.visits_of answer }
+    ensures { record { code = result; at = at.new; rows = rows.new; visits = visits.new; lines = lines.new }
+        ≡ numbers E.code_of E.place_of E.rows_of E.visits_of answer }
 {
     match answer {
         Ok(walked) => {

@@ -14,3 +14,4 @@ pub mod rng;
 pub mod runs;
 pub mod select;
 pub mod vector;
+pub mod wide;

@@ -2,10 +2,11 @@
 
 use reactive_build::table::Table;
 use reactive_build::{Refusal, code};
-use std::io::{self, Write};
+use std::path::Path;
 use std::process::ExitCode;
 use viewer::input::{self, Sort};
 use viewer::links::links;
+use viewer::program::{Words, complain, show};
 use viewer::proved;
 use viewer::source::Source;
 use viewer::{refusal, text};
@@ -16,31 +17,14 @@ const USAGE: &str = "usage: treeshow [--run] FILE [SOURCE] [TABLE]\n\
     --run: of rows with answers the run alone";
 
 fn main() -> ExitCode {
-    let mut arguments: Vec<String> = std::env::args().skip(1).collect();
-    let run_alone = arguments.first().is_some_and(|first| first == "--run");
-    if run_alone {
-        arguments.remove(0);
-    }
-    if !(1..=3).contains(&arguments.len()) || arguments[0].starts_with('-') {
+    let Some(words) = Words::of_caller("--run") else {
         eprintln!("{USAGE}");
         return ExitCode::from(2);
+    };
+    match shown(words.first(), words.file(1), words.file(2), words.option) {
+        Ok(Shown { text, status }) => show("treeshow", &text, status),
+        Err(why) => complain("treeshow", &why),
     }
-    let named = |place: usize| arguments.get(place).filter(|name| *name != "-");
-    let shown = show(&arguments[0], named(1), named(2), run_alone);
-    match shown {
-        Ok(Shown { text, status }) => match io::stdout().write_all(text.as_bytes()) {
-            Ok(()) => ExitCode::from(status),
-            // Nobody reads any more, as `head` does not: no more is said.
-            Err(error) if error.kind() == io::ErrorKind::BrokenPipe => ExitCode::from(2),
-            Err(error) => complain(&format!("standard output: {error}")),
-        },
-        Err(message) => complain(&message),
-    }
-}
-
-fn complain(message: &str) -> ExitCode {
-    eprintln!("treeshow: {message}");
-    ExitCode::from(2)
 }
 
 struct Shown {
@@ -49,21 +33,21 @@ struct Shown {
     status: u8,
 }
 
-fn show(path: &str, source: Option<&String>, table: Option<&String>, run_alone: bool) -> Result<Shown, String> {
+fn shown(path: &Path, source: Option<&Path>, table: Option<&Path>, run_alone: bool) -> Result<Shown, String> {
     let file = input::bytes(path)?;
-    let source = source.map(|path| input::source(path)).transpose()?;
-    let table = table.map(|path| read_table(path)).transpose()?;
+    let source = source.map(input::source).transpose()?;
+    let table = table.map(read_table).transpose()?;
     match input::sort(&file) {
-        Sort::Table if run_alone || table.is_some() => Err(format!("{path}: these are no rows")),
+        Sort::Table if run_alone || table.is_some() => Err(format!("{}: these are no rows", path.display())),
         Sort::Table => Ok(of_table(&file, source.as_ref())),
         Sort::Rows => Ok(of_rows(&file, source.as_ref(), table.as_ref(), run_alone)),
     }
 }
 
-fn read_table(path: &str) -> Result<Table, String> {
+fn read_table(path: &Path) -> Result<Table, String> {
     let file = input::bytes(path)?;
     let table = proved::words(&file).and_then(|words| Table::of_words(&words));
-    table.map_err(|refused| format!("{path}: {}", refusal::told(&refused, &file, None)))
+    table.map_err(|refused| format!("{}: {}", path.display(), refusal::told(&refused, &file, None)))
 }
 
 /// The blocks, then the tree, or why there is none, then which run law speaks of the table.

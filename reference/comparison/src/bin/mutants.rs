@@ -30,7 +30,7 @@ const OF_THE_MODEL: List = List {
 
 const OF_THE_DROP_IN: List = List {
     path: "dropin/mutants.txt",
-    folder: "dropin/src",
+    folder: "dropin/src/proved/library",
     runs: &[("the comparison", "compare_dropin", &["20000"])],
 };
 
@@ -78,6 +78,7 @@ fn copy_the_sources() {
         ("Cargo.toml", WORK),
         ("comparison", WORK),
         ("dropin", WORK),
+        ("dropin_comparison", WORK),
         ("oxc_react_compiler", WORK),
         ("stand-ins", WORK),
         ("../ffi", "target/mutants"),

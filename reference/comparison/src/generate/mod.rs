@@ -14,6 +14,7 @@ pub mod samples;
 pub mod shared;
 pub mod small;
 pub mod small_plain;
+pub mod small_wide;
 pub mod trees;
 pub mod words;
 

@@ -4,11 +4,13 @@ use oxc_allocator::{Allocator, Vec as ArenaVec};
 use oxc_ast::ast::LogicalOperator;
 use oxc_react_compiler::react_compiler_hir::environment::{Environment, Identifiers};
 use oxc_react_compiler::react_compiler_hir::{
-    BasicBlock, BlockId, Case, EvaluationOrder, GotoVariant, HIR, HirFunction, Identifier,
-    IdentifierId, IdentifierName, Instruction, InstructionId, InstructionValue, LValue, Place,
-    ScopeId, Terminal,
+    AliasingEffect, BasicBlock, BlockId, BlockKind, Case, DeclarationId, Effect, EvaluationOrder,
+    GotoVariant, HIR, HirFunction, Identifier, IdentifierId, IdentifierName, Instruction,
+    InstructionId, InstructionKind, InstructionValue, LValue, MutableRange, MutableRangeId, Phi,
+    Place, ReactFunctionType, ReturnVariant, ScopeId, Terminal, TypeId,
 };
 use oxc_react_compiler::react_compiler_utils::OrderedMap;
+use oxc_react_compiler::react_compiler_utils::ordered_map::ArenaOrderedSet;
 use oxc_span::Span;
 use oxc_str::Ident;
 
@@ -24,17 +26,17 @@ pub const INSTRUCTION_ROW: u32 = LARGEST + 2;
 pub trait Dress {
     /// The id of a block; of two numbers, the greater has the greater id.
     fn block(&self, number: u32) -> BlockId {
-        BlockId::new(number)
+        BlockId::from_usize(number as usize)
     }
 
     /// The identifier of a number; of two numbers, the greater has the greater one.
     fn identifier(&self, number: u32) -> IdentifierId {
-        IdentifierId::new(number)
+        IdentifierId::from_usize(number as usize)
     }
 
     /// Where an instruction stands in the function.
     fn instruction(&self, row: u32) -> InstructionId {
-        InstructionId::new(row)
+        InstructionId::from_usize(row as usize)
     }
 
     /// How many instructions the function has, of so many in the table.
@@ -43,15 +45,15 @@ pub trait Dress {
     }
 
     fn scope(&self, number: u32) -> ScopeId {
-        ScopeId::new(number)
+        ScopeId::from_usize(number as usize)
     }
 
     fn place(&self, row: u32, identifier: IdentifierId) -> Place {
-        Place { identifier, effect: 0, reactive: false, span: Some(Span { start: row, end: PLACE_ROW }) }
+        Place { identifier, effect: Effect::Unknown, reactive: false, span: Some(Span { start: row, end: PLACE_ROW }) }
     }
 
     fn lvalue(&self, place: Place) -> LValue {
-        LValue { place, kind: 0 }
+        LValue { place, kind: InstructionKind::Const }
     }
 
     /// 0 and 0 alone is none.
@@ -65,8 +67,35 @@ pub trait Dress {
     }
 
     /// A value that is neither a LoadLocal nor a StoreLocal.
-    fn other<'a>(&self, _: Place, span: Option<Span>) -> InstructionValue<'a> {
+    fn other<'a>(&self, _: Place, span: Option<Span>, _: &'a Allocator) -> InstructionValue<'a> {
         InstructionValue::Debugger { span }
+    }
+
+    fn name(&self) -> IdentifierName<'static> {
+        IdentifierName::Named(Ident("named"))
+    }
+
+    // What follows the walk never reads.
+
+    fn effects<'a>(&self, _: &'a Allocator) -> Option<ArenaVec<'a, AliasingEffect<'a>>> {
+        None
+    }
+
+    fn phis<'a>(&self, allocator: &'a Allocator) -> ArenaVec<'a, Phi<'a>> {
+        ArenaVec::new_in(&allocator)
+    }
+
+    fn return_variant(&self) -> ReturnVariant {
+        ReturnVariant::Explicit
+    }
+
+    fn block_kind(&self) -> BlockKind {
+        BlockKind::Block
+    }
+
+    /// A block's predecessors, a Branch's fallthrough, a MaybeThrow's handler: none, or anywhere.
+    fn unread_block(&self) -> Option<BlockId> {
+        None
     }
 }
 
@@ -86,32 +115,38 @@ impl<'a, D: Dress> Lowering<'_, 'a, D> {
     pub fn environment(&self) -> Environment<'a> {
         let mut identifiers = Vec::new();
         for number in 0..self.table.words[5] {
-            let name = self.table.is_named(number).then_some(IdentifierName::Named(Ident("named")));
-            identifiers.resize(self.dress.identifier(number).index(), Identifier { name: None });
-            identifiers.push(Identifier { name });
+            let name = self.table.is_named(number).then(|| self.dress.name());
+            identifiers.resize(self.dress.identifier(number).index(), identifier(None));
+            identifiers.push(identifier(name));
         }
         Environment { allocator: self.allocator, identifiers: Identifiers(identifiers) }
     }
 
     pub fn function(&self) -> HirFunction<'a> {
         let [entry, blocks, instructions, ..] = *self.table.words else { unreachable!() };
-        let mut values = Vec::new();
-        for number in 0..blocks {
-            values.resize_with(self.dress.block(number).index(), || None);
-            values.push(self.block(number));
+        let mut values = OrderedMap::default();
+        for block in (0..blocks).filter_map(|number| self.block(number)) {
+            values.insert(block.id, block);
         }
-        let blocks = OrderedMap::from_values(values);
         HirFunction {
             span: None,
             id: None,
             name_hint: None,
+            fn_type: ReactFunctionType::Other,
             params: self.list([]),
-            body: HIR { entry: self.dress.block(entry), blocks },
+            returns: unread_place(),
+            context: self.list([]),
+            body: HIR { entry: self.dress.block(entry), blocks: values },
             instructions: self.instructions(instructions),
             generator: false,
             is_async: false,
             directives: self.list([]),
+            aliasing_effects: self.effects(),
         }
+    }
+
+    fn effects(&self) -> Option<ArenaVec<'a, AliasingEffect<'a>>> {
+        self.dress.effects(self.allocator)
     }
 
     fn list<T>(&self, items: impl IntoIterator<Item = T>) -> ArenaVec<'a, T> {
@@ -122,7 +157,14 @@ impl<'a, D: Dress> Lowering<'_, 'a, D> {
         let [first, count, ..] = *self.table.block(number);
         let terminal = self.terminal(number)?;
         let instructions = self.list((first..first + count).map(|row| self.dress.instruction(row)));
-        Some(BasicBlock { id: self.dress.block(number), instructions, terminal })
+        Some(BasicBlock {
+            kind: self.dress.block_kind(),
+            id: self.dress.block(number),
+            instructions,
+            terminal,
+            preds: ArenaOrderedSet::from_iter_in(self.dress.unread_block(), &self.allocator),
+            phis: self.dress.phis(self.allocator),
+        })
     }
 
     /// Each at its place; between them, where there is room, strangers that no block has.
@@ -138,15 +180,15 @@ impl<'a, D: Dress> Lowering<'_, 'a, D> {
         let [id, lvalue, code, p, q, from, to] = *self.table.instruction(row);
         let span = self.dress.value_span(row);
         let value = match code {
-            0 => self.dress.other(self.place(lvalue), span),
+            0 => self.dress.other(self.place(lvalue), span, self.allocator),
             1 => InstructionValue::LoadLocal { place: self.place(p), span },
             _ => {
                 let lvalue = self.dress.lvalue(self.place(p));
                 InstructionValue::StoreLocal { lvalue, value: self.place(q), span }
             }
         };
-        let id = EvaluationOrder::new(id);
-        Instruction { id, lvalue: self.place(lvalue), value, span: self.dress.span(from, to) }
+        let id = EvaluationOrder::from_usize(id as usize);
+        Instruction { id, lvalue: self.place(lvalue), value, span: self.dress.span(from, to), effects: self.effects() }
     }
 
     fn place(&self, row: u32) -> Place {
@@ -167,14 +209,20 @@ impl<'a, D: Dress> Lowering<'_, 'a, D> {
     /// Branch fallthroughs and MaybeThrow handlers have no column and are never read.
     fn terminal(&self, number: u32) -> Option<Terminal<'a>> {
         let [_, _, code, a, b, c, d, e, id, from, to] = *self.table.block(number);
-        let id = EvaluationOrder::new(id);
+        let id = EvaluationOrder::from_usize(id as usize);
         let span = self.dress.span(from, to);
         let block = |number| self.dress.block(number);
         Some(match code {
             0 => return None,
             1 => Terminal::Unreachable { id, span },
             2 => Terminal::Throw { value: self.place(a), id, span },
-            3 => Terminal::Return { value: self.place(a), id, span },
+            3 => Terminal::Return {
+                value: self.place(a),
+                return_variant: self.dress.return_variant(),
+                id,
+                span,
+                effects: self.effects(),
+            },
             4 => Terminal::Goto { block: block(a), variant: goto_variant(b), id, span },
             5 => Terminal::If {
                 test: self.place(a),
@@ -188,7 +236,7 @@ impl<'a, D: Dress> Lowering<'_, 'a, D> {
                 test: self.place(a),
                 consequent: block(b),
                 alternate: block(c),
-                fallthrough: block(number),
+                fallthrough: self.dress.unread_block().unwrap_or(block(number)),
                 id,
                 span,
             },
@@ -254,7 +302,13 @@ impl<'a, D: Dress> Lowering<'_, 'a, D> {
             },
             16 => Terminal::Label { block: block(a), fallthrough: block(b), id, span },
             17 => Terminal::Sequence { block: block(a), fallthrough: block(b), id, span },
-            18 => Terminal::MaybeThrow { continuation: block(a), handler: None, id, span },
+            18 => Terminal::MaybeThrow {
+                continuation: block(a),
+                handler: self.dress.unread_block(),
+                id,
+                span,
+                effects: self.effects(),
+            },
             19 => Terminal::Try {
                 block: block(a),
                 handler_binding: self.place_or_none(d),
@@ -281,9 +335,31 @@ impl<'a, D: Dress> Lowering<'_, 'a, D> {
     }
 }
 
+fn identifier(name: Option<IdentifierName>) -> Identifier {
+    let none = EvaluationOrder::UNSET;
+    Identifier {
+        id: IdentifierId::from_usize(0),
+        declaration_id: DeclarationId::from_usize(0),
+        name,
+        mutable_range: MutableRange { id: MutableRangeId::from_usize(0), start: none, end: none },
+        scope: None,
+        type_: TypeId::from_usize(0),
+        span: None,
+    }
+}
+
+fn unread_place() -> Place {
+    Place { identifier: IdentifierId::from_usize(0), effect: Effect::Store, reactive: true, span: None }
+}
+
 fn stranger<'a>() -> Instruction<'a> {
-    let lvalue = Place { identifier: IdentifierId::new(0), effect: 9, reactive: true, span: None };
-    Instruction { id: EvaluationOrder::new(1), lvalue, value: InstructionValue::Debugger { span: None }, span: None }
+    Instruction {
+        id: EvaluationOrder::from_usize(1),
+        lvalue: unread_place(),
+        value: InstructionValue::Debugger { span: None },
+        span: None,
+        effects: None,
+    }
 }
 
 fn goto_variant(number: u32) -> GotoVariant {

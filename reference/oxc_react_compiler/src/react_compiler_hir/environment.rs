@@ -1,4 +1,5 @@
-//! Stands in for the crate's `environment`: the arena and the identifiers.
+//! Stands in for the crate's `environment`: the arena and the identifiers. The walk asks for one by index, the
+//! drop-in by `get`.
 
 use std::ops::Index;
 
@@ -12,6 +13,12 @@ pub struct Environment<'a> {
 }
 
 pub struct Identifiers<'a>(pub Vec<Identifier<'a>>);
+
+impl<'a> Identifiers<'a> {
+    pub fn get(&self, identifier: IdentifierId) -> Option<&Identifier<'a>> {
+        self.0.get(identifier.index())
+    }
+}
 
 impl<'a> Index<IdentifierId> for Identifiers<'a> {
     type Output = Identifier<'a>;

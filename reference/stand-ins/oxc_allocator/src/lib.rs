@@ -1,5 +1,6 @@
 //! Stands in for `oxc_allocator`: the arena's box and vector kept in the ordinary heap.
 
+use std::any::type_name;
 use std::marker::PhantomData;
 use std::ops::{Deref, DerefMut};
 
@@ -20,7 +21,13 @@ pub trait CloneIn<'a> {
         allocator: &'a Allocator,
     ) -> Self::Cloned;
 
+    /// The walk copies by this. The observer is told of the copies of terminals.
     fn clone_in(&self, allocator: &'a Allocator) -> Self::Cloned {
+        // decided while compiling: a search in the name would cost the walk time at every copy
+        let name = type_name::<Self>();
+        if name.ends_with("::Terminal") || name.ends_with("::Terminal<'_>") {
+            walk_observer::terminal_copied();
+        }
         self.clone_in_impl(CloneInSemanticIds, allocator)
     }
 }
@@ -55,7 +62,7 @@ impl<T> Deref for Box<'_, T> {
     }
 }
 
-#[derive(Debug, Clone)]
+#[derive(Debug)]
 pub struct Vec<'a, T> {
     items: std::vec::Vec<T>,
     arena: PhantomData<&'a Allocator>,
@@ -72,6 +79,15 @@ impl<'a, T> Vec<'a, T> {
 
     pub fn push(&mut self, item: T) {
         self.items.push(item);
+    }
+}
+
+impl<'a, T: CloneIn<'a, Cloned = T>> CloneIn<'a> for Vec<'a, T> {
+    type Cloned = Self;
+
+    fn clone_in_impl(&self, semantic_ids: CloneInSemanticIds, allocator: &'a Allocator) -> Self {
+        let copies = self.items.iter().map(|item| item.clone_in_impl(semantic_ids, allocator));
+        Self::from_iter_in(copies, &allocator)
     }
 }
 

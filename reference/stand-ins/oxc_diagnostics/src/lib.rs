@@ -1,4 +1,4 @@
-//! Stands in for `oxc_diagnostics`: a message, its category and its help.
+//! Stands in for `oxc_diagnostics`: a message, its category, its help and its labels.
 
 use std::borrow::Cow;
 
@@ -9,11 +9,12 @@ pub struct OxcDiagnostic {
     pub message: Cow<'static, str>,
     pub category: &'static str,
     pub help: Option<String>,
+    pub labels: Vec<LabeledSpan>,
 }
 
 impl OxcDiagnostic {
     pub fn error(message: impl Into<Cow<'static, str>>) -> Self {
-        Self { message: message.into(), category: "", help: None }
+        Self { message: message.into(), category: "", help: None, labels: Vec::new() }
     }
 
     pub fn with_category(mut self, category: &'static str) -> Self {
@@ -26,7 +27,8 @@ impl OxcDiagnostic {
         self
     }
 
-    pub fn with_labels<T: IntoIterator<Item = LabeledSpan>>(self, _: T) -> Self {
+    pub fn with_labels<T: IntoIterator<Item = LabeledSpan>>(mut self, labels: T) -> Self {
+        self.labels = labels.into_iter().collect();
         self
     }
 }

@@ -8,11 +8,14 @@ pub struct Span {
 
 impl Span {
     /// A part of a diagnostic that points at this span.
-    pub fn label(self, _: &'static str) -> LabeledSpan {
-        LabeledSpan
+    pub fn label(self, text: &'static str) -> LabeledSpan {
+        LabeledSpan { span: self, text }
     }
 }
 
-/// What a diagnostic is labelled with. Nothing reads it here.
+/// What a diagnostic is labelled with.
 #[derive(Debug, Clone, Copy)]
-pub struct LabeledSpan;
+pub struct LabeledSpan {
+    pub span: Span,
+    pub text: &'static str,
+}

@@ -1,10 +1,11 @@
-//! Stands in for `rustc_hash`: the standard hash set with a short hash. The walk inserts, removes
-//! and looks up; it never goes through a set, so no order of a set's items can show.
+//! Stands in for `rustc_hash`: the standard hash set and map with a short hash. The walk and the drop-in insert, remove
+//! and look up; they never go through one, so no order of its items can show.
 
-use std::collections::HashSet;
+use std::collections::{HashMap, HashSet};
 use std::hash::{BuildHasherDefault, Hasher};
 
 pub type FxHashSet<T> = HashSet<T, BuildHasherDefault<FxHasher>>;
+pub type FxHashMap<K, V> = HashMap<K, V, BuildHasherDefault<FxHasher>>;
 
 #[derive(Default)]
 pub struct FxHasher(u64);

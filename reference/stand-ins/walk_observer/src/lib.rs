@@ -98,9 +98,13 @@ pub fn missing(block: u32) -> ! {
     resume_unwind(Box::new(Stop::Missing { block }))
 }
 
-/// The walk copies the terminal of the block that it visits.
+/// The walk copies the terminal of the block that it visits. Where no walk is watched nothing is kept.
 pub fn terminal_copied() {
-    with(|observer| observer.open.push(observer.visited));
+    with(|observer| {
+        if observer.bounds.is_some() {
+            observer.open.push(observer.visited);
+        }
+    });
 }
 
 /// A terminal is dropped: the innermost copy, while a walk is watched.

@@ -1,4 +1,0 @@
-pub mod Simulation
-pub mod Invariant
-pub mod Surveys
-pub mod Goals

@@ -1,0 +1,8 @@
+use Rattle.walk.proofs.JumpLaws.{Breaking}
+use Rattle.walk.proofs.jump.get_break_target.Given as goal
+
+abbrev pub invariant-loop-at : goal.invariant-loop-at
+invariant-loop-at l = Breaking l.cx l.block l.at l.loops
+
+abbrev pub decreases-loop-at : goal.decreases-loop-at
+decreases-loop-at l = l.at

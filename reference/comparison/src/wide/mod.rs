@@ -1,0 +1,3 @@
+//! Tables of all 22 terminals, beyond those of the run laws.
+
+pub mod ends;

@@ -1,0 +1,1 @@
+//! Stands in for the crate's `globals`, of which `mod.rs` has only the declaration.
