@@ -189,6 +189,20 @@ test('load takes an address, a response, bytes and a module', async () => {
     /not the module of this package: it does not export memory/);
 });
 
+test('the declarations have the names of the modules', async () => {
+  const folder = `${top}target/js/package/`, declared = name => [...readFileSync(`${folder}${name}.d.ts`, 'utf8')
+    .matchAll(/^export (?:declare )?(?:class|const|function) (\w+)/gm)].map(([, name]) => name);
+  for (const [name, names] of [['index', [...declared('core'), 'load']], ['node', [...declared('core'), 'load']],
+    ['inline', [...declared('core'), 'default']],
+    ['tree', declared('tree')]]) assert.deepEqual(Object.keys(await import(`${folder}${name}.js`)).sort(), names.sort());
+  const methods = Object.getOwnPropertyNames(Reactive.prototype).filter(name => name !== 'constructor').sort();
+  const types = readFileSync(`${folder}core.d.ts`, 'utf8'),
+    part = name => types.slice(types.indexOf(name), types.indexOf('\n}', types.indexOf(name)));
+  const members = text => [...text.matchAll(/^  (\w+)\(/gm)].map(([, name]) => name).filter(name => name !== 'constructor').sort();
+  assert.deepEqual(members(part('export class Reactive')), methods);
+  assert.deepEqual(members(part('export interface Raw')), Object.keys(reactive.raw).sort());
+});
+
 test('an engine without WebAssembly is told at the first call', () => {
   const script = `delete globalThis.WebAssembly;
     const { default: reactive } = await import('./target/js/package/inline.js'), { load } = await import('./target/js/package/node.js');
