@@ -1,21 +1,4 @@
-//! Text of any content, made harmless: in HTML, and on a terminal.
-
-/// In HTML, as text or within quotes. A control character, which HTML may not have, becomes a middle dot, but for LF and TAB.
-pub fn html(text: &str) -> String {
-    let mut escaped = String::with_capacity(text.len());
-    for c in text.chars() {
-        match c {
-            '&' => escaped.push_str("&amp;"),
-            '<' => escaped.push_str("&lt;"),
-            '>' => escaped.push_str("&gt;"),
-            '"' => escaped.push_str("&quot;"),
-            '\'' => escaped.push_str("&#39;"),
-            '\n' | '\t' => escaped.push(c),
-            c => escaped.push(plain(c)),
-        }
-    }
-    escaped
-}
+//! Text of any content, made harmless on a terminal.
 
 /// On a line of its own: white space, line ends too, becomes one space; no more than `most` characters.
 pub fn line(text: &str, most: usize) -> String {
@@ -41,11 +24,6 @@ fn plain(c: char) -> char {
 #[cfg(test)]
 mod tests {
     use super::*;
-
-    #[test]
-    fn nothing_of_a_text_is_markup() {
-        assert_eq!(html("</script><b a='\"'>&\u{1b}[2J\n"), "&lt;/script&gt;&lt;b a=&#39;&quot;&#39;&gt;&amp;·[2J\n");
-    }
 
     #[test]
     fn a_line_is_one_line() {

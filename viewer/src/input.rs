@@ -60,16 +60,6 @@ fn whole<T>(read: T, file: &[u8]) -> Result<T, Refusal> {
     if file.ends_with(b"\n") { Ok(read) } else { Err(refused(file.len())) }
 }
 
-/// The line `answer`, then an answer a line: the end of a file for `treerun`. Such a file with its rows is taken too.
-pub fn answers(file: &[u8]) -> Result<Vec<u32>, Refusal> {
-    if sort(file) == Sort::Rows {
-        return rows(file)?.answers.ok_or(refused(file.len()));
-    }
-    let mut reader = Reader { file, at: 0 };
-    reader.expect(b"answer")?;
-    whole(answers_from(&mut reader)?, file)
-}
-
 fn answers_from(reader: &mut Reader) -> Result<Vec<u32>, Refusal> {
     let mut answers = Vec::new();
     loop {
@@ -142,15 +132,13 @@ mod tests {
         assert_eq!(read, Rows { rows: vec![[9, 0, 0, 0, 0, 0]], answers: Some(vec![1, 0]) });
         assert_eq!(rows(b"code at rows visits\n0 0 1 1\nop a b c d e\n9 0 0 0 0 0\n").unwrap().answers, None);
         assert_eq!(rows(b"code at rows visits\n15 1 0 1\n"), Err(Refusal { code: 15, at: 1 }));
-        assert_eq!(answers(b"answer\n7\n"), Ok(vec![7]));
     }
 
     #[test]
     fn other_lines_are_refused_where_they_stand() {
         assert_eq!(rows(b"op a b c d e\n9 0 0 0 0\n"), Err(refused(13)));
         assert_eq!(rows(b"op a b c d e\n9 0 0 0 0 00\n"), Err(refused(13)));
-        assert_eq!(answers(b"answer\n1\n1 0\n"), Err(refused(9)));
-        assert_eq!(answers(b"1\n"), Err(refused(0)));
-        assert_eq!(answers(b"answer\n1"), Err(refused(8)));
+        assert_eq!(rows(b"op a b c d e\nanswer\n1\n1 0\n"), Err(refused(22)));
+        assert_eq!(rows(b"op a b c d e\nanswer\n1"), Err(refused(21)));
     }
 }

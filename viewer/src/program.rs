@@ -1,4 +1,4 @@
-//! What both programs do with their words, their messages and standard output.
+//! What the program does with its words, its messages and standard output.
 
 use crate::escape::message;
 use std::ffi::OsString;

@@ -1,9 +1,8 @@
-//! The proved functions, as the pages need them. Nothing else here asks them, and nothing that they answer is worked out elsewhere.
+//! The proved functions, as treeshow needs them. Nothing else here asks them, and nothing that they answer is worked out elsewhere.
 
-use reactive_build::preview::{tree, tree_language};
-use reactive_build::tree::{BlockRow, Nodes, Row};
-use reactive_build::{LINE_WORDS, Refusal, convert, dot, lookup, plain, table_check, tree_check, tree_run};
-use std::ops::Range;
+use reactive_build::preview;
+use reactive_build::tree::{Nodes, Row};
+use reactive_build::{Refusal, convert, plain, table_check, tree_check, tree_run};
 
 pub use reactive_build::plain::Law;
 pub use reactive_build::tree_run::Reason;
@@ -31,59 +30,24 @@ pub fn law(words: &[u32]) -> Law {
     plain::law(words).expect("the words are a table")
 }
 
-/// By which rule a jump is resolved.
-#[derive(Clone, Copy, Debug, PartialEq, Eq)]
-pub enum Rule {
-    Rust,
-    Language,
-}
-
-/// A tree with its index.
+/// A tree.
 pub struct Built {
     pub rows: Vec<Row>,
     pub nodes: Nodes,
-    pub visits: u32,
-    index: Vec<u32>,
-    lines: u32,
 }
 
 /// The tree of a table.
-pub fn build(words: &[u32], rule: Rule) -> Result<Built, Refusal> {
-    let built = match rule {
-        Rule::Rust => tree(words)?,
-        Rule::Language => tree_language(words)?,
-    };
+pub fn build(words: &[u32]) -> Result<Built, Refusal> {
+    let built = preview::tree(words)?;
     let nodes = Nodes::of(&built.rows).expect("the rows of a build are those of one tree");
-    Ok(Built { rows: built.rows, nodes, visits: built.visits, index: built.index, lines: built.lines })
+    Ok(Built { rows: built.rows, nodes })
 }
 
-/// The tree of rows that are stored, without an index: it finds no label.
+/// The tree of rows that are stored.
 pub fn stored(rows: Vec<Row>) -> Result<Built, Refusal> {
     tree_check::is_tree(rows.as_flattened())?;
     let nodes = Nodes::of(&rows)?;
-    Ok(Built { rows, nodes, visits: 0, index: Vec::new(), lines: 0 })
-}
-
-impl Built {
-    /// The labels of its statements, in the order of the index.
-    pub fn labels(&self) -> Vec<BlockRow> {
-        self.index.chunks_exact(LINE_WORDS).take(self.lines as usize).map(|line| BlockRow(line[0])).collect()
-    }
-
-    /// The rows of the statement that bears the label, its closing row last.
-    pub fn statement(&self, label: BlockRow) -> Result<Range<usize>, Refusal> {
-        let words = self.rows.as_flattened();
-        let found = lookup::find(&self.index, self.lines, label.0, words);
-        match found.code {
-            0 => Ok(found.begin / 6..found.end / 6),
-            code => Err(Refusal { code, at: found.at }),
-        }
-    }
-}
-
-/// The drawing's lines: from block, to block.
-pub fn drawn(words: &[u32]) -> Result<String, Refusal> {
-    dot::text(words)
+    Ok(Built { rows, nodes })
 }
 
 /// What a run performed, in order, and why it stopped.

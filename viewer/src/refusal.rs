@@ -4,7 +4,6 @@ use crate::names;
 use crate::proved::numbers;
 use reactive_build::Refusal;
 use reactive_build::table::Table;
-use std::ops::Range;
 
 /// What `at` is of a refusal.
 #[derive(Clone, Copy, Debug, PartialEq, Eq)]
@@ -86,19 +85,6 @@ fn block_place(block: usize, table: Option<&Table>) -> String {
     }
 }
 
-/// The bytes of a table's file that a refusal is about.
-pub fn marked(refusal: &Refusal, file: &[u8]) -> Option<Range<usize>> {
-    match place(refusal) {
-        Place::Byte(byte) => Some(byte.min(file.len())..(byte + 1).min(file.len())),
-        Place::Word(word) => {
-            let (begin, _) = numbers(file).nth(word)?;
-            let digits = file[begin..].iter().take_while(|byte| byte.is_ascii_digit()).count();
-            Some(begin..begin + digits)
-        }
-        _ => None,
-    }
-}
-
 #[cfg(test)]
 mod tests {
     use super::*;
@@ -112,7 +98,6 @@ mod tests {
         assert_eq!(word_place(FILE, 8), "`code` of block 0");
         assert_eq!(word_place(FILE, 17), "`identifier` of place 0");
         assert_eq!(word_place(FILE, 19), "none of the table");
-        assert_eq!(&FILE[marked(&Refusal { code: 4, at: 8 }, FILE).unwrap()], b"99");
     }
 
     #[test]

@@ -58,3 +58,22 @@ pub fn text(words: &[u32]) -> Result<String, Refusal> {
     text.truncate(drawn.length);
     Ok(String::from_utf8(text).expect("the text is ASCII"))
 }
+
+#[cfg(test)]
+mod tests {
+    use super::*;
+    use crate::table::{Case, Ending, Table};
+
+    #[test]
+    fn what_is_lent_holds_the_largest_drawing() {
+        let mut table = Table { places: vec![0], identifiers: vec![false], ..Table::default() };
+        table.cases = vec![Case { test: None, block: 1_023 }; 1_024];
+        for block in 0..1_024 {
+            table.block(&[], Ending::Switch { test: 0, first_case: 0, cases: 1_024, fallthrough: block }, 0, None);
+        }
+        assert_eq!(enough(&table.words()), LARGEST);
+        assert_eq!(text(&table.words()).map(|text| text.lines().count()), Ok(1_049_602));
+        let small = Table { places: vec![0], identifiers: vec![false], ..Table::default() };
+        assert_eq!(enough(&small.words()), 14);
+    }
+}

@@ -7,7 +7,7 @@ use std::process::ExitCode;
 use viewer::input::{self, Sort};
 use viewer::links::links;
 use viewer::program::{Words, complain, show};
-use viewer::proved::{self, Rule};
+use viewer::proved;
 use viewer::source::Source;
 use viewer::{refusal, text};
 
@@ -61,7 +61,7 @@ fn of_table(file: &[u8], source: Option<&Source>) -> Shown {
         Err(refused) => return refusing(String::new(), &refused, file, None),
     };
     let shown = format!("Blocks\n{}\n", text::blocks(&table, source));
-    match proved::build(&words, Rule::Rust) {
+    match proved::build(&words) {
         Ok(built) => {
             let tree = text::tree(&built, Some(&table), source);
             let text = format!("{shown}Tree\n{tree}\nRun law\n{}\n", text::law(proved::law(&words)));
