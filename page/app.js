@@ -192,7 +192,8 @@ const labelButton = ({ label, text }) => {
     title: `Show the statement with label ${label} alone` }, words), after];
 };
 const rowsOfLine = line => line.parts.map(part => part.row).filter(row => row !== undefined);
-const classesOfLine = rows => ['now', 'on', 'hot'].find(name => rows.some(row => state.marks.rows.get(row) === name)) ?? '';
+const classesOfLine = rows => [['now', 'on', 'hot'].find(name => rows.some(row => state.marks.rows.get(row) === name)),
+  rows.some(row => state.shown?.other?.differ?.has(row)) && 'parted'].filter(Boolean).join(' ');
 
 function drawTree() {
   const { shown, only } = state;
