@@ -1,13 +1,13 @@
 //! `compare_runs [TABLES [SEED [MORE]]]`: the run law of all terminals (src/wide). The run of the Rust's tree, with a Switch that of the
-//! language entry's tree, read off the Rust's, is held to the run of the blocks: rows performed, where values go, answers taken, where a throw
-//! goes, and why the run stopped. It takes
+//! language entry's tree, read off the Rust's, is held to the run of the blocks: rows performed, where values go, answers taken, where a
+//! throw goes, and why the run stopped. It takes
 //! - TABLES programs, lowered as a compiler does it, and prints what share of those accepted the law covers;
 //! - three times as many with small changes;
 //! - every small table of some families, with MORE blocks than usual;
 //! - TABLES small ones drawn at random, in which rows also name blocks that were named before.
 //!
-//! Each runs over all lists of up to four answers, with no throw and with one at each of the first six rows; all but the small ones over some
-//! random longer lists too. The model's tree and, where it is linked, the proved library's must be the Rust's. The status is not 0 if
+//! Each runs over all lists of up to four answers, with no throw and with one at each of the first six rows; all but the small ones over
+//! some random longer lists too. The model's tree and, where it is linked, the proved library's must be the Rust's. The status is not 0 if
 //! anything differs, if a program is not covered for another reason than the fault of Goto Try, or if something was not met.
 
 use std::process::ExitCode;

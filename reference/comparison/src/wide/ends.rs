@@ -283,8 +283,8 @@ pub fn exit(table: &Table, optional: u32) -> Option<u32> {
     None
 }
 
-/// For each block the innermost Try whose body's region has it, along all names but those of Gotos from the entry; and whether each block is
-/// in one region only.
+/// For each block the innermost Try whose body's region has it, along all names but those of Gotos from the entry; and whether each block
+/// is in one region only.
 pub fn regions(table: &Table) -> (Vec<Option<u32>>, bool) {
     let mut found: Vec<Option<Option<u32>>> = vec![None; table.words[1] as usize];
     let mut one_each = true;
