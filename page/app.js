@@ -119,6 +119,7 @@ const LAWS = {
   none: 'No theorem says how this tree runs.', plain: 'Proved: this tree runs as the blocks do.',
   switches: 'Proved, with switches: this tree runs as the blocks do.',
     loops: 'Proved, with loops and switches: this tree runs as the blocks do.',
+  values: 'Proved, with values: this tree runs as the blocks do, stores of values aside.',
 };
 function tell() {
   const { made, wrong } = state, told = one('#told'), say = (...parts) => told.replaceChildren(el('p', {}, ...parts));
