@@ -126,7 +126,7 @@ export class Reactive {
   law(words: Words): Law;
 }
 
-/** At once, of the module's bytes. A browser may refuse to compile a module of over 8 MB at once; this one has 61 KB. */
+/** At once, of the module's bytes. A browser may refuse to compile a module of over 8 MB at once; this one has some 60 KB. */
 export function instantiate(source: BufferSource | WebAssembly.Module): Reactive;
 
 export const ROW_WORDS: 6;
