@@ -61,8 +61,8 @@ export interface Rearranged {
   readonly oldNumbers: Uint32Array;
 }
 /** Which run law covers a table: 'plain' in either entry, 'switches' in the language entry, 'loops' in the language entry and, without a
- * Switch, in both. */
-export type Law = 'none' | 'plain' | 'switches' | 'loops';
+ * Switch, in both; 'values' in the language entry, the stores of values left aside. */
+export type Law = 'none' | 'plain' | 'switches' | 'loops' | 'values';
 
 export interface Checked { code: number; at: number }
 export interface Placed extends Checked { length: number }

@@ -23,7 +23,7 @@ const NEW_TEXT_BYTES = 65542, OLD_TEXT_BYTES = 32768;
 /** Words that hold those of any file. */
 const FILE_WORDS = 16384;
 const REASONS = Object.freeze(['', 'return', 'throw', 'end', 'no answer']);
-const LAWS = Object.freeze(['none', 'plain', 'switches', 'loops']);
+const LAWS = Object.freeze(['none', 'plain', 'switches', 'loops', 'values']);
 /** A page of the memory, and how much memory an instance keeps after a call, in bytes. */
 const PAGE = 65536, KEPT = 16 * 1024 * 1024;
 

@@ -99,7 +99,8 @@ static void tables(const uint32_t *words, size_t count, uint32_t turn) {
         say(reactive_table_new_to_old(text, size, old_text, TABLE_TEXT_OLD_LARGEST, &at, &old_size)), say(at), say((uint32_t)old_size);
         say_bytes(old_text, TABLE_TEXT_OLD_LARGEST);
         memset(new_text, 7, TABLE_TEXT_NEW_LARGEST);
-        say(reactive_table_old_to_new(old_text, old_size, new_text, TABLE_TEXT_NEW_LARGEST, &at, &new_size)), say(at), say((uint32_t)new_size);
+        say(reactive_table_old_to_new(old_text, old_size, new_text, TABLE_TEXT_NEW_LARGEST, &at, &new_size));
+        say(at), say((uint32_t)new_size);
         say_bytes(new_text, TABLE_TEXT_NEW_LARGEST);
         if (size) {
             uint32_t place = below((uint32_t)size);
