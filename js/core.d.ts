@@ -61,8 +61,8 @@ export interface Rearranged {
   readonly oldNumbers: Uint32Array;
 }
 /** Which run law covers a table: 'plain' in either entry, 'switches' in the language entry, 'loops' in the language entry and, without a
- * Switch, in both. */
-export type Law = 'none' | 'plain' | 'switches' | 'loops';
+ * Switch, in both; 'values' in the language entry, the stores of values left aside. */
+export type Law = 'none' | 'plain' | 'switches' | 'loops' | 'values';
 
 export interface Checked { code: number; at: number }
 export interface Placed extends Checked { length: number }
@@ -126,7 +126,7 @@ export class Reactive {
   law(words: Words): Law;
 }
 
-/** At once, of the module's bytes. A browser may refuse to compile a module of over 8 MB at once; this one has 61 KB. */
+/** At once, of the module's bytes. A browser may refuse to compile a module of over 8 MB at once; this one has some 60 KB. */
 export function instantiate(source: BufferSource | WebAssembly.Module): Reactive;
 
 export const ROW_WORDS: 6;

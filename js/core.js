@@ -5,12 +5,13 @@ export { CODES, Refusal } from './refusal.js';
 
 /** The functions of the module: the one place that has their names there. */
 export const EXPORTS = Object.freeze({
-  build: 'reactive_build', buildLanguage: 'reactive_build_language', preview: 'reactive_preview',
-    previewLanguage: 'reactive_preview_language',
-  lookup: 'tree_lookup', checkTree: 'tree_check', runTree: 'tree_run', draw: 'blocks_to_dot', writeTable: 'table_write',
-    readTable: 'table_read',
-  oldToNew: 'table_old_to_new', newToOld: 'table_new_to_old', rearrange: 'blocks_rearrange', restore: 'blocks_restore',
-  checkTable: 'table_check', law: 'table_plain',
+  build: 'reactive_build', buildLanguage: 'reactive_build_language',
+  preview: 'reactive_preview', previewLanguage: 'reactive_preview_language',
+  lookup: 'reactive_tree_lookup', checkTree: 'reactive_tree_check', runTree: 'reactive_tree_run',
+  draw: 'reactive_blocks_to_dot', writeTable: 'reactive_table_write', readTable: 'reactive_table_read',
+  oldToNew: 'reactive_table_old_to_new', newToOld: 'reactive_table_new_to_old',
+  rearrange: 'reactive_blocks_rearrange', restore: 'reactive_blocks_restore',
+  checkTable: 'reactive_table_check', law: 'reactive_table_plain',
 });
 
 export const ROW_WORDS = 6, LINE_WORDS = 3, BLOCK_WORDS = 11, INSTRUCTION_WORDS = 7, CASE_WORDS = 2, HEAD_WORDS = 6, MOST_LINES = 1023,
@@ -22,7 +23,7 @@ const NEW_TEXT_BYTES = 65542, OLD_TEXT_BYTES = 32768;
 /** Words that hold those of any file. */
 const FILE_WORDS = 16384;
 const REASONS = Object.freeze(['', 'return', 'throw', 'end', 'no answer']);
-const LAWS = Object.freeze(['none', 'plain', 'switches', 'loops']);
+const LAWS = Object.freeze(['none', 'plain', 'switches', 'loops', 'values']);
 /** A page of the memory, and how much memory an instance keeps after a call, in bytes. */
 const PAGE = 65536, KEPT = 16 * 1024 * 1024;
 

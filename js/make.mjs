@@ -30,7 +30,7 @@ const names = [...JSON.parse(read('js/package.json')).files, 'package.json',
   'README.md'].map(name => new RegExp(`^${name.replace(/[.]/g, '\\.').replace('*', '.*')}$`));
 for (const name of readdirSync(join(top, 'js'))) if (names.some(pattern => pattern.test(name))) copyFileSync(join(top, 'js', name),
   join(folder, name));
-copyFileSync(join(top, 'NOTICE'), join(folder, 'LICENSE'));
+for (const name of ['LICENSE', 'NOTICE']) copyFileSync(join(top, name), join(folder, name));
 copyFileSync(module, join(folder, 'reactive.wasm'));
 writeFileSync(join(folder, 'codes.js'), `// Made from docs/FORMAT.md, "Refusals", by js/make.mjs.
 export const CODES = Object.freeze({

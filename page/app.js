@@ -49,9 +49,8 @@ function make(text, words) {
 /** By the other rule: the rows that differ, or its refusal. */
 function otherRule({ words, built }) {
   try {
-    const { tree } = reactive[state.rule === 'build' ? 'buildLanguage' : 'build'](words), differ = new Set();
-    if (built) for (let word = 0; word < Math.max(tree.length, built.tree.length);
-      word++) if (tree[word] !== built.tree[word]) differ.add(Math.floor(word / 6));
+    const { tree } = reactive[state.rule === 'build' ? 'buildLanguage' : 'build'](words), own = built?.tree ?? tree, differ = new Set();
+    for (let word = 0; word < Math.max(tree.length, own.length); word++) if (tree[word] !== own[word]) differ.add(Math.floor(word / 6));
     return { differ };
   } catch (refusal) {
     if (!(refusal instanceof Refusal)) throw refusal;
@@ -116,9 +115,11 @@ function caseText(table, test, place) {
 
 const RULES = { build: 'By the Rust’s rule', buildLanguage: 'By JavaScript’s rule' };
 const LAWS = {
-  none: 'No theorem says how this tree runs.', plain: 'Proved: this tree runs as the blocks do.',
+  none: 'No theorem says how this tree runs.',
+  plain: 'Proved: this tree runs as the blocks do.',
   switches: 'Proved, with switches: this tree runs as the blocks do.',
-    loops: 'Proved, with loops and switches: this tree runs as the blocks do.',
+  loops: 'Proved, with loops and switches: this tree runs as the blocks do.',
+  values: 'Proved, with values: this tree runs as the blocks do, stores of values aside.',
 };
 function tell() {
   const { made, wrong } = state, told = one('#told'), say = (...parts) => told.replaceChildren(el('p', {}, ...parts));
@@ -135,20 +136,23 @@ function tell() {
     return say(el('span', { class: 'refusal' }, `Refused with ${code}${unit === null ? '' : ` at ${unit} ${at}`}: ${sentence}`),
       more(`${place}${advice}${/[.]$/.test(advice) ? '' : '.'}`));
   }
-  const { table, built, law, other } = made, isCovered = state.rule === 'buildLanguage' || law === 'plain' || law === 'loops'
-    && !table.blocks.some(({ type }) => type === 'Switch');
-  const by = state.rule === 'build' ? 'buildLanguage' : 'build', rule = RULES[by];
-  const difference = other.refusal ? `${rule} it is refused: ${other.refusal.message}` : other.differ.size
-    ? `${rule} ${count(other.differ.size, 'row')} ${other.differ.size === 1 ? 'is' : 'are'} another.` : `${rule} it is the same.`;
+  const { table, built, law, other } = made, hasSwitch = table.blocks.some(({ type }) => type === 'Switch');
+  const isCovered = state.rule === 'buildLanguage' || law === 'plain' || law === 'loops' && !hasSwitch;
   say(el('b', { class: 'good' }, 'Accepted. '),
     `${count(table.blocks.length, 'block')} and ${count(table.instructions.length, 'instruction')} became `,
     `${count(built.rows, 'row')} with ${count(built.lines, 'label')}. `,
-    more(`${LAWS[isCovered ? law : 'none']} ${difference}${outside(table)}`));
+    more(`${LAWS[isCovered ? law : 'none']} ${difference(other)}${outside(table)}`));
+}
+/** What the other rule makes of the table. */
+function difference({ refusal, differ }) {
+  const rule = RULES[state.rule === 'build' ? 'buildLanguage' : 'build'];
+  if (refusal) return `${rule} it is refused: ${refusal.message}`;
+  return differ.size ? `${rule} ${count(differ.size, 'row')} ${differ.size === 1 ? 'is' : 'are'} another.` : `${rule} it is the same.`;
 }
 /** How many spans of the table are not in the source, where there is one. */
 function outside({ blocks, instructions }) {
-  const out = source.text === '' ? 0 : [...blocks, ...instructions].filter(({ range }) => range && !state.offsets.range(range, 'codePoint',
-    'utf16')).length;
+  const isOut = ({ range }) => range && !state.offsets.range(range, 'codePoint', 'utf16');
+  const out = source.text === '' ? 0 : [...blocks, ...instructions].filter(isOut).length;
   return out ? ` ${count(out, 'span')} of the table ${out === 1 ? 'is' : 'are'} not in this source.` : '';
 }
 /** Where a refusal is, as a person finds it. */
@@ -192,7 +196,8 @@ const labelButton = ({ label, text }) => {
     title: `Show the statement with label ${label} alone` }, words), after];
 };
 const rowsOfLine = line => line.parts.map(part => part.row).filter(row => row !== undefined);
-const classesOfLine = rows => ['now', 'on', 'hot'].find(name => rows.some(row => state.marks.rows.get(row) === name)) ?? '';
+const classesOfLine = rows => [['now', 'on', 'hot'].find(name => rows.some(row => state.marks.rows.get(row) === name)),
+  rows.some(row => state.shown?.other?.differ?.has(row)) && 'parted'].filter(Boolean).join(' ');
 
 function drawTree() {
   const { shown, only } = state;
@@ -261,8 +266,8 @@ function linked(what) {
   return { rows, blocks, spans: spans.filter(Boolean) };
 }
 function mark() {
-  const { ran, made, shown, wrong } = state, marks = state.marks = { rows: new Map(), blocks: new Map(), taken: new Set() }, inSource = [],
-    inTable = [];
+  const { ran, made, shown, wrong } = state, inSource = [], inTable = [];
+  const marks = state.marks = { rows: new Map(), blocks: new Map(), taken: new Set() };
   const put = (name, what) => {
     if (!what || !shown && !state.graphed) return;
     const { rows, blocks, spans } = linked(what);
@@ -281,11 +286,10 @@ function mark() {
   const step = ran?.steps?.[state.step - 1];
   if (step && made.nodes) put('now', { rows: [step.row] });
   if (ran?.steps && made.nodes) {
-    const until = ran.steps.slice(0, state.step), performed = until.filter(({ asks }) => !asks).map(({ row }) =>
-      made.nodes.rows[row].instruction);
+    const until = ran.steps.slice(0, state.step);
+    const performed = until.filter(({ asks }) => !asks).map(({ row }) => made.nodes.rows[row].instruction);
     const answers = until.filter(({ asks, answer }) => asks && answer !== undefined).map(({ answer }) => answer);
-    for (const { from, to, role, place } of state.step > 0 ? takenBy(made.table, performed, answers) ?? []
-      : []) marks.taken.add(edgeKey({ from, to, role, place }));
+    if (state.step > 0) for (const line of takenBy(made.table, performed, answers) ?? []) marks.taken.add(edgeKey(line));
   }
   if (made?.refusal && !wrong) inTable.push(...placesOfRefusal(made));
   if (wrong) {
@@ -305,8 +309,9 @@ function placesOfRefusal({ refusal: { at, unit, code }, text }) {
 /** The classes of what is drawn already. */
 function paint() {
   for (const item of one('#tree ol')?.children ?? []) item.className = classesOf(+item.dataset.r);
-  for (const way of all('#tree [data-way]')) for (const name of ['hot', 'on', 'now']) way.classList.toggle(name,
-    state.marks.rows.get(+way.dataset.way) === name);
+  for (const way of all('#tree [data-way]')) {
+    for (const name of ['hot', 'on', 'now']) way.classList.toggle(name, state.marks.rows.get(+way.dataset.way) === name);
+  }
   for (const item of one('#code ol')?.children ?? []) {
     item.className = classesOfLine(rowsOfLine(state.tree.code[+item.dataset.k] ?? { parts: [] }));
     for (const part of all('.t', item)) part.className = `t ${state.marks.rows.get(+part.dataset.r) ?? ''}`;
@@ -315,8 +320,7 @@ function paint() {
 }
 /** Brings what is marked into view. */
 function show(name) {
-  const row = [...state.marks.rows].find(([, each]) => each === name)?.[0],
-    block = [...state.marks.blocks].find(([, each]) => each === name)?.[0];
+  const first = map => [...map].find(([, each]) => each === name)?.[0], row = first(state.marks.rows), block = first(state.marks.blocks);
   if (row !== undefined && state.tab === 'tree' && state.tree.at?.has(row)) tree.show(state.tree.at.get(row));
   if (row !== undefined && state.tab === 'code') {
     const line = state.tree.code.findIndex(each => rowsOfLine(each).includes(row));
@@ -343,14 +347,14 @@ function runAgain(toEnd) {
     state.step = toEnd ? ran.steps.length : Math.min(state.step, ran.steps.length);
     one('#range').max = ran.steps.length;
   }
-  const asks = one('#asks'), answers = state.answers.map((answer, k) =>
-    el('button', { type: 'button', 'data-forget': k, 'class': ran?.steps && k < ran.used ? 'given' : '',
-      title: 'Take back this answer and those after it' }, String(answer)));
-  one('#answers').replaceChildren(...ran?.steps && answers.length ? ['answers ', ...answers] : []);
-  asks.replaceChildren(...ran?.refusal ? notRun(ran.refusal) : ran?.steps ? questionOf(ran)
-    : [el('span', { class: 'note' }, 'There is no tree to run.')]);
+  const answers = ran?.steps ? state.answers.map((answer, k) => answerButton(answer, k, k < ran.used)) : [];
+  one('#answers').replaceChildren(...answers.length ? ['answers ', ...answers] : []);
+  const nothing = [el('span', { class: 'note' }, 'There is no tree to run.')];
+  one('#asks').replaceChildren(...ran?.refusal ? notRun(ran.refusal) : ran?.steps ? questionOf(ran) : nothing);
   step(state.step);
 }
+const answerButton = (answer, k, isGiven) => el('button', { type: 'button', 'data-forget': k, 'class': isGiven ? 'given' : '',
+  title: 'Take back this answer and those after it' }, String(answer));
 function running(made) {
   if (!made.built) return null;
   try { return run(reactive, made, state.answers); } catch (refusal) {
@@ -368,12 +372,12 @@ function questionOf({ pending, reason, isUnknown }) {
   const button = (answer, name) => el('button', { type: 'button', 'data-answer': answer }, name);
   if (isUnknown) return ['A row asks. ', button(1, 'yes'), button(0, 'no')];
   if (!pending) return [{ return: 'It returns.', throw: 'It throws.', end: 'The end of the tree is reached.' }[reason]];
-  const text = textOf(rangeOfQuestion(pending)), what = el('span', {}, el('b', {}, pending.type.toUpperCase()),
-    ` of row ${pending.row} asks `, text === null ? '' : el('q', {}, short(text, 34)));
+  const text = textOf(rangeOfQuestion(pending)), told = text === null ? '' : el('q', {}, short(text, 34));
+  const what = el('span', {}, el('b', {}, pending.type.toUpperCase()), ` of row ${pending.row} asks `, told);
   if (pending.type !== 'Switch') return [what, button(1, 'yes'), button(0, 'no')];
   const table = state.made.table, names = pending.cases.map(({ test }, k) => test === null ? 'default' : caseText(table, test, k));
-  return [what, ...names.map((name, k) => button(k, name)), ...pending.cases.some(({ test }) => test === null) ? []
-    : [button(names.length, 'no case')]];
+  const buttons = names.map((name, k) => button(k, name)), hasDefault = pending.cases.some(({ test }) => test === null);
+  return [what, ...buttons, hasDefault ? '' : button(names.length, 'no case')];
 }
 /** The range of what asks: of a loop its test's, of an If and a Switch that of the instruction whose place they test. */
 function rangeOfQuestion(node) {
@@ -385,16 +389,17 @@ function rangeOfQuestion(node) {
 function step(to) {
   const { ran, made } = state;
   if (ran?.steps) {
-    const n = ran.steps.length, at = state.step = Math.max(0, Math.min(n, to)), now = ran.steps[at - 1],
-      node = now && made.nodes.rows[now.row];
+    const n = ran.steps.length, at = state.step = Math.max(0, Math.min(n, to)), now = ran.steps[at - 1];
+    const told = now ? [`Step ${at} of ${n}: `, ...stepInWords(now, made.nodes.rows[now.row])]
+      : [n ? `Before the first of ${count(n, 'step')}` : 'No step'];
     one('#range').value = at;
-    one('#said').replaceChildren(...now ? [`Step ${at} of ${n}: `, ...stepInWords(now, node)]
-      : [n ? `Before the first of ${count(n, 'step')}` : 'No step']);
-    for (const [name, isOff] of [['first', at === 0], ['back', at === 0], ['on', at === n],
-      ['last', at === n]]) one(`[data-step="${name}"]`).disabled = isOff;
+    one('#said').replaceChildren(...told);
+    for (const name of ['first', 'back']) one(`[data-step="${name}"]`).disabled = at === 0;
+    for (const name of ['on', 'last']) one(`[data-step="${name}"]`).disabled = at === n;
   }
   mark();
   if (state.step > 0) show('now');
+  saveSoon();
 }
 function stepInWords({ row, asks, answer }, node) {
   const text = textOf(state.made.ranges[row]);
@@ -440,7 +445,7 @@ function open(what) {
   one(`[name=rule][value=${state.rule}]`).checked = true;
   document.title = `${state.name || 'build_reactive_function'}`;
   refresh();
-  if (state.made.refusal) graph.show(state.made.refusal.at);
+  if (state.made.refusal?.unit === 'block') graph.show(state.made.refusal.at);
   source.show('bad');
   table.show('bad');
 }
@@ -512,8 +517,8 @@ function changeTable(change) {
 }
 async function copyLink() {
   clearTimeout(saving);
-  const button = one('#link'), isSaved = await save(), copied = isSaved
-    && await navigator.clipboard?.writeText(location.href).then(() => true, () => false);
+  const button = one('#link'), isSaved = await save();
+  const copied = isSaved && await navigator.clipboard?.writeText(location.href).then(() => true, () => false);
   button.textContent = !isSaved ? 'Too long for an address' : copied ? 'Copied' : 'It is in the address bar';
   setTimeout(() => { button.textContent = 'Copy link'; }, 1600);
 }
@@ -543,14 +548,12 @@ one('#example').append(...Object.keys(examples).map(name => el('option', {}, nam
 one('#example').addEventListener('change', event => open({ ...examples[event.target.value], name: event.target.value }));
 one('#range').addEventListener('input', event => step(+event.target.value));
 
-let pointed = null;
+let pointed = 'undefined undefined';
 document.addEventListener('mouseover', event => {
-  const target = event.target.closest?.('#tree li, #code .t, #code li, .block'), key = target ? `${target.dataset.r} ${target.dataset.b}`
-    : null;
+  const { r: row, b: block } = event.target.closest?.('#tree li, #code .t, #code li, .block')?.dataset ?? {}, key = `${row} ${block}`;
   if (key === pointed) return;
   pointed = key;
-  state.hot = !target || !state.shown && target.dataset.b === undefined ? null : target.dataset.b !== undefined
-    ? { blocks: [+target.dataset.b] } : target.dataset.r === undefined ? null : { rows: [+target.dataset.r] };
+  state.hot = block !== undefined ? { blocks: [+block] } : row !== undefined && state.shown ? { rows: [+row] } : null;
   mark();
 });
 
@@ -558,15 +561,16 @@ document.addEventListener('mouseover', event => {
 function move(view, by) {
   const { selected } = state;
   if (view.id === 'tree' || view.id === 'code') {
-    const lines = view.id === 'tree' ? state.tree.lines.map(({ node }) => [node.row]) : state.tree.code.map(rowsOfLine),
-      at = lines.findIndex(rows => rows.includes(selected?.rows?.[0]));
-    for (let next = at < 0 ? (by > 0 ? 0 : lines.length - 1) : at + by; lines[next]; next += by) if (lines[next].length)
-      return select({ rows: [lines[next][0]] });
-    return;
+    const lines = view.id === 'tree' ? state.tree.lines.map(({ node }) => [node.row]) : state.tree.code.map(rowsOfLine);
+    const at = lines.findIndex(rows => rows.includes(selected?.rows?.[0]));
+    let next = at < 0 ? (by > 0 ? 0 : lines.length - 1) : at + by;
+    while (lines[next]?.length === 0) next += by;
+    if (lines[next]) select({ rows: [lines[next][0]] });
+  } else {
+    const boxes = graph.drawn?.boxes ?? [], at = boxes.findIndex(({ box }) => box === selected?.blocks?.[0]);
+    const next = boxes[at < 0 ? 0 : at + by];
+    if (next) select({ blocks: [next.box] });
   }
-  const boxes = graph.drawn?.boxes ?? [], at = boxes.findIndex(({ box }) => box === selected?.blocks?.[0]),
-    next = boxes[at < 0 ? 0 : at + by];
-  if (next) select({ blocks: [next.box] });
 }
 document.addEventListener('keydown', event => {
   const { key, target } = event;
@@ -585,8 +589,8 @@ document.addEventListener('keydown', event => {
     one(`#tab-${state.tab}`).focus();
   } else if (view && (key === 'ArrowDown' || key === 'ArrowUp')) move(view, key === 'ArrowDown' ? 1 : -1);
   else if (view && key === 'Enter') {
-    const node = state.shown?.nodes.rows[state.selected?.rows?.[0]],
-      label = node && (node.type === 'Break' || node.type === 'Continue' ? node.target : node.label);
+    const node = state.shown?.nodes.rows[state.selected?.rows?.[0]];
+    const label = node && (node.type === 'Break' || node.type === 'Continue' ? node.target : node.label);
     if (typeof label !== 'number') return;
     showStatement({ label });
     drawTree();

@@ -103,7 +103,8 @@ export class Graph {
   }
 
   box({ box, x, y, height }) {
-    const row = this.table.blocks[box], left = x - WIDTH / 2, cut = text => text.length > LETTERS ? `${text.slice(0, LETTERS - 1)}…` : text;
+    const row = this.table.blocks[box], left = x - WIDTH / 2;
+    const cut = text => text.length > LETTERS ? `${text.slice(0, LETTERS - 1)}…` : text;
     const extra = row.type === 'Goto' && row.variant !== 'Break' ? ` ${row.variant}` : row.type === 'Logical' ? ` ${row.operator}` : '';
     const instructions = `${row.count} ${row.count === 1 ? 'instruction' : 'instructions'}`;
     return el('g', { 'class': 'block', 'data-b': box },

@@ -9,6 +9,7 @@ import { data } from './data.mjs';
 const here = name => readFileSync(new URL(name, import.meta.url), 'utf8'), example = name => here(`../examples/${name}`);
 const examples = {
   'Rows, columns, a switch': { source: here('examples/rows.js') },
+  'A break out of a switch': { source: here('examples/leave.js') },
   'Retry: do, throw, a label': { source: here('examples/retry.js'), values: false },
   'Values and a try': { source: here('examples/values.js') },
   'Kerning search, a table': { table: example('search.txt'), source: example('search.js'),
@@ -21,7 +22,8 @@ const bundle = execFileSync('esbuild', ['--bundle', '--minify', '--charset=utf8'
   '--legal-comments=none', fileURLToPath(new URL('app.js', import.meta.url))],
   { encoding: 'utf8', env: { ...process.env, NODE_PATH: '/usr/share/nodejs' }, maxBuffer: 1 << 26 });
 const { version } = JSON.parse(readFileSync(`${acorn}package.json`, 'utf8'));
-const licences = ['/*! build_reactive_function:', here('../NOTICE'), `acorn ${version}, the parser of JavaScript:`,
+const licences = ['/*! build_reactive_function, proved:', here('../LICENSE'), 'The Rust that was translated:', here('../NOTICE'),
+  `acorn ${version}, the parser of JavaScript:`,
   here('acorn-licence.txt'), '*/\n'].join('\n');
 const script = `'use strict';\n${licences}${bundle.replace(/<\/script/gi, '<\\/script').replace(/<!--/g, '<\\!--')}`,
   style = here('page.css');

@@ -120,7 +120,7 @@ function friendly(reactive, words) {
   }
   const table = raw.checkTable(words);
   check(() => reactive.checkTable(words), table, () => true);
-  check(() => reactive.law(words), table, law => ['none', 'plain', 'switches', 'loops'].includes(law));
+  check(() => reactive.law(words), table, law => ['none', 'plain', 'switches', 'loops', 'values'].includes(law));
   check(() => reactive.draw(words), table, text => {
     const lent = new Uint8Array(text.length + 1);
     return raw.draw(words, lent).length === text.length && new TextDecoder().decode(lent) === `${text}\0`;

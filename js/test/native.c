@@ -59,16 +59,16 @@ static void trees(const uint32_t *words, size_t count, uint32_t turn) {
         for (uint32_t k = 0; k <= lines; k++) {
             uint32_t label = k < lines ? line[3 * k] : below(40);
             size_t begin = 9, end = 9;
-            say(tree_lookup(line, lent_lines, lines, label, tree, length, &at, &begin, &end));
+            say(reactive_tree_lookup(line, lent_lines, lines, label, tree, length, &at, &begin, &end));
             say(at), say((uint32_t)begin), say((uint32_t)end);
         }
         for (int round = 0; round < 3; round++) {
-            say(tree_check(tree, length, &at)), say(at);
+            say(reactive_tree_check(tree, length, &at)), say(at);
             for (int k = 0; k < 40; k++) answers[k] = below(3);
             size_t room = round == 1 ? below(6) : 300, number = 9;
             uint32_t reason = 9;
             sevens(performed, room);
-            say(tree_run(tree, length, answers, 40, performed, room, &at, &number, &reason));
+            say(reactive_tree_run(tree, length, answers, 40, performed, room, &at, &number, &reason));
             say(at), say((uint32_t)number), say(reason), say_words(performed, room);
             if (length) {
                 uint32_t place = below((uint32_t)length);
@@ -82,24 +82,25 @@ static void trees(const uint32_t *words, size_t count, uint32_t turn) {
 static void tables(const uint32_t *words, size_t count, uint32_t turn) {
     uint32_t at = 9, law = 9;
     size_t size = 9, number = 9;
-    say(table_check(words, count, &at)), say(at);
-    say(table_plain(words, count, &at, &law)), say(at), say(law);
+    say(reactive_table_check(words, count, &at)), say(at);
+    say(reactive_table_plain(words, count, &at, &law)), say(at), say(law);
     size_t room = turn % 3 ? 20000 : below(60);
     memset(text, 7, room);
-    say(blocks_to_dot(words, count, text, room, &at, &size)), say(at), say((uint32_t)size), say_bytes(text, room);
+    say(reactive_blocks_to_dot(words, count, text, room, &at, &size)), say(at), say((uint32_t)size), say_bytes(text, room);
     room = turn % 5 ? 11 * count + 256 : below(300);
     memset(text, 7, room);
-    say(table_write(words, count, text, room, &at, &size)), say(at), say((uint32_t)size), say_bytes(text, room);
+    say(reactive_table_write(words, count, text, room, &at, &size)), say(at), say((uint32_t)size), say_bytes(text, room);
     for (int round = 0; round < 2; round++) {
         size_t places = turn % 4 ? count + 3 : count - (count > 0);
         sevens(moved, places);
-        say(table_read(text, size, moved, places, &at, &number)), say(at), say((uint32_t)number), say_words(moved, places);
+        say(reactive_table_read(text, size, moved, places, &at, &number)), say(at), say((uint32_t)number), say_words(moved, places);
         size_t old_size = 9, new_size = 9;
         memset(old_text, 7, TABLE_TEXT_OLD_LARGEST);
-        say(table_new_to_old(text, size, old_text, TABLE_TEXT_OLD_LARGEST, &at, &old_size)), say(at), say((uint32_t)old_size);
+        say(reactive_table_new_to_old(text, size, old_text, TABLE_TEXT_OLD_LARGEST, &at, &old_size)), say(at), say((uint32_t)old_size);
         say_bytes(old_text, TABLE_TEXT_OLD_LARGEST);
         memset(new_text, 7, TABLE_TEXT_NEW_LARGEST);
-        say(table_old_to_new(old_text, old_size, new_text, TABLE_TEXT_NEW_LARGEST, &at, &new_size)), say(at), say((uint32_t)new_size);
+        say(reactive_table_old_to_new(old_text, old_size, new_text, TABLE_TEXT_NEW_LARGEST, &at, &new_size));
+        say(at), say((uint32_t)new_size);
         say_bytes(new_text, TABLE_TEXT_NEW_LARGEST);
         if (size) {
             uint32_t place = below((uint32_t)size);
@@ -108,10 +109,10 @@ static void tables(const uint32_t *words, size_t count, uint32_t turn) {
     }
     size_t blocks = count > 1 && words[1] <= 1024 ? words[1] : 0, wrong = turn % 7 == 0;
     sevens(moved, count + wrong), sevens(olds, blocks);
-    say(blocks_rearrange(words, count, moved, count + wrong, olds, blocks, &at)), say(at);
+    say(reactive_blocks_rearrange(words, count, moved, count + wrong, olds, blocks, &at)), say(at);
     say_words(moved, count + wrong), say_words(olds, blocks);
     sevens(back, count);
-    say(blocks_restore(moved, count, olds, blocks, back, count, &at)), say(at), say_words(back, count);
+    say(reactive_blocks_restore(moved, count, olds, blocks, back, count, &at)), say(at), say_words(back, count);
 }
 
 static double now(void) {
@@ -129,7 +130,7 @@ static void times(const uint32_t *words, size_t count, int rounds) {
         double t1 = now();
         reactive_preview(words, count, &at, &rows, &visits, &lines);
         double t2 = now();
-        table_plain(words, count, &at, &law);
+        reactive_table_plain(words, count, &at, &law);
         double t3 = now();
         if (t1 - t0 < build) build = t1 - t0;
         if (t2 - t1 < preview) preview = t2 - t1;

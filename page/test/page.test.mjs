@@ -202,6 +202,15 @@ check('both rules, the law, walking order', async () => {
   assert.match(await text('#told'), /^Accepted/);
 });
 
+check('the break out of a switch, by both rules', async () => {
+  await example('A break out of a switch');
+  await browser.click('#tab-code');
+  const marked = () => js('[...document.querySelectorAll("#code li.parted .w")].map(e => e.textContent).join("|")');
+  assert.equal(await marked(), 'break L3;');
+  await browser.click('[name=rule][value=build] + span');
+  assert.equal(await marked(), 'break;');
+});
+
 check('a text of the old form is brought into today’s', async () => {
   await browser.open(page);
   assert.equal(await js('document.querySelector("#old").hidden'), true);

@@ -19,12 +19,12 @@ const MOST_ALIGNED: usize = 80;
 /// Which run law speaks of a table, in words.
 pub fn law(law: Law) -> &'static str {
     match law {
-        Law::Plain => "Paper 01's: by either entry the tree performs the same instructions as the blocks.",
-        Law::Switches => "M-113's: by the language entry the tree performs the same instructions as the blocks.",
+        Law::Plain => "Proved: by either entry this tree performs the same instructions as the blocks, for any answers.",
+        Law::Switches => "Proved for the language entry: its tree performs the same instructions as the blocks, for any answers that name cases.",
         Law::Loops => {
-            "Ours, beyond the papers: by the language entry the tree performs the same instructions as the blocks, and by the first too where there is no Switch."
+            "Proved for the language entry, and for the Rust's where no block ends in Switch: the tree performs the same instructions as the blocks."
         }
-        Law::None => "None speaks of this table.",
+        Law::None => "No proof speaks of the runs of this table (docs/DIFFERENCES.md).",
     }
 }
 

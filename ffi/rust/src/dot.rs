@@ -62,18 +62,19 @@ pub fn text(words: &[u32]) -> Result<String, Refusal> {
 #[cfg(test)]
 mod tests {
     use super::*;
-    use crate::table::{Case, Ending, Table};
+    use crate::table::{BlockRow, Case, Ending, IdentifierRow, PlaceRow, Table};
 
     #[test]
     fn what_is_lent_holds_the_largest_drawing() {
-        let mut table = Table { places: vec![0], identifiers: vec![false], ..Table::default() };
-        table.cases = vec![Case { test: None, block: 1_023 }; 1_024];
+        let mut table = Table { places: vec![IdentifierRow(0)], identifiers: vec![false], ..Table::default() };
+        table.cases = vec![Case { test: None, block: BlockRow(1_023) }; 1_024];
         for block in 0..1_024 {
-            table.block(&[], Ending::Switch { test: 0, first_case: 0, cases: 1_024, fallthrough: block }, 0, None);
+            let switch = Ending::Switch { test: PlaceRow(0), first_case: 0, cases: 1_024, fallthrough: BlockRow(block) };
+            table.block(&[], switch, 0, None);
         }
-        assert_eq!(enough(&table.words()), LARGEST);
+        assert_eq!(largest_of(&table.words()), LARGEST);
         assert_eq!(text(&table.words()).map(|text| text.lines().count()), Ok(1_049_602));
-        let small = Table { places: vec![0], identifiers: vec![false], ..Table::default() };
-        assert_eq!(enough(&small.words()), 14);
+        let small = Table { places: vec![IdentifierRow(0)], identifiers: vec![false], ..Table::default() };
+        assert_eq!(largest_of(&small.words()), 14);
     }
 }

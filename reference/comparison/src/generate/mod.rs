@@ -6,6 +6,7 @@ pub mod files;
 pub mod graphs;
 pub mod limits;
 pub mod long;
+pub mod lowered;
 pub mod mutate;
 pub mod plain;
 pub mod program;
