@@ -1,15 +1,22 @@
 -- Laws of the drawing's text.
 use mathlib.Core.Path.{◌≡◌, refl}
 use mathlib.Core.List.{List, [], ◌∷◌, ◌++◌, append-nil, append_assoc}
-use Prim.Native.Nat.{ℕ, suc, ◌+◌, ◌-◌, ◌≤◌, ◌<◌}
+use Prim.Native.Nat.{ℕ, suc, ◌+◌, ◌-◌, ◌^◌, ◌≤◌, ◌<◌}
 use native.Mathlib.Omega.{arith}
 use native.Mathlib.Numerals.{add-one}
+use lib.ListN.{length, length-append}
+use Rattle.text.proofs.DecimalLaws.{decimal_ten}
 use Rattle.text.specs.Writer.{written}
 use Rattle.text.specs.declared.write.Writer.{Writer}
 use Rattle.text.proofs.WriterLaws.{written_append}
 use Rattle.table.specs.Table.{Table}
 use Rattle.table.specs.Lines.{Line, named_at, lines_to, lines_from}
 use Rattle.dot.specs.Dot.{line_text, lines_text}
+
+-- a line between numbers of 32 bits
+pub line_most : (from to : ℕ) → from < 2 ^ 32 → to < 2 ^ 32 → length (line_text (record { from = from; to = to })) ≤ 28
+unfolding line_text
+line_most from to p q = simp length-append (omega (arith, decimal_ten from p, decimal_ten to q))
 
 -- ---- the lines of a row
 

@@ -97,6 +97,16 @@ fn rename_cases(names: &[u32], cases: &mut [u32])
     }
 }
 
+// The same words. (Word by word: `copy_from_slice` has the archive for C ask for memmove.)
+fn copy_words(words: &[u32], new_words: &mut [u32])
+    requires { length new_words.old ≡ length words.now }
+    ensures { new_words.new ≡ words.now }
+{
+    for i in 0..words.len() {
+        new_words[i] = words[i];
+    }
+}
+
 // The whole table: `names` gives a block's number, `rows` the old row of each new one.
 #[tactic(auto, using(crate::proofs::WriteLaws::sizes))]
 pub fn write_table(table: Table<'_>, names: &[u32], rows: &[u32], new_words: &mut [u32])
@@ -108,7 +118,7 @@ pub fn write_table(table: Table<'_>, names: &[u32], rows: &[u32], new_words: &mu
     let instructions = instructions_begin(words) as usize;
     let cases = cases_begin(words) as usize;
     let places = places_begin(words) as usize;
-    new_words.copy_from_slice(words);
+    copy_words(words, new_words);
     new_words[0] = number_in(names, table.entry());
     write_blocks(table, names, rows, &mut new_words[6..instructions]);
     rename_cases(names, &mut new_words[cases..places]);

@@ -42,6 +42,21 @@ decimal_next v d p q =
     let f : (v * 10 + d) % 10 ≡ d = omega arith in
     decimal_more (v * 10 + d) (omega arith) ∙ rw (e, f)
 
+-- a number of two to five digits
+pub decimal_two : (n : ℕ) → 10 ≤ n → n < 100 → decimal n ≡ (48 + n / 10) ∷ (48 + n % 10) ∷ []
+decimal_two n p q = rw (decimal_more n p, decimal_small (n / 10) (omega arith)) refl
+
+pub decimal_three : (n : ℕ) → 100 ≤ n → n < 1000 → decimal n ≡ (48 + n / 10 / 10) ∷ (48 + n / 10 % 10) ∷ (48 + n % 10) ∷ []
+decimal_three n p q = rw (decimal_more n (omega arith), decimal_two (n / 10) (omega arith) (omega arith)) refl
+
+pub decimal_four : (n : ℕ) → 1000 ≤ n → n < 10000
+    → decimal n ≡ (48 + n / 10 / 10 / 10) ∷ (48 + n / 10 / 10 % 10) ∷ (48 + n / 10 % 10) ∷ (48 + n % 10) ∷ []
+decimal_four n p q = rw (decimal_more n (omega arith), decimal_three (n / 10) (omega arith) (omega arith)) refl
+
+pub decimal_five : (n : ℕ) → 10000 ≤ n → n < 100000
+    → decimal n ≡ (48 + n / 10 / 10 / 10 / 10) ∷ (48 + n / 10 / 10 / 10 % 10) ∷ (48 + n / 10 / 10 % 10) ∷ (48 + n / 10 % 10) ∷ (48 + n % 10) ∷ []
+decimal_five n p q = rw (decimal_more n (omega arith), decimal_four (n / 10) (omega arith) (omega arith)) refl
+
 -- ---- length
 
 -- a number of two digits or more has one more than its tenth

@@ -1,20 +1,20 @@
 -- Laws of writing text into a lent buffer.
-use mathlib.Core.Path.{◌≡◌, refl, ap, ◌∙◌}
-use mathlib.Core.Bool.{Bool}
+use mathlib.Core.Path.{◌≡◌, refl, sym, ap, ◌∙◌}
+use mathlib.Core.Bool.{Bool, true, false}
 use mathlib.Core.List.{List, [], ◌∷◌, ◌++◌, append-nil}
-use Rattle.std.specs.Prelude.{Ok}
+use Rattle.std.specs.Prelude.{Ok, Err}
 use Prim.Native.Nat.{ℕ, zero, suc, ◌+◌, ◌-◌, ◌*◌, ◌/◌, ◌^◌, ◌≤◌, ◌<◌}
 use native.Mathlib.Omega.{arith}
 use native.Mathlib.Numerals.{add-one}
 use native.Mathlib.Nat.{add-div_left, div-eq_of_lt, div-zero}
-use lib.Dec.{eqb}
-use borrow.Author.Tests.{le-leb}
+use lib.Dec.{eqb, leb}
+use borrow.Author.Tests.{le-leb, leb-true}
 use lib.ListN.{length, take, drop, get_or, length-append, length-take, length-drop, drop_of_length-le}
 use lib.Seq.{drop-cons, get_or-drop, take-nil, take-append-le, drop_at}
-use Rattle.text.specs.Decimal.{decimal}
+use Rattle.text.specs.Decimal.{choose, decimal}
 use Rattle.text.specs.Line.{after, line, lines, cut, rows_in}
 use Rattle.text.specs.Form.{ending}
-use Rattle.text.specs.Printed.{result_names, tree_names, tree_lines, printed, written_of}
+use Rattle.text.specs.Printed.{result_names, tree_names, tree_lines, printed, Written, no_room, written_of}
 use Rattle.text.specs.File.{Words}
 use Rattle.text.proofs.DecimalLaws.{decimal_ten}
 use Rattle.text.proofs.FormLaws.{after_ending}
@@ -120,3 +120,16 @@ text_fits room text p = rw (le-leb (length text) room p)
 pub written_fits : (room code at rows visits : ℕ) (tree : List ℕ) → Words (code ∷ at ∷ rows ∷ visits ∷ []) → Narrow tree → 77 + length tree / 6 * 66 ≤ room
     → written_of room (printed code at rows visits tree) ≡ Ok (length (printed code at rows visits tree))
 written_fits room code at rows visits tree p q r = text_fits room (printed code at rows visits tree) (omega (arith, printed_most code at rows visits tree p q))
+
+-- what was written lies within the lent bytes
+pub bytes_within : (room end : ℕ) (text : List ℕ) (r : Written) → r ≡ written_of room text → r ≡ Ok end → end ≤ room
+unfolding written_of
+bytes_within room end text r e f = by_room (leb (length text) room) refl (sym e ∙ f)
+  where
+    count : Written → ℕ
+    count (Ok n) = n
+    count (Err none) = 0
+
+    by_room : (b : Bool) → leb (length text) room ≡ b → choose b (λ _. Ok (length text)) (λ _. no_room) ≡ Ok end → end ≤ room
+    by_room true p g = omega (arith, leb-true (length text) room p, ap count g)
+    by_room false p g = omega (arith, ap count g)

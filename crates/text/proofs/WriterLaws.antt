@@ -11,6 +11,7 @@ use lib.Seq.{drop-cons, take-suc-set}
 use Rattle.std.proofs.lemmas.List.{take_at, take_all, take-append-le}
 use borrow.Author.Tests.{ltb-true, ltb-false, le-leb, lt-leb}
 use Rattle.std.specs.Prelude.{Option, Some, None}
+use Rattle.std.specs.Option.{is_some}
 use Rattle.std.specs.Borrow.{MutBor}
 use Rattle.text.specs.Decimal.{choose, decimal}
 use Rattle.text.specs.Line.{line, lines, rows_in}
@@ -66,6 +67,67 @@ rows_end w stride width rest p = rw (rows_none stride width rest p)
 pub rows_absent : (w : Writer) (stride width : ℕ) (words : List ℕ) → stride ≡ 0 → written w (lines (rows_in stride width words)) ≡ w
 unfolding lines written
 rows_absent w stride width words e = rw (e, no_rows width words)
+
+-- a writer that is full stays as it is
+full_byte : (end : Option ℕ) (w : Writer) (byte : ℕ) → is_some end ≡ false → byte_at end w byte ≡ record w { end = None }
+unfolding byte_at
+full_byte None w byte e = refl
+full_byte (Some end) w byte e = absurd (let one : ◌≡◌ {A = ℕ} 1 0 = ap (λ (b : Bool). elim b [ true ↦ 1 | false ↦ 0 ]) e in omega (arith, one))
+
+end_none : (end : Option ℕ) → is_some end ≡ false → end ≡ None
+end_none None e = refl
+end_none (Some end) e = absurd (let one : ◌≡◌ {A = ℕ} 1 0 = ap (λ (b : Bool). elim b [ true ↦ 1 | false ↦ 0 ]) e in omega (arith, one))
+
+pub written_full : (w : Writer) (text : List ℕ) → is_some w.end ≡ false → written w text ≡ w
+unfolding written
+written_full w [] e = refl
+written_full w (byte ∷ text) e =
+    let same : record w { end = None } ≡ w = ap (λ (end : Option ℕ). record w { end = end }) (sym (end_none w.end e)) in
+    rw (full_byte w.end w byte e) (written_full (record w { end = None }) text refl ∙ same)
+
+-- ---- a writer over the same bytes under another name
+
+abbrev pub named : (n : ℕ) → Writer → Writer
+named n w = record w { out = record w.out { ghost_name = n } }
+
+named_byte : (n : ℕ) (end : Option ℕ) (w : Writer) (byte : ℕ) → byte_at end (named n w) byte ≡ named n (byte_at end w byte)
+unfolding byte_at
+named_byte n None w byte = refl
+named_byte n (Some end) w byte = by (ltb end (length w.out.now))
+  where
+    by : (b : Bool)
+        → choose b (λ _. record (named n w) { out = record (named n w).out { now = set w.out.now end byte }; end = Some (end + 1) }) (λ _. record (named n w) { end = None })
+        ≡ named n (choose b (λ _. record w { out = record w.out { now = set w.out.now end byte }; end = Some (end + 1) }) (λ _. record w { end = None }))
+    by true = refl
+    by false = refl
+
+named_written : (n : ℕ) (w : Writer) (text : List ℕ) → written (named n w) text ≡ named n (written w text)
+unfolding written
+named_written n w [] = refl
+named_written n w (byte ∷ text) = rw (named_byte n w.end w byte) (named_written n (byte_at w.end w byte) text)
+
+-- of the bytes that were lent only what they hold changes
+out_byte : (end : Option ℕ) (w : Writer) (byte : ℕ) (now : List ℕ) → record (byte_at end w byte).out { now = now } ≡ record w.out { now = now }
+unfolding byte_at
+out_byte None w byte now = refl
+out_byte (Some end) w byte now = by (ltb end (length w.out.now))
+  where
+    by : (b : Bool)
+        → record (choose b (λ _. record w { out = record w.out { now = set w.out.now end byte }; end = Some (end + 1) }) (λ _. record w { end = None })).out { now = now }
+        ≡ record w.out { now = now }
+    by true = refl
+    by false = refl
+
+out_written : (w : Writer) (text : List ℕ) (now : List ℕ) → record (written w text).out { now = now } ≡ record w.out { now = now }
+unfolding written
+out_written w [] now = refl
+out_written w (byte ∷ text) now = out_written (byte_at w.end w byte) text now ∙ out_byte w.end w byte now
+
+-- so what such a writer has written in its place is written
+pub written_back : (n : ℕ) (w : Writer) (text : List ℕ) {v : Writer} {now : List ℕ} → v ≡ written (named n w) text → now ≡ v.out.now
+    → record { out = record w.out { now = now }; end = v.end } ≡ written w text
+written_back n w text e f =
+    rw (f, e, named_written n w text) (ap (λ (out : MutBor (List ℕ)). record { out = out; end = (written w text).end }) (sym (out_written w text (written w text).out.now)))
 
 -- ---- the end
 
@@ -155,6 +217,9 @@ pub name_kept : (w : Writer) (text : List ℕ) → (written w text).out.ghost_na
 unfolding written
 name_kept w [] = refl
 name_kept w (byte ∷ text) = name_kept (byte_at w.end w byte) text ∙ name_byte w.end w byte
+
+pub name_written : (w : Writer) (text : List ℕ) {v : Writer} → v ≡ written w text → v.out.ghost_name ≡ w.out.ghost_name
+name_written w text e = rw e (name_kept w text)
 
 pub same_reference : (b : MutBor (List ℕ)) (text : List ℕ) {w : Writer} → w ≡ written (opened b) text → w.out.ghost_name ≡ b.ghost_name
 same_reference b text e = rw e (name_kept (opened b) text)

@@ -1,5 +1,5 @@
 // A text, and a result's lines, into lent bytes.
-ghost use Rattle.std.specs.Prelude.{◌≡◌, ◌+◌, ◌*◌, ◌/◌, ◌≤◌, length};
+ghost use Rattle.std.specs.Prelude.{◌≡◌, ◌+◌, ◌*◌, ◌/◌, ◌<◌, ◌≤◌, length, drop};
 ghost use Rattle.text.specs.Decimal.{decimal};
 ghost use Rattle.text.specs.Line.{line, lines, rows_in};
 ghost use Rattle.text.specs.Printed.{printed};
@@ -21,6 +21,23 @@ pub struct Numbers {
     pub visits: u32,
 }
 
+// Puts the digits of a number at the end of ten bytes, from the last on, and gives the first one's place.
+#[inline(never)]
+fn put_digits(digits: &mut [u8; 10], n: u32) -> usize
+    ensures within { result ≤ 10 }
+    ensures digits { drop result digits.new ≡ decimal n }
+{
+    let mut first = 9;
+    let mut rest = n;
+    while rest >= 10 {
+        digits[first] = b'0' + (rest % 10) as u8;
+        first -= 1;
+        rest /= 10;
+    }
+    digits[first] = b'0' + rest as u8;
+    first
+}
+
 // Writes into lent bytes from their begin on. Once a byte finds no place there is no end any more, nothing else is written, and `finish` says
 // so; a writer is not Drop, so that it is finished. (No Result at each step: a text is many steps, and its caller asks once. No `fmt::Write`:
 // where `write!` fails its contract says nothing of what was written, and here it says just which texts fit.)
@@ -36,6 +53,7 @@ impl<'a> Writer<'a> {
         Writer { out, end: Some(0) }
     }
 
+    #[inline(always)]
     fn byte(&mut self, byte: u8)
         ensures { self.new ≡ byte_at self.old.end self.old byte }
     {
@@ -48,7 +66,8 @@ impl<'a> Writer<'a> {
         };
     }
 
-    pub fn bytes(&mut self, bytes: &[u8])
+    #[inline(always)]
+    fn each_byte(&mut self, bytes: &[u8])
         ensures { self.new ≡ written self.old bytes.now }
     {
         for byte in bytes {
@@ -56,23 +75,69 @@ impl<'a> Writer<'a> {
         }
     }
 
-    // A number in decimal: its digits from the last on, then all at once. (A call for each digit costs the largest drawing a third more time.)
+    // (A writer of its own over the same bytes, here and in `rows`: so the place of the next byte stays in a register.)
+    #[inline(always)]
+    pub fn bytes(&mut self, bytes: &[u8])
+        ensures { self.new ≡ written self.old bytes.now }
+    {
+        let mut writer = Writer {
+            out: &mut *self.out,
+            end: self.end,
+        };
+        writer.each_byte(bytes);
+        let Writer { out: _, end } = writer;
+        self.end = end;
+    }
+
+    // A number in decimal. (Most are short: a call for each digit, or ten bytes for each number, costs the largest drawing twice the time. A
+    // writer's place of the next byte stays in a register where all is inlined into the function that has the writer.)
+    #[inline(always)]
     pub fn number(&mut self, n: u32)
         ensures { self.new ≡ written self.old (decimal n) }
     {
-        let mut digits = [b'0'; 10];
-        let mut first = 9;
-        let mut rest = n;
-        while rest >= 10 {
-            digits[first] = b'0' + (rest % 10) as u8;
-            first -= 1;
-            rest /= 10;
+        if n < 100000 {
+            self.short_number(n);
+        } else {
+            let mut digits = [b'0'; 10];
+            let first = put_digits(&mut digits, n);
+            self.each_byte(&digits[first..]);
         }
-        digits[first] = b'0' + rest as u8;
-        self.bytes(&digits[first..]);
+    }
+
+    // A number of at most five digits: one after the other.
+    #[inline(always)]
+    fn short_number(&mut self, n: u32)
+        requires { n < 100000 }
+        ensures { self.new ≡ written self.old (decimal n) }
+    {
+        if n < 10 {
+            self.byte(b'0' + n as u8);
+            return;
+        }
+        let last = b'0' + (n % 10) as u8;
+        if n < 100 {
+            self.byte(b'0' + (n / 10) as u8);
+            self.byte(last);
+        } else if n < 1000 {
+            self.byte(b'0' + (n / 10 / 10) as u8);
+            self.byte(b'0' + (n / 10 % 10) as u8);
+            self.byte(last);
+        } else if n < 10000 {
+            self.byte(b'0' + (n / 10 / 10 / 10) as u8);
+            self.byte(b'0' + (n / 10 / 10 % 10) as u8);
+            self.byte(b'0' + (n / 10 % 10) as u8);
+            self.byte(last);
+        } else {
+            self.byte(b'0' + (n / 10 / 10 / 10 / 10) as u8);
+            self.byte(b'0' + (n / 10 / 10 / 10 % 10) as u8);
+            self.byte(b'0' + (n / 10 / 10 % 10) as u8);
+            self.byte(b'0' + (n / 10 % 10) as u8);
+            self.byte(last);
+        }
     }
 
     // A line of numbers.
+    #[inline(always)]
     pub fn line(&mut self, numbers: &[u32])
         ensures { self.new ≡ written self.old (line numbers.now) }
     {
@@ -82,8 +147,9 @@ impl<'a> Writer<'a> {
         }
     }
 
-    // A line for each whole row of `stride` words: its first `width`. Rows of no words have no lines.
-    pub fn rows(&mut self, words: &[u32], stride: usize, width: usize)
+    // The lines of `rows`; none any more once the lent bytes are full.
+    #[inline(always)]
+    fn each_row(&mut self, words: &[u32], stride: usize, width: usize)
         requires { width ≤ stride }
         ensures { self.new ≡ written self.old (lines (rows_in stride width words.now)) }
     {
@@ -91,8 +157,25 @@ impl<'a> Writer<'a> {
             return;
         }
         for row in words.chunks_exact(stride) {
+            if self.end.is_none() {
+                return;
+            }
             self.line(&row[..width]);
         }
+    }
+
+    // A line for each whole row of `stride` words: its first `width`. Rows of no words have no lines.
+    pub fn rows(&mut self, words: &[u32], stride: usize, width: usize)
+        requires { width ≤ stride }
+        ensures { self.new ≡ written self.old (lines (rows_in stride width words.now)) }
+    {
+        let mut writer = Writer {
+            out: &mut *self.out,
+            end: self.end,
+        };
+        writer.each_row(words, stride, width);
+        let Writer { out: _, end } = writer;
+        self.end = end;
     }
 
     // Ends the text with zeros; or there are zeros alone, if it did not fit.
@@ -114,6 +197,7 @@ impl<'a> Writer<'a> {
 }
 
 // The lines of a result.
+#[inline(always)]
 fn write_result(writer: &mut Writer<'_>, numbers: Numbers, tree: &[u32])
     ensures { writer.new ≡ written writer.old (printed numbers.code numbers.at numbers.rows numbers.visits tree.now) }
 {

@@ -82,7 +82,7 @@ impl Walk<'_> {
         let taken = self.loop_is_taken(end.loop_block, end.fallthrough);
         let id = self.cx.next_schedule_id;
         self.schedule_loop(end.fallthrough, end.test, end.loop_block)?;
-        self.visit_value(table, levels, end.test, head.span)?;
+        self.visit_value(table, levels, end.test, head.span)?; // the line begins with these rows
         self.traverse_loop(table, around, levels, block, label, end.loop_block, taken)?;
         self.unschedule(id)?;
         self.close(label, first, Op::While, head.id, or_none(label), 0, 0, 0);

@@ -1,9 +1,7 @@
-use Rattle.std.proofs.Common.{sym, ◌∙◌}
-use Rattle.text.proofs.WriterLaws.{bytes_more, bytes_done}
+-- `bytes` writes by a writer over the same bytes, and takes over its end (`written_back`).
+use Rattle.std.proofs.Common.{rules}
+use Rattle.text.proofs.WriterLaws.{name_written, written_back}
 use Rattle.text.proofs.write.Writer.bytes.Goals as goal
 
-pub loop-byte-preserved : goal.loop-byte-preserved
-loop-byte-preserved c = rw c.byte.ensures (sym (bytes_more _ _ _ c.loop-byte-test.true) ∙ c.loop-byte.invariant)
-
 pub returns : goal.returns
-returns c = sym (bytes_done _ _ _ c.loop-byte-test.false) ∙ c.loop-byte.invariant
+returns c = written_back _ c.args.self.now c.args.bytes.now c.each_byte.ensures (search (rules, name_written _ _ c.each_byte.ensures))

@@ -1,22 +1,9 @@
-use Rattle.std.proofs.Common.{refl, sym, ◌∙◌, ◌<◌, arith}
-use Rattle.text.proofs.WriterLaws.{rows_more, rows_end, rows_absent}
+-- `rows` writes by a writer over the same bytes, and takes over its end (`written_back`).
+use Rattle.std.proofs.Common.{rules}
+use Rattle.text.specs.Line.{lines, rows_in}
+use Rattle.text.proofs.WriterLaws.{name_written, written_back}
 use Rattle.text.proofs.write.Writer.rows.Goals as goal
-
-pub returns-then-stride-eq0 : goal.returns-then-stride-eq0
-returns-then-stride-eq0 c = sym (rows_absent _ _ _ _ c.if-stride-eq0.true)
-
-pub loop-row-init : goal.loop-row-init
-loop-row-init c = rw (c.into_iter-row-iterator.ensures.into_iter_gives, c.chunks_exact-row-items.ensures.rest, c.chunks_exact-row-items.ensures.size) (refl, refl)
-
-pub loop-row-preserved : goal.loop-row-preserved
-loop-row-preserved c =
-    let (size, I) = c.loop-row.invariant in
-    let step = c.in-Some.ensures.steps in
-    let some : 0 < c.args.stride = omega (arith, c.if-stride-eq0.false) in
-    (step.0 ∙ size, rw c.line.ensures (sym (rows_more _ _ _ _ _ some c.requires (step.1.1 ∙ size)) ∙ rw step.1.0 at I))
 
 pub returns : goal.returns
 returns c =
-    let (size, I) = c.loop-row.invariant in
-    let few = rw size at c.in-None.ensures.steps.1.0 in
-    sym (rows_end _ _ _ _ few) ∙ I
+    written_back _ c.args.self.now (lines (rows_in c.args.stride c.args.width c.args.words.now)) c.each_row.ensures (search (rules, name_written _ _ c.each_row.ensures))

@@ -1,7 +1,7 @@
--- `text::write::Writer::bytes` meets its contract. The invariant: with the bytes that are left it is the writer after all of them. WriterLaws has one byte more and the end.
+-- `text::write::Writer::each_byte` meets its contract. The invariant: with the bytes that are left it is the writer after all of them. WriterLaws has one byte more and the end.
 use Rattle.std.proofs.Common.{◌≡◌, drop}
 use Rattle.text.specs.Writer.{written}
-use Rattle.text.proofs.write.Writer.bytes.Given as goal
+use Rattle.text.proofs.write.Writer.each_byte.Given as goal
 
 abbrev pub invariant-loop-byte : goal.invariant-loop-byte
 invariant-loop-byte l = written l.self (drop l.byte-index l.bytes) ≡ written l.initial.self l.bytes

@@ -1,8 +1,8 @@
--- `text::write::Writer::number` meets its contract. The invariant: the number's digits are those of the rest, then those written, and there are places for all.
+-- `text::write::put_digits` meets its contract. The invariant: the number's digits are those of the rest, then those written, and there are places for all.
 -- DecimalLaws has one digit more.
 use Rattle.std.proofs.Common.{◌≡◌, ◌++◌, ◌+◌, ◌<◌, ◌≤◌, length, drop}
 use Rattle.text.specs.Decimal.{decimal}
-use Rattle.text.proofs.write.Writer.number.Given as goal
+use Rattle.text.proofs.write.put_digits.Given as goal
 
 abbrev pub invariant-loop-rest : goal.invariant-loop-rest
 invariant-loop-rest l =

@@ -1,10 +1,10 @@
--- `text::write::Writer::rows` meets its contract. The invariant: with the lines of the rows that are left it is the writer after the lines of all rows.
+-- `text::write::Writer::each_row` meets its contract. The invariant: with the lines of the rows that are left it is the writer after the lines of all rows.
 -- WriterLaws has one row more and the end.
 use Rattle.std.proofs.Common.{◌≡◌}
 use Rattle.std.specs.Slice.Iter.{chunks_exact_rest, chunks_exact_size}
 use Rattle.text.specs.Line.{lines, rows_in}
 use Rattle.text.specs.Writer.{written}
-use Rattle.text.proofs.write.Writer.rows.Given as goal
+use Rattle.text.proofs.write.Writer.each_row.Given as goal
 
 abbrev pub invariant-loop-row : goal.invariant-loop-row
 invariant-loop-row l =
