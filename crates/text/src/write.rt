@@ -160,6 +160,22 @@ impl<'a> Writer<'a> {
         }
     }
 
+    // A number, whose digits, ten at most, all find a place.
+    #[inline(always)]
+    fn put_number(&mut self, n: u32)
+        requires { 10 ≤ room self.old }
+        ensures put { self.new ≡ written self.old (decimal n) }
+        ensures left { room self.old ≤ room self.new + 10 }
+    {
+        if n < 100000 {
+            self.put_short(n);
+        } else {
+            let mut digits = [b'0'; 10];
+            let first = put_digits(&mut digits, n);
+            self.put_bytes(&digits[first..]);
+        }
+    }
+
     // A number in decimal. (Most are short and find a place. A call for each digit, or ten bytes for each number, takes twice the time.)
     #[inline(always)]
     pub fn number(&mut self, n: u32)
@@ -232,14 +248,38 @@ impl<'a> Writer<'a> {
         }
     }
 
-    // A line of numbers.
+    // A line of numbers that all find a place, each of ten digits at most and what ends it.
     #[inline(always)]
-    pub fn line(&mut self, numbers: &[u32])
+    fn put_line(&mut self, numbers: &[u32])
+        requires { length numbers.now * 11 ≤ room self.old }
+        ensures { self.new ≡ written self.old (line numbers.now) }
+    {
+        for (i, number) in numbers.iter().enumerate() {
+            self.put_number(*number);
+            self.put(ending_byte(i + 1 == numbers.len()));
+        }
+    }
+
+    // The same in whatever room there is.
+    #[inline(always)]
+    fn each_of_line(&mut self, numbers: &[u32])
         ensures { self.new ≡ written self.old (line numbers.now) }
     {
         for (i, number) in numbers.iter().enumerate() {
             self.number(*number);
             self.byte(ending_byte(i + 1 == numbers.len()));
+        }
+    }
+
+    // A line of numbers. (Where all find a place, as most do, one look at the room is enough.)
+    #[inline(always)]
+    pub fn line(&mut self, numbers: &[u32])
+        ensures { self.new ≡ written self.old (line numbers.now) }
+    {
+        if numbers.len().saturating_mul(11) < self.room() {
+            self.put_line(numbers);
+        } else {
+            self.each_of_line(numbers);
         }
     }
 
