@@ -12,7 +12,6 @@ use table::Table;
 use text::write::Writer;
 
 // A line for a block, if there is one.
-#[inline(always)]
 fn write_if(writer: &mut Writer<'_>, row: u32, block: Option<u32>)
     ensures { writer.new ≡ written writer.old (lines_text (lines_to row (present (block ∷ [])))) }
 {
@@ -22,7 +21,6 @@ fn write_if(writer: &mut Writer<'_>, row: u32, block: Option<u32>)
 }
 
 // A line for each block that the row names.
-#[inline(always)]
 fn write_row(table: Table<'_>, writer: &mut Writer<'_>, row: u32)
     requires { row < block_count table.words.now }
     ensures { writer.new ≡ written writer.old (lines_text (lines_to row (named_at (table_of table.entry.words.now) row))) }
@@ -36,7 +34,6 @@ fn write_row(table: Table<'_>, writer: &mut Writer<'_>, row: u32)
     }
 }
 
-#[inline(always)]
 fn write_rows(table: Table<'_>, writer: &mut Writer<'_>)
     ensures { writer.new ≡ written writer.old (lines_text (lines (table_of table.entry.words.now))) }
 {
@@ -45,7 +42,6 @@ fn write_rows(table: Table<'_>, writer: &mut Writer<'_>)
     }
 }
 
-#[inline(always)]
 pub fn write_graph(table: Table<'_>, writer: &mut Writer<'_>)
     ensures { writer.new ≡ written writer.old (graph_text (table_of table.entry.words.now)) }
 {

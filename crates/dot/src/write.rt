@@ -5,13 +5,8 @@ ghost use Rattle.dot.specs.Dot.{line_text};
 
 use text::write::Writer;
 
-#[inline(always)]
 pub fn write_line(writer: &mut Writer<'_>, from: u32, to: u32)
     ensures { writer.new ≡ written writer.old (line_text (record { from = from; to = to })) }
 {
-    writer.bytes(b"n");
-    writer.number(from);
-    writer.bytes(b" -> n");
-    writer.number(to);
-    writer.bytes(b";\n");
+    writer.two_numbers(b"n", from, b" -> n", to, b";\n");
 }

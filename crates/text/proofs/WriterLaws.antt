@@ -9,7 +9,7 @@ use lib.Dec.{ltb, eqb}
 use lib.ListN.{length, take, drop, get_or, set, length-set, length-append, drop_of_length-le}
 use lib.Seq.{drop-cons, take-suc-set}
 use Rattle.std.proofs.lemmas.List.{take_at, take_all, take-append-le}
-use borrow.Author.Tests.{ltb-true, ltb-false, le-leb, lt-leb}
+use borrow.Author.Tests.{ltb-true, ltb-false, lt-ltb, le-leb, lt-leb}
 use Rattle.std.specs.Prelude.{Option, Some, None}
 use Rattle.std.specs.Option.{is_some}
 use Rattle.std.specs.Borrow.{MutBor}
@@ -18,7 +18,7 @@ use Rattle.text.specs.Line.{line, lines, rows_in}
 use Rattle.text.specs.Form.{ending}
 use Rattle.text.specs.Printed.{Written, written_of, lent_of}
 use Rattle.text.specs.Prints.{Printing, printing}
-use Rattle.text.specs.Writer.{opened, byte_at, written, closed}
+use Rattle.text.specs.Writer.{opened, byte_at, written, room_at, room, closed}
 use Rattle.text.specs.declared.write.Writer.{Writer}
 use Rattle.text.proofs.WriteLaws.{line_open, line_done, rows_open, rows_none, no_rows}
 
@@ -85,6 +85,16 @@ written_full w (byte ∷ text) e =
     let same : record w { end = None } ≡ w = ap (λ (end : Option ℕ). record w { end = end }) (sym (end_none w.end e)) in
     rw (full_byte w.end w byte e) (written_full (record w { end = None }) text refl ∙ same)
 
+-- ---- the room that is left
+
+room_byte : (end : Option ℕ) (w : Writer) (byte : ℕ) → 1 ≤ room_at end w → room (byte_at end w byte) + 1 ≡ room_at end w
+unfolding byte_at room_at
+room_byte None w byte p = absurd (omega (arith, p))
+room_byte (Some end) w byte p = rw (lt-ltb end (length w.out.now) (omega (arith, p)), length-set w.out.now end byte) (omega (arith, p))
+
+pub room_put : (w : Writer) (byte : ℕ) {v : Writer} → v ≡ byte_at w.end w byte → 1 ≤ room w → room v + 1 ≡ room w
+room_put w byte e p = rw e (room_byte w.end w byte p)
+
 -- ---- a writer over the same bytes under another name
 
 abbrev pub named : (n : ℕ) → Writer → Writer
@@ -105,6 +115,14 @@ named_written : (n : ℕ) (w : Writer) (text : List ℕ) → written (named n w)
 unfolding written
 named_written n w [] = refl
 named_written n w (byte ∷ text) = rw (named_byte n w.end w byte) (named_written n (byte_at w.end w byte) text)
+
+named_room : (n : ℕ) (end : Option ℕ) (w : Writer) → room_at end (named n w) ≡ room_at end w
+unfolding room_at
+named_room n None w = refl
+named_room n (Some end) w = refl
+
+pub room_named : (n : ℕ) (w : Writer) {k : ℕ} → k ≤ room w → k ≤ room (named n w)
+room_named n w p = rw (named_room n w.end w) p
 
 -- of the bytes that were lent only what they hold changes
 out_byte : (end : Option ℕ) (w : Writer) (byte : ℕ) (now : List ℕ) → record (byte_at end w byte).out { now = now } ≡ record w.out { now = now }

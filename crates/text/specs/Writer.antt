@@ -23,6 +23,14 @@ unfoldable pub written : Writer → (text : List ℕ) → Writer
 written w [] = w
 written w (byte ∷ text) = written (byte_at w.end w byte) text
 
+-- the places that are left
+unfoldable pub room_at : (end : Option ℕ) → Writer → ℕ
+room_at None w = 0
+room_at (Some end) w = length w.out.now - end
+
+abbrev pub room : Writer → ℕ
+room w = room_at w.end w
+
 -- the answer, and what the lent bytes hold in the end: what was written and zeros; zeros alone, if it did not fit
 unfoldable pub closed : Writer → Printing
 closed w =

@@ -24,19 +24,24 @@ impl Reader<'_> {
     ghost use Rattle.text.specs.Form.{rows, table, tables};
     ghost use Rattle.text.specs.Steps.{PartRead, RowRead};
 
-    // Reads a line of `width` numbers into the words, as far as there are places for them.
+    // Reads a line of `width` numbers into the words, as far as there are places for them. (Its own places of the next byte and word stay in registers.)
     pub fn row(&mut self, width: usize) -> Result<(), usize>
         ensures file { self.new.file ≡ self.old.file }
         ensures lent { self.new.words.ghost_name ≡ self.old.words.ghost_name }
         ensures long { length self.new.words.now ≡ length self.old.words.now }
         ensures read { RowRead width self.old result self.new }
     {
+        let file = self.file;
+        let mut at = self.at;
+        let mut count = self.count;
         for i in 0..width {
-            let number = read_number(self.file, self.at, i + 1 == width)?;
-            put(self.words, self.count, number.value);
-            self.at = number.end;
-            self.count += 1;
+            let number = read_number(file, at, i + 1 == width)?;
+            put(self.words, count, number.value);
+            at = number.end;
+            count += 1;
         }
+        self.at = at;
+        self.count = count;
         Ok(())
     }
 

@@ -1,10 +1,10 @@
 // A text, and a result's lines, into lent bytes.
-ghost use Rattle.std.specs.Prelude.{◌≡◌, ◌+◌, ◌*◌, ◌/◌, ◌<◌, ◌≤◌, length, drop};
+ghost use Rattle.std.specs.Prelude.{◌≡◌, ◌++◌, ◌+◌, ◌*◌, ◌/◌, ◌<◌, ◌≤◌, length, drop};
 ghost use Rattle.text.specs.Decimal.{decimal};
 ghost use Rattle.text.specs.Line.{line, lines, rows_in};
 ghost use Rattle.text.specs.Printed.{printed};
 ghost use Rattle.text.specs.Prints.{WrittenText};
-ghost use Rattle.text.specs.Writer.{opened, byte_at, written, closed};
+ghost use Rattle.text.specs.Writer.{opened, byte_at, written, room, closed};
 
 use crate::number::ending_byte;
 
@@ -75,7 +75,7 @@ impl<'a> Writer<'a> {
         }
     }
 
-    // (A writer of its own over the same bytes, here and in `rows`: so the place of the next byte stays in a register.)
+    // (A writer of its own over the same bytes, here, in `two_numbers` and in `rows`: so the place of the next byte stays in a register.)
     #[inline(always)]
     pub fn bytes(&mut self, bytes: &[u8])
         ensures { self.new ≡ written self.old bytes.now }
@@ -89,14 +89,100 @@ impl<'a> Writer<'a> {
         self.end = end;
     }
 
-    // A number in decimal. (Most are short: a call for each digit, or ten bytes for each number, costs the largest drawing twice the time. A
-    // writer's place of the next byte stays in a register where all is inlined into the function that has the writer.)
+    // How many bytes still find a place.
+    #[inline(always)]
+    fn room(&self) -> usize
+        ensures { result ≡ room self.now }
+    {
+        match self.end {
+            Some(end) => self.out.len().saturating_sub(end),
+            None => 0,
+        }
+    }
+
+    // A byte that finds a place.
+    #[inline(always)]
+    fn put(&mut self, byte: u8)
+        requires { 1 ≤ room self.old }
+        ensures put { self.new ≡ byte_at self.old.end self.old byte }
+        ensures left { room self.new + 1 ≡ room self.old }
+    {
+        if let Some(end) = self.end {
+            prove!(end < self.out.len());
+            self.out[end] = byte;
+            self.end = Some(end + 1);
+        }
+    }
+
+    // Bytes that all find a place.
+    #[inline(always)]
+    fn put_bytes(&mut self, bytes: &[u8])
+        requires { length bytes.now ≤ room self.old }
+        ensures put { self.new ≡ written self.old bytes.now }
+        ensures left { room self.new + length bytes.now ≡ room self.old }
+    {
+        for byte in bytes {
+            self.put(*byte);
+        }
+    }
+
+    // A number of at most five digits, which all find a place: one after the other.
+    #[inline(always)]
+    fn put_short(&mut self, n: u32)
+        requires short { n < 100000 }
+        requires room { 5 ≤ room self.old }
+        ensures put { self.new ≡ written self.old (decimal n) }
+        ensures left { room self.old ≤ room self.new + 5 }
+    {
+        if n < 10 {
+            self.put(b'0' + n as u8);
+            return;
+        }
+        let last = b'0' + (n % 10) as u8;
+        if n < 100 {
+            self.put(b'0' + (n / 10) as u8);
+            self.put(last);
+        } else if n < 1000 {
+            self.put(b'0' + (n / 10 / 10) as u8);
+            self.put(b'0' + (n / 10 % 10) as u8);
+            self.put(last);
+        } else if n < 10000 {
+            self.put(b'0' + (n / 10 / 10 / 10) as u8);
+            self.put(b'0' + (n / 10 / 10 % 10) as u8);
+            self.put(b'0' + (n / 10 % 10) as u8);
+            self.put(last);
+        } else {
+            self.put(b'0' + (n / 10 / 10 / 10 / 10) as u8);
+            self.put(b'0' + (n / 10 / 10 / 10 % 10) as u8);
+            self.put(b'0' + (n / 10 / 10 % 10) as u8);
+            self.put(b'0' + (n / 10 % 10) as u8);
+            self.put(last);
+        }
+    }
+
+    // A number, whose digits, ten at most, all find a place.
+    #[inline(always)]
+    fn put_number(&mut self, n: u32)
+        requires { 10 ≤ room self.old }
+        ensures put { self.new ≡ written self.old (decimal n) }
+        ensures left { room self.old ≤ room self.new + 10 }
+    {
+        if n < 100000 {
+            self.put_short(n);
+        } else {
+            let mut digits = [b'0'; 10];
+            let first = put_digits(&mut digits, n);
+            self.put_bytes(&digits[first..]);
+        }
+    }
+
+    // A number in decimal. (Most are short and find a place. A call for each digit, or ten bytes for each number, takes twice the time.)
     #[inline(always)]
     pub fn number(&mut self, n: u32)
         ensures { self.new ≡ written self.old (decimal n) }
     {
-        if n < 100000 {
-            self.short_number(n);
+        if n < 100000 && self.room() >= 5 {
+            self.put_short(n);
         } else {
             let mut digits = [b'0'; 10];
             let first = put_digits(&mut digits, n);
@@ -104,46 +190,96 @@ impl<'a> Writer<'a> {
         }
     }
 
-    // A number of at most five digits: one after the other.
+    // Two short numbers, with a text before, between and after them, which all find a place.
     #[inline(always)]
-    fn short_number(&mut self, n: u32)
-        requires { n < 100000 }
-        ensures { self.new ≡ written self.old (decimal n) }
+    fn put_two(&mut self, before: &[u8], first: u32, between: &[u8], second: u32, after: &[u8])
+        requires first_short { first < 100000 }
+        requires second_short { second < 100000 }
+        requires room { length before.now + (5 + (length between.now + (5 + length after.now))) ≤ room self.old }
+        ensures { self.new ≡ written self.old (before.now ++ (decimal first ++ (between.now ++ (decimal second ++ after.now)))) }
     {
-        if n < 10 {
-            self.byte(b'0' + n as u8);
-            return;
-        }
-        let last = b'0' + (n % 10) as u8;
-        if n < 100 {
-            self.byte(b'0' + (n / 10) as u8);
-            self.byte(last);
-        } else if n < 1000 {
-            self.byte(b'0' + (n / 10 / 10) as u8);
-            self.byte(b'0' + (n / 10 % 10) as u8);
-            self.byte(last);
-        } else if n < 10000 {
-            self.byte(b'0' + (n / 10 / 10 / 10) as u8);
-            self.byte(b'0' + (n / 10 / 10 % 10) as u8);
-            self.byte(b'0' + (n / 10 % 10) as u8);
-            self.byte(last);
-        } else {
-            self.byte(b'0' + (n / 10 / 10 / 10 / 10) as u8);
-            self.byte(b'0' + (n / 10 / 10 / 10 % 10) as u8);
-            self.byte(b'0' + (n / 10 / 10 % 10) as u8);
-            self.byte(b'0' + (n / 10 % 10) as u8);
-            self.byte(last);
+        self.put_bytes(before);
+        self.put_short(first);
+        self.put_bytes(between);
+        self.put_short(second);
+        self.put_bytes(after);
+    }
+
+    // The same of any numbers, in whatever room there is.
+    #[inline(never)]
+    fn each_of_two(&mut self, before: &[u8], first: u32, between: &[u8], second: u32, after: &[u8])
+        ensures { self.new ≡ written self.old (before.now ++ (decimal first ++ (between.now ++ (decimal second ++ after.now)))) }
+    {
+        self.bytes(before);
+        self.number(first);
+        self.bytes(between);
+        self.number(second);
+        self.bytes(after);
+    }
+
+    // Two numbers in decimal, with a text before, between and after them. (Most are short and find a place: one look at the room is enough for all
+    // of it. The sum stops at 2 ^ 64 - 1, so the room has to be larger.)
+    #[inline(always)]
+    pub fn two_numbers(
+        &mut self,
+        before: &[u8],
+        first: u32,
+        between: &[u8],
+        second: u32,
+        after: &[u8],
+    )
+        ensures { self.new ≡ written self.old (before.now ++ (decimal first ++ (between.now ++ (decimal second ++ after.now)))) }
+    {
+        let most = before
+            .len()
+            .saturating_add(between.len())
+            .saturating_add(after.len())
+            .saturating_add(10);
+        if first < 100000 && second < 100000 && most < self.room() {
+            let mut writer = Writer {
+                out: &mut *self.out,
+                end: self.end,
+            };
+            writer.put_two(before, first, between, second, after);
+            let Writer { out: _, end } = writer;
+            self.end = end;
+        } else if self.end.is_some() {
+            self.each_of_two(before, first, between, second, after);
         }
     }
 
-    // A line of numbers.
+    // A line of numbers that all find a place, each of ten digits at most and what ends it.
     #[inline(always)]
-    pub fn line(&mut self, numbers: &[u32])
+    fn put_line(&mut self, numbers: &[u32])
+        requires { length numbers.now * 11 ≤ room self.old }
+        ensures { self.new ≡ written self.old (line numbers.now) }
+    {
+        for (i, number) in numbers.iter().enumerate() {
+            self.put_number(*number);
+            self.put(ending_byte(i + 1 == numbers.len()));
+        }
+    }
+
+    // The same in whatever room there is.
+    #[inline(always)]
+    fn each_of_line(&mut self, numbers: &[u32])
         ensures { self.new ≡ written self.old (line numbers.now) }
     {
         for (i, number) in numbers.iter().enumerate() {
             self.number(*number);
             self.byte(ending_byte(i + 1 == numbers.len()));
+        }
+    }
+
+    // A line of numbers. (Where all find a place, as most do, one look at the room is enough.)
+    #[inline(always)]
+    pub fn line(&mut self, numbers: &[u32])
+        ensures { self.new ≡ written self.old (line numbers.now) }
+    {
+        if numbers.len().saturating_mul(11) < self.room() {
+            self.put_line(numbers);
+        } else {
+            self.each_of_line(numbers);
         }
     }
 

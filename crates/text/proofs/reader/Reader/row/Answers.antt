@@ -10,13 +10,13 @@ use Rattle.text.proofs.PartLaws.{row_open, row_done}
 use Rattle.text.proofs.reader.Reader.row.Goals as goal
 
 pub loop-i-init : goal.loop-i-init
-loop-i-init c = record { file = refl; lent = refl; long = refl; numbers = []; many = refl; here = λ root before next h. rw (append-nil before, sub-zero c.args.width) h }
+loop-i-init c = record { file = refl; lent = refl; long = refl; within = c.args.self.now.within; few = c.args.self.now.few; numbers = []; many = refl; here = λ root before next h. rw (append-nil before, sub-zero c.args.width) h }
 
 pub returns-in_err-number-clause-read : goal.returns-in_err-number-clause-read
 returns-in_err-number-clause-read c =
     let p = err_from_is_err_and c.from_residual.result c.from_residual.ensures.1 in
     let I = c.loop-i.invariant in
-    rw (p.1, p.2) (λ root before next h. rw (← I.file) (c.in_err-number.ensures root _ _ (rw (row_open _ _ _ next c.loop-i-test.true) at (I.here root before next h).reached)))
+    rw (p.1, p.2) (λ root before next h. c.in_err-number.ensures root _ _ (rw (row_open _ _ _ next c.loop-i-test.true) at (I.here root before next h).reached))
 
 pub loop-i-preserved : goal.loop-i-preserved
 loop-i-preserved c =
@@ -27,6 +27,8 @@ loop-i-preserved c =
       file = I.file;
       lent = I.lent;
       long = rw c.put.ensures (length-set _ _ _) ∙ I.long;
+      within = N.within;
+      few = omega (arith, I.few, N.long);
       numbers = I.numbers ++ (n ∷ []);
       many = length-append I.numbers (n ∷ []) ∙ ap (λ (k : ℕ). k + 1) I.many;
       here = λ root before next h.
@@ -46,6 +48,6 @@ returns-clause-read c =
           record {
             numbers = I.numbers;
             long = omega (arith, I.many, c.loop-i-test.false, c.loop-i.auto.i-end);
-            at = record { reached = rw (row_done _ c.loop-i.i _ next c.loop-i-test.false) at a.reached; holds = a.holds };
+            at = rw I.file (record { reached = rw (row_done _ c.loop-i.i _ next c.loop-i-test.false) at a.reached; holds = a.holds });
           };
     }
